@@ -1,0 +1,10 @@
+pub mod Closing
+pub mod Decoded
+pub mod Filled
+pub mod Growing
+pub mod Items
+pub mod Openings
+pub mod Places
+pub mod Reading
+pub mod Sizes
+pub mod Steps

@@ -1,0 +1,10 @@
+pub mod Contents
+pub mod Decoding
+pub mod Extends
+pub mod Instructions
+pub mod Known
+pub mod Laws
+pub mod Opcodes
+pub mod PartsOf
+pub mod Routines
+pub mod Words

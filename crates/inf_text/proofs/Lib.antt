@@ -1,0 +1,11 @@
+pub mod Capped
+pub mod Cutting
+pub mod Examples
+pub mod Fronts
+pub mod Lengths
+pub mod Pairs
+pub mod Pieces
+pub mod Plainly
+pub mod Searching
+pub mod Stepping
+pub mod Unpacks

@@ -1,0 +1,17 @@
+use Rattle.std.proofs.Common.{◌≡◌, length, ℕ, List}
+use Rattle.inf_text.specs.declared.texts.TextItem.{TextItem}
+use Rattle.inf_text.specs.Items.{IsText}
+use Rattle.inf_text.specs.Packer.{completed}
+use Rattle.inf_text.specs.Packing.{words, zs_from}
+use Rattle.inf_text.proofs.packing.pack.Given as goal
+
+-- what is written and what is left give the whole text
+pub record Packs (packer : List ℕ × List ℕ) (texts : List (List TextItem)) (items whole : List TextItem) : Type 0 where
+  pub value : completed packer (zs_from texts 0 items) ≡ words (zs_from texts 0 whole)
+  pub text : IsText items
+
+abbrev pub invariant-loop-zs : goal.invariant-loop-zs
+invariant-loop-zs l = Packs l.packer l.entries l.items l.initial.items
+
+abbrev pub decreases-loop-zs : goal.decreases-loop-zs
+decreases-loop-zs l = length l.items

@@ -1,0 +1,17 @@
+use Rattle.std.proofs.Common.{◌≡◌, ◌≤◌, ◌+◌, ◌*◌, length, ℕ, List}
+use Rattle.inf_text.specs.Items.{IsText}
+use Rattle.inf_text.specs.Packing.{zs_from}
+use Rattle.inf_text.specs.declared.texts.TextItem.{TextItem}
+use Rattle.inf_text.proofs.packing.packed_len.Given as goal
+
+-- what is counted and what is left are the whole text, in four Z-characters an item at most
+pub record Counts (count : ℕ) (texts : List (List TextItem)) (items whole : List TextItem) : Type 0 where
+  pub value : count + length (zs_from texts 0 items) ≡ length (zs_from texts 0 whole)
+  pub text : IsText items
+  pub few : count + 4 * length items ≤ 4 * length whole
+
+abbrev pub invariant-loop-zs : goal.invariant-loop-zs
+invariant-loop-zs l = Counts l.count l.entries l.items l.initial.items
+
+abbrev pub decreases-loop-zs : goal.decreases-loop-zs
+decreases-loop-zs l = length l.items

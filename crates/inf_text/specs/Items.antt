@@ -1,0 +1,21 @@
+-- The items of a text.
+use Rattle.std.specs.Prelude.{◌<◌, ◌==◌, Bool, false, List, [], ◌∷◌}
+use Rattle.inf_text.specs.declared.texts.TextItem.{TextItem}
+use Rattle.inf_text.specs.declared.texts.TextItem.TheVariants.{Character, Variable}
+
+-- a code is a byte, and there are 32 string variables (Z-Machine Standard 1.1, sections 3.8 and 3.3)
+abbrev pub IsItem : TextItem → Type 0
+IsItem (Character c) = c < 256
+IsItem (Variable n) = n < 32
+
+-- the items are those of a text
+abbrev pub IsText : List TextItem → Type 0
+IsText [] = Unit {0}
+IsText (x ∷ xs) = IsItem x × IsText xs
+
+-- two items are the same
+abbrev pub same_item : TextItem → TextItem → Bool
+same_item (Character c) (Character d) = c == d
+same_item (Character c) (Variable n) = false
+same_item (Variable n) (Character c) = false
+same_item (Variable n) (Variable m) = n == m

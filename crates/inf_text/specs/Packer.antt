@@ -1,0 +1,20 @@
+-- Where the packing of Z-characters stands. Only the crate's private clauses cite it.
+use Rattle.std.specs.Prelude.{◌≡◌, ℕ, List, [], ◌∷◌, ◌++◌}
+use Rattle.inf_text.specs.Packing.{words}
+use Rattle.inf_text.specs.declared.packer.Waiting.{Waiting}
+use Rattle.inf_text.specs.declared.packer.Waiting.TheVariants.{Nothing, One, Two, Three}
+
+-- the Z-characters that wait for their word to be written
+abbrev pub waiting_zs : Waiting → List ℕ
+waiting_zs Nothing = []
+waiting_zs (One a) = a ∷ []
+waiting_zs (Two a b) = a ∷ b ∷ []
+waiting_zs (Three a b c) = a ∷ b ∷ c ∷ []
+
+-- the bytes that come of the words written, the Z-characters that wait and those that follow
+abbrev pub completed : List ℕ × List ℕ → List ℕ → List ℕ
+completed packer zs = packer.0 ++ words (packer.1 ++ zs)
+
+-- some Z-characters were taken
+abbrev pub Takes : List ℕ × List ℕ → List ℕ → List ℕ × List ℕ → Type 0
+Takes old zs new = (more : List ℕ) → completed new more ≡ completed old (zs ++ more)

@@ -1,0 +1,75 @@
+//! A text as the story has it: characters and string variables.
+ghost use Rattle.std.specs.Prelude.{◌≡◌, length, [], IfOk, IsTrue, ◌↔◌};
+
+use std::alloc::{AllocError, Global};
+use std::marker::Model;
+
+/// One item of a text.
+#[derive(Clone, Copy, Debug, PartialEq, Eq)]
+pub enum TextItem {
+    /// A character, by its ZSCII code.
+    Character(u8),
+    /// The string variable of this number, 0 to 31 (Z-Machine Standard 1.1, section 3.3).
+    Variable(u8),
+}
+
+/// A text that was read.
+#[derive(Debug, Drop)]
+pub struct Text {
+    items: Vec<TextItem>,
+}
+
+impl Model for Text {
+    ghost use Rattle.std.specs.Prelude.{List};
+    ghost use Rattle.inf_text.specs.declared.texts.TextItem.{TextItem};
+
+    ghost Value = { List TextItem };
+
+    ghost view = { λ t. t.items.items };
+
+    ghost use Rattle.inf_text.specs.Items.{IsText};
+
+    ghost invariant = { λ t. IsText t.items.items };
+}
+
+impl Text {
+    ghost use Rattle.inf_text.specs.Items.{IsText};
+
+    /// Its items, in order.
+    pub fn as_slice(&self) -> &[TextItem]
+        ensures value { result.now ≡ self.now }
+        ensures text { IsText self.now }
+    {
+        self.items.as_slice()
+    }
+
+    /// How many items it has.
+    pub fn len(&self) -> usize
+        ensures { result ≡ length self.now }
+    {
+        self.items.len()
+    }
+
+    /// The text of some items.
+    pub(crate) fn from_items(items: Vec<TextItem>) -> Text
+        requires { IsText items.items }
+        ensures { result ≡ items.items }
+    {
+        Text { items }
+    }
+
+    /// The same text, in memory of its own.
+    pub(crate) fn copied(&self, alloc: Global) -> Result<Text, AllocError>
+        ensures { IfOk result (λ text. text ≡ self.now) }
+    {
+        let items = Vec::from_slice(alloc, self.as_slice())?;
+        Ok(Text { items })
+    }
+
+    /// Whether it has no items.
+    pub fn is_empty(&self) -> bool
+        ensures { IsTrue result ↔ (self.now ≡ []) }
+    {
+        self.items.is_empty()
+    }
+}

@@ -1,0 +1,15 @@
+pub mod NameLemmas
+pub mod Fixed
+pub mod Progress
+pub mod Turns
+pub mod Loading
+pub mod WordSteps
+pub mod Stems
+pub mod OpeningLemmas
+pub mod TakenBytes
+pub mod StoryLaws
+pub mod ReadingLaws
+pub mod SpellingLemmas
+pub mod SpellingLaws
+pub mod Examples
+pub mod GrammarLaws

@@ -1,0 +1,102 @@
+-- The messages of a compilation: their texts, their lines, and how errors are counted.
+use Rattle.std.specs.Prelude.{ℕ, ◌+◌, List, [], ◌++◌, codes, decimal, Bool, true, false, ◌==◌, if◌then◌else◌}
+use Rattle.inform.specs.Spelling.{Spelled}
+use Rattle.inform.specs.declared.spelling.TokenKind.{TokenKind}
+use Rattle.inform.specs.declared.spelling.TokenKind.TheVariants as kind
+
+pub data Message : Type 0 where
+  -- errors
+  Syntax : (token : Spelled) → Message
+  IllegalCharacter : Message
+  UnclosedQuote : Message
+  NumberOutOfRange : Message
+  UnknownEscape : Message
+  LongName : Message
+  NoZscii : Message
+  Declared : (name : List ℕ) (line : ℕ) → Message
+  SystemName : (name : List ℕ) → Message
+  NoMain : Message
+  -- fatal errors
+  TooManyErrors : Message
+  StoryTooLong : Message
+  NoFile : Message
+
+-- between double quotes
+abbrev pub quoted : List ℕ → List ℕ
+quoted bytes = codes "\"" ++ bytes ++ codes "\""
+
+-- how a token that fits nowhere is told: a text by that word, the end by its name, every other by its bytes
+abbrev pub told : TokenKind → List ℕ → List ℕ
+told kind.Text bytes = codes "text"
+told kind.End bytes = codes "end of file"
+told _ bytes = quoted bytes
+
+-- a line of a file
+abbrev pub place : List ℕ → ℕ → List ℕ
+place file line = file ++ codes "(" ++ decimal line ++ codes ")"
+
+-- what a message about a source of this file says
+abbrev pub text : List ℕ → Message → List ℕ
+text file (Syntax t) = codes "Syntax error at " ++ told t.kind t.bytes
+text file IllegalCharacter = codes "Illegal character"
+text file UnclosedQuote = codes "Unclosed or empty quote"
+text file NumberOutOfRange = codes "Number out of range"
+text file UnknownEscape = codes "Unknown escape"
+text file LongName = codes "Name longer than 32"
+text file NoZscii = codes "No ZSCII character"
+text file (Declared name line) = quoted name ++ codes " was declared at " ++ place file line
+text file (SystemName name) = quoted name ++ codes " is a system name"
+text file NoMain = codes "No routine \"Main\""
+text file TooManyErrors = codes "Too many errors"
+text file StoryTooLong = codes "Story is over 262144 bytes"
+text file NoFile = codes "No file " ++ quoted file
+
+abbrev pub is_fatal : Message → Bool
+is_fatal TooManyErrors = true
+is_fatal StoryTooLong = true
+is_fatal NoFile = true
+is_fatal _ = false
+
+abbrev pub severity : Message → List ℕ
+severity m = if is_fatal m then codes ": Fatal error: " else codes ": Error: "
+
+-- a message's line
+abbrev pub line_of : List ℕ → ℕ → Message → List ℕ
+line_of file line m = place file line ++ severity m ++ text file m ++ codes "\n"
+
+-- The lines so far, how many of them are errors, and whether a fatal message has ended them.
+pub record Reported : Type 0 where
+  pub lines : List ℕ
+  pub errors : ℕ
+  pub is_over : Bool
+
+abbrev pub nothing_reported : Reported
+nothing_reported = record { lines = []; errors = 0; is_over = false }
+
+-- a fatal message ends all
+abbrev pub with_fatal : List ℕ → ℕ → Message → Reported → Reported
+with_fatal file line m r =
+    if r.is_over then r else record { lines = r.lines ++ line_of file line m; errors = r.errors; is_over = true }
+
+-- the hundredth error is the last
+abbrev pub most_errors : ℕ
+most_errors = 100
+
+-- an error at a line; the hundredth is followed by a fatal message at the line where its unit begins
+abbrev pub with_error : List ℕ → ℕ → ℕ → Message → Reported → Reported
+with_error file line unit_line m r =
+    if r.is_over then r else
+    let more : Reported = record { lines = r.lines ++ line_of file line m; errors = r.errors + 1; is_over = false } in
+    if r.errors + 1 == most_errors then with_fatal file unit_line TooManyErrors more else more
+
+-- what the last line ends with: with an error no story is written
+abbrev pub ending : ℕ → List ℕ
+ending errors = if errors == 0 then codes ", warnings: 0\n" else codes ", warnings: 0 (no output)\n"
+
+-- the last line of a compilation without a fatal message
+abbrev pub closing : ℕ → List ℕ
+closing errors = codes "Errors: " ++ decimal errors ++ ending errors
+
+abbrev pub with_closing : Reported → Reported
+with_closing r =
+    if r.is_over then r else record { lines = r.lines ++ closing r.errors; errors = r.errors; is_over = false }

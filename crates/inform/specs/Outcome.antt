@@ -1,0 +1,59 @@
+-- What comes of a compilation: the openings of its sources, the lines of its messages, its story or none, and its status.
+use Rattle.std.specs.Prelude.{ℕ, ◌+◌, List, [], length, codes, Bool, not, ◌&&◌, ◌==◌, nat_lt, if◌then◌else◌, Option, Some, None}
+use Rattle.inform.specs.Files.{Opening}
+use Rattle.inform.specs.Messages.{Reported, nothing_reported, with_error, with_fatal, with_closing, NoMain, StoryTooLong, NoFile}
+use Rattle.inform.specs.Names.{declaration_of}
+use Rattle.inform.specs.Reading.{State, compiled}
+use Rattle.inform.specs.Story.{story, body, header_size, most_bytes}
+use Rattle.inform.specs.declared.names.Declaration.{Declaration}
+use Rattle.inform.specs.declared.outcome.Status.{Status}
+use Rattle.inform.specs.declared.outcome.Status.TheVariants as status
+
+-- what is written and answered
+pub record Ending : Type 0 where
+  pub messages : List ℕ
+  pub story : Option (List ℕ)
+  pub status : Status
+
+-- the openings in their order, with what was given of each, and the ending
+pub record Outcome : Type 0 where
+  pub openings : List Opening
+  pub ending : Ending
+
+-- with an error or a fatal message no story comes
+abbrev pub refused : Reported → Ending
+refused r = record { messages = (with_closing r).lines; story = None; status = status.Errors }
+
+abbrev pub is_clean : Reported → Bool
+is_clean r = not r.is_over && (r.errors == 0)
+
+abbrev pub is_too_long : ℕ → List ℕ → Bool
+is_too_long main routines = nat_lt most_bytes (header_size + length (body main routines))
+
+-- the story of the routines, where it is not too long; messages about it stand at the first line
+abbrev pub laid : List ℕ → List ℕ → ℕ → List ℕ → Reported → Ending
+laid serial file main routines r =
+    if is_too_long main routines then refused (with_fatal file 1 StoryTooLong r)
+    else record { messages = (with_closing r).lines; story = Some (story serial main routines); status = status.Success }
+
+-- the routine with which a story begins
+abbrev pub main_name : List ℕ
+main_name = codes "main"
+
+-- the ending of a source that was read: without its first routine it has an error
+abbrev pub begun : List ℕ → List ℕ → State → Option Declaration → Ending
+begun serial file s None = refused (with_error file 1 1 NoMain s.report)
+begun serial file s (Some main) = if is_clean s.report then laid serial file main.place s.code s.report else refused s.report
+
+abbrev pub finished : List ℕ → List ℕ → State → Ending
+finished serial file s = begun serial file s (declaration_of main_name s.names)
+
+-- the ending of a source that is not there
+abbrev pub missing : List ℕ → Ending
+missing file = refused (with_fatal file 1 NoFile nothing_reported)
+
+-- the outcome of the source of this name, if there is one
+abbrev pub outcome : List ℕ → List ℕ → Option (List ℕ) → Outcome
+outcome serial file None = record { openings = []; ending = missing file }
+outcome serial file (Some source) =
+    let s = compiled file source in record { openings = s.openings; ending = finished serial file s }

@@ -1,0 +1,20 @@
+-- What the code's messages and its report stand for.
+use Rattle.inform.specs.Messages.{Message, Syntax, IllegalCharacter, UnclosedQuote, NumberOutOfRange, UnknownEscape, LongName, NoZscii, Declared, SystemName, NoMain, TooManyErrors, StoryTooLong, NoFile}
+use Rattle.inform.specs.Tokens.{spelled}
+use Rattle.inform.specs.declared.messages.Message.{Message as CodeMessage}
+use Rattle.inform.specs.declared.messages.Message.TheVariants as code
+
+abbrev pub meant : CodeMessage → Message
+meant (code.Syntax t) = Syntax (spelled t)
+meant code.IllegalCharacter = IllegalCharacter
+meant code.UnclosedQuote = UnclosedQuote
+meant code.NumberOutOfRange = NumberOutOfRange
+meant code.UnknownEscape = UnknownEscape
+meant code.LongName = LongName
+meant code.NoZscii = NoZscii
+meant (code.Declared name line) = Declared name.now line
+meant (code.SystemName name) = SystemName name.now
+meant code.NoMain = NoMain
+meant code.TooManyErrors = TooManyErrors
+meant code.StoryTooLong = StoryTooLong
+meant code.NoFile = NoFile
