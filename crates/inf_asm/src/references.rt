@@ -43,7 +43,7 @@ pub enum ReferenceKind {
 pub struct Reference {
     pub kind: ReferenceKind,
     /// What it refers to, by its number in the list of targets.
-    pub number: u32,
+    pub number: usize,
 }
 
 /// Two zero bytes of an area, which a reference's number replaces.

@@ -3,6 +3,7 @@ pub mod Cutting
 pub mod Examples
 pub mod Fronts
 pub mod Lengths
+pub mod Marked
 pub mod Pairs
 pub mod Pieces
 pub mod Plainly

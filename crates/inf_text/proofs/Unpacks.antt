@@ -314,3 +314,9 @@ pub unpacks : (declared : List (List TextItem)) (items : List TextItem) → AreA
 unfolding unpacked packed
 unpacks declared items h text =
     printed-words declared (map abbreviation_text (strings declared)) items h.texts (table_agrees declared h) text
+
+-- the Z-characters of a text are such
+pub AreZs-packed : (declared : List (List TextItem)) (items : List TextItem) → AreAbbreviations declared → IsText items → AreZs (zs_from declared 0 items)
+AreZs-packed declared items h text =
+    let cut = is_cut declared items h.texts in
+    rw cut.1.1 (AreZs-parts declared (map abbreviation_text (strings declared)) cut.0 items (table_agrees declared h) text cut.1.0)

@@ -10,3 +10,4 @@ pub mod Plain
 pub mod Reading
 pub mod Step
 pub mod Unpacking
+pub mod Words

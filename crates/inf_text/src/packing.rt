@@ -1,11 +1,12 @@
 //! Texts packed as a story has them.
-ghost use Rattle.std.specs.Prelude.{◌≡◌, ◌≤◌, IfOk, MatchOption, length, []};
+ghost use Rattle.std.specs.Prelude.{◌≡◌, ◌≤◌, IfOk, IsTrue, MatchOption, length, []};
 ghost use Rattle.std.specs.Option.{option_copied};
 ghost use Rattle.inf_text.specs.Items.{IsText};
 ghost use Rattle.inf_text.specs.Packing.{in_use, packed, zs_list};
 ghost use Rattle.inf_text.specs.Parts.{AreAbbreviations};
 ghost use Rattle.inf_text.specs.Step.{Steps};
 ghost use Rattle.inf_text.specs.Unpacking.{UnpacksTo};
+ghost use Rattle.inf_text.specs.Words.{are_words};
 
 use crate::abbreviation::Abbreviations;
 use crate::entries::{Entry, longest};
@@ -25,6 +26,8 @@ pub fn pack(
     ensures bytes { IfOk result (λ bytes. bytes.items ≡ packed text.now (in_use (option_copied abbreviations.entry))) }
     // An interpreter reads in the bytes the text.
     ensures unpacks { IfOk result (λ bytes. UnpacksTo (in_use (option_copied abbreviations.entry)) bytes.items text.now) }
+    // They are whole words, of which only the last is marked as the end.
+    ensures words { IfOk result (λ bytes. IsTrue (are_words bytes.items)) }
 {
     let entries = entries_of(abbreviations);
     let mut items = text.as_slice();

@@ -1,10 +1,13 @@
 use Rattle.std.proofs.Common.{◌≡◌, []}
+use Rattle.std.specs.Prelude.{IsTrue}
 use Rattle.std.specs.Option.{option_copied}
 use Rattle.std.proofs.lemmas.Result.{IfOk-weaker}
 use Rattle.inf_text.specs.Packer.{completed}
 use Rattle.inf_text.specs.Packing.{packed, words, zs_from, in_use}
 use Rattle.inf_text.specs.Parts.{AreAbbreviations}
 use Rattle.inf_text.specs.Unpacking.{UnpacksTo}
+use Rattle.inf_text.specs.Words.{are_words}
+use Rattle.inf_text.proofs.Marked.{are_words-packed}
 use Rattle.inf_text.proofs.Unpacks.{unpacks}
 use Rattle.inf_text.proofs.packing.pack.Goals as goal
 
@@ -22,3 +25,10 @@ returns-clause-unpacks c =
     let known : AreAbbreviations declared = rw (← c.entries_of-entries.ensures.value) c.entries_of-entries.ensures.declared in
     let law = unpacks declared c.args.text.now known c.as_slice-items.ensures.text in
     IfOk-weaker c.finish.result (λ v. v.items ≡ packed c.args.text.now declared) (λ v. UnpacksTo declared v.items c.args.text.now) (λ v is. rw is law) (returns-clause-bytes c)
+
+pub returns-clause-words : goal.returns-clause-words
+returns-clause-words c =
+    let declared = in_use (option_copied c.args.abbreviations) in
+    let known : AreAbbreviations declared = rw (← c.entries_of-entries.ensures.value) c.entries_of-entries.ensures.declared in
+    let law = are_words-packed declared c.args.text.now known c.as_slice-items.ensures.text in
+    IfOk-weaker c.finish.result (λ v. v.items ≡ packed c.args.text.now declared) (λ v. IsTrue (are_words v.items)) (λ v is. rw is law) (returns-clause-bytes c)
