@@ -1,15 +1,16 @@
 -- The definitions at worked examples.
-use Rattle.std.proofs.Common.{◌≡◌, ℕ, ◌/◌, ◌%◌, List, [], ◌∷◌, length, refl, ap, arith, subst}
+use Rattle.std.proofs.Common.{◌≡◌, ℕ, ◌/◌, ◌%◌, List, [], ◌∷◌, length, refl, sym, ap, ◌∙◌, arith, subst}
 use Rattle.std.specs.Fmt.{digits}
 use Rattle.inf_text.specs.Characters.{accented, zscii_of, zscii_of_unicode}
 use Rattle.inf_text.specs.Packing.{packed, longest, character_zs, punctuation}
 use Rattle.inf_text.specs.Reading.{escape_piece, piece_at, spelled, spellings, text_of}
-use Rattle.inform.specs.Fixed.{repeated, fixed_bytes}
+use Rattle.inform.specs.Code.{known}
+use Rattle.inform.specs.Fixed.{repeated, fixed_bytes, body_bytes, story_bytes}
 use Rattle.inform.specs.Story.{body, story}
 use Rattle.inform.specs.StoryLaws.{HasWordAt, TellsItself}
-use Rattle.inform.specs.Examples.{NoSource, EmptySource, TextIsMissing, SemicolonIsMissing, NameIsDeclaredTwice, LinesEndInThreeWays, HelloIsCompiled, HelloIsAStory}
-use Rattle.inform.proofs.Fixed.{body_is}
-use Rattle.inform.proofs.StoryLaws.{story_length, stories_tell_themselves}
+use Rattle.inform.specs.Examples.{NoSource, EmptySource, TextIsMissing, SemicolonIsMissing, NameIsDeclaredTwice, LinesEndInThreeWays, HelloIsCompiled, CallsAreCompiled, NamesAreUndeclared, LocalIsNamedTwice, ArgumentsAreTooMany, HelloIsAStory}
+use Rattle.inform.proofs.Fixed.{story_is}
+use Rattle.inform.proofs.StoryLaws.{story_length, bytes_tell_themselves}
 
 pub no_source : NoSource
 unfolding digits
@@ -39,30 +40,46 @@ pub hello_is_compiled : HelloIsCompiled
 unfolding text_of piece_at escape_piece spelled spellings zscii_of zscii_of_unicode accented packed longest character_zs punctuation
 hello_is_compiled = refl
 
-abbrev hello_code : List ℕ
-hello_code = 0x00 ∷ 0xB2 ∷ 0x35 ∷ 0x51 ∷ 0xC6 ∷ 0x85 ∷ 0xB0 ∷ 0x00 ∷ []
+pub calls_are_compiled : CallsAreCompiled
+calls_are_compiled = refl
 
-hello_size : length (body 0 hello_code) ≡ 912
+pub names_are_undeclared : NamesAreUndeclared
+unfolding digits
+names_are_undeclared serial = refl
+
+pub local_is_named_twice : LocalIsNamedTwice
+unfolding digits
+local_is_named_twice serial = refl
+
+pub arguments_are_too_many : ArgumentsAreTooMany
+unfolding digits
+arguments_are_too_many serial = refl
+
+abbrev hello_bytes : List ℕ
+hello_bytes = 0x00 ∷ 0xB2 ∷ 0x35 ∷ 0x51 ∷ 0xC6 ∷ 0x85 ∷ 0xB0 ∷ 0x00 ∷ []
+
+hello_size : length (body_bytes 0 hello_bytes) ≡ 912
 unfolding repeated fixed_bytes
-hello_size = ap length (body_is 0 hello_code)
+hello_size = refl
 
-hello_story : (serial : List ℕ) → length serial ≡ 6 → TellsItself (story serial 0 hello_code) × (length (story serial 0 hello_code) ≡ 976)
+hello_story : (serial : List ℕ) → length serial ≡ 6 → TellsItself (story_bytes serial 0 hello_bytes) × (length (story_bytes serial 0 hello_bytes) ≡ 976)
 hello_story serial six = (
-  stories_tell_themselves serial 0 hello_code six,
-  omega (arith, story_length serial 0 hello_code six, hello_size),
+  bytes_tell_themselves serial 0 hello_bytes six,
+  omega (arith, story_length serial 0 hello_bytes six, hello_size),
 )
 
 pub hello_is_a_story : HelloIsAStory
 unfolding digits text_of piece_at escape_piece spelled spellings zscii_of zscii_of_unicode accented packed longest character_zs punctuation body
 hello_is_a_story serial six =
-    let s : List ℕ = story serial 0 hello_code in
+    let whole : story serial 0 (0 ∷ []) (known hello_bytes) ≡ story_bytes serial 0 hello_bytes = story_is serial 0 (0 ∷ []) (known hello_bytes) in
     let says = hello_story serial six in
-    let P : ℕ → Type 0 = λ n. HasWordAt 0x1A s ((n / 4) % 65536) in
+    let P : ℕ → Type 0 = λ n. HasWordAt 0x1A (story_bytes serial 0 hello_bytes) ((n / 4) % 65536) in
+    let Q : List ℕ → Type 0 = λ bytes. HasWordAt 0x1A bytes 244 in
     record {
       messages = refl;
       status = refl;
-      story = story serial 0 hello_code;
+      story = story serial 0 (0 ∷ []) (known hello_bytes);
       is_story = refl;
-      size = says.1;
-      length_word = subst P says.1 says.0.length_word;
+      size = ap length whole ∙ says.1;
+      length_word = subst Q (sym whole) (subst P says.1 says.0.length_word);
     }

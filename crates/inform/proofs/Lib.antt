@@ -13,3 +13,9 @@ pub mod SpellingLemmas
 pub mod SpellingLaws
 pub mod Examples
 pub mod GrammarLaws
+pub mod CodeLemmas
+pub mod TextWords
+pub mod LocalLemmas
+pub mod Places
+pub mod TokenClasses
+pub mod ReadingPlaces

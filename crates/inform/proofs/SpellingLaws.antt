@@ -135,18 +135,22 @@ is_it b n = by_test (b == n) refl
     by_test true e = inl (eqb-true b n e)
     by_test false e = inr (eqb-false b n e)
 
-no_mark_is : (b : ℕ) → (b ≡ 91 → ⊥) → (b ≡ 93 → ⊥) → (b ≡ 59 → ⊥) → (b ≡ 44 → ⊥) → (m : Mark) → mark_byte m ≡ b → ⊥
-no_mark_is b w x y z mark.OpenBracket e = w (sym e)
-no_mark_is b w x y z mark.CloseBracket e = x (sym e)
-no_mark_is b w x y z mark.Semicolon e = y (sym e)
-no_mark_is b w x y z mark.Comma e = z (sym e)
+no_mark_is : (b : ℕ) → (b ≡ 91 → ⊥) → (b ≡ 93 → ⊥) → (b ≡ 40 → ⊥) → (b ≡ 41 → ⊥) → (b ≡ 59 → ⊥) → (b ≡ 44 → ⊥) → (m : Mark) → mark_byte m ≡ b → ⊥
+no_mark_is b u v w x y z mark.OpenBracket e = u (sym e)
+no_mark_is b u v w x y z mark.CloseBracket e = v (sym e)
+no_mark_is b u v w x y z mark.OpenParenthesis e = w (sym e)
+no_mark_is b u v w x y z mark.CloseParenthesis e = x (sym e)
+no_mark_is b u v w x y z mark.Semicolon e = y (sym e)
+no_mark_is b u v w x y z mark.Comma e = z (sym e)
 
-split_other : (b : ℕ) (bs : List ℕ) → ends_gap false b ≡ true → begins_name b ≡ false → b == 34 ≡ false → Is b 91 → Is b 93 → Is b 59 → Is b 44 → TokenSplit (b ∷ bs)
-split_other b bs s n t (inl e) x y z = mark_split mark.OpenBracket b bs e
-split_other b bs s n t (inr w) (inl e) y z = mark_split mark.CloseBracket b bs e
-split_other b bs s n t (inr w) (inr x) (inl e) z = mark_split mark.Semicolon b bs e
-split_other b bs s n t (inr w) (inr x) (inr y) (inl e) = mark_split mark.Comma b bs e
-split_other b bs s n t (inr w) (inr x) (inr y) (inr z) =
+split_other : (b : ℕ) (bs : List ℕ) → ends_gap false b ≡ true → begins_name b ≡ false → b == 34 ≡ false → Is b 91 → Is b 93 → Is b 40 → Is b 41 → Is b 59 → Is b 44 → TokenSplit (b ∷ bs)
+split_other b bs s n t (inl e) v w x y z = mark_split mark.OpenBracket b bs e
+split_other b bs s n t (inr u) (inl e) w x y z = mark_split mark.CloseBracket b bs e
+split_other b bs s n t (inr u) (inr v) (inl e) x y z = mark_split mark.OpenParenthesis b bs e
+split_other b bs s n t (inr u) (inr v) (inr w) (inl e) y z = mark_split mark.CloseParenthesis b bs e
+split_other b bs s n t (inr u) (inr v) (inr w) (inr x) (inl e) z = mark_split mark.Semicolon b bs e
+split_other b bs s n t (inr u) (inr v) (inr w) (inr x) (inr y) (inl e) = mark_split mark.Comma b bs e
+split_other b bs s n t (inr u) (inr v) (inr w) (inr x) (inr y) (inr z) =
     let no_gap = or_parts (is_white b) (b == 33) (unnot (is_white b || b == 33) s) in
     record {
       kind = kind.Unfit;
@@ -162,7 +166,7 @@ split_other b bs s n t (inr w) (inr x) (inr y) (inr z) =
           record {
             no_name = n;
             no_text = t;
-            no_mark = no_mark_is b w x y z;
+            no_mark = no_mark_is b u v w x y z;
             no_white = no_gap.0;
             no_comment = no_gap.1;
           },
@@ -182,7 +186,7 @@ split_token b bs s = by_name (begins_name b) refl (b == 34) refl
     by_name : (n : Bool) → begins_name b ≡ n → (t : Bool) → b == 34 ≡ t → TokenSplit (b ∷ bs)
     by_name true n t e = name_split b bs n (split_while is_name_byte bs)
     by_name false n true e = as_text (eqb-true b 34 e)
-    by_name false n false e = split_other b bs s n e (is_it b 91) (is_it b 93) (is_it b 59) (is_it b 44)
+    by_name false n false e = split_other b bs s n e (is_it b 91) (is_it b 93) (is_it b 40) (is_it b 41) (is_it b 59) (is_it b 44)
 
 -- so each byte list has a spelling
 

@@ -177,18 +177,26 @@ unclosed_read bytes line none =
 mark_read : (m : Mark) (behind : List ℕ) (line : ℕ) → Reads (kind.Mark m) (mark_byte m ∷ []) (mark_byte m ∷ []) behind line
 mark_read mark.OpenBracket behind line = ap (λ n. read_as (kind.Mark mark.OpenBracket) line (91 ∷ []) behind n) (sym (add-zero line))
 mark_read mark.CloseBracket behind line = ap (λ n. read_as (kind.Mark mark.CloseBracket) line (93 ∷ []) behind n) (sym (add-zero line))
+mark_read mark.OpenParenthesis behind line = ap (λ n. read_as (kind.Mark mark.OpenParenthesis) line (40 ∷ []) behind n) (sym (add-zero line))
+mark_read mark.CloseParenthesis behind line = ap (λ n. read_as (kind.Mark mark.CloseParenthesis) line (41 ∷ []) behind n) (sym (add-zero line))
 mark_read mark.Semicolon behind line = ap (λ n. read_as (kind.Mark mark.Semicolon) line (59 ∷ []) behind n) (sym (add-zero line))
 mark_read mark.Comma behind line = ap (λ n. read_as (kind.Mark mark.Comma) line (44 ∷ []) behind n) (sym (add-zero line))
 
 unfit_mark : (b : ℕ) → BeginsNothing b → mark_of b ≡ None
 unfit_mark b n =
-    let M : Bool → Bool → Bool → Bool → Option Mark = λ w x y z. cond w (Some mark.OpenBracket) (cond x (Some mark.CloseBracket) (cond y (Some mark.Semicolon) (cond z (Some mark.Comma) None))) in
-    let w : b == 91 ≡ false = ne_eqb b 91 (λ e. n.no_mark mark.OpenBracket (sym e)) in
-    let x : b == 93 ≡ false = ne_eqb b 93 (λ e. n.no_mark mark.CloseBracket (sym e)) in
+    let M : Bool → Bool → Bool → Bool → Bool → Bool → Option Mark = λ u v w x y z. cond u (Some mark.OpenBracket) (cond v (Some mark.CloseBracket) (cond w (Some mark.OpenParenthesis) (cond x (Some mark.CloseParenthesis) (cond y (Some mark.Semicolon) (cond z (Some mark.Comma) None))))) in
+    let u : b == 91 ≡ false = ne_eqb b 91 (λ e. n.no_mark mark.OpenBracket (sym e)) in
+    let v : b == 93 ≡ false = ne_eqb b 93 (λ e. n.no_mark mark.CloseBracket (sym e)) in
+    let w : b == 40 ≡ false = ne_eqb b 40 (λ e. n.no_mark mark.OpenParenthesis (sym e)) in
+    let x : b == 41 ≡ false = ne_eqb b 41 (λ e. n.no_mark mark.CloseParenthesis (sym e)) in
     let y : b == 59 ≡ false = ne_eqb b 59 (λ e. n.no_mark mark.Semicolon (sym e)) in
     let z : b == 44 ≡ false = ne_eqb b 44 (λ e. n.no_mark mark.Comma (sym e)) in
-    ap (λ v. M v (b == 93) (b == 59) (b == 44)) w ∙ ap (λ v. M false v (b == 59) (b == 44)) x
-    ∙ ap (λ v. M false false v (b == 44)) y ∙ ap (λ v. M false false false v) z
+    ap (λ k. M k (b == 93) (b == 40) (b == 41) (b == 59) (b == 44)) u
+    ∙ ap (λ k. M false k (b == 40) (b == 41) (b == 59) (b == 44)) v
+    ∙ ap (λ k. M false false k (b == 41) (b == 59) (b == 44)) w
+    ∙ ap (λ k. M false false false k (b == 59) (b == 44)) x
+    ∙ ap (λ k. M false false false false k (b == 44)) y
+    ∙ ap (λ k. M false false false false false k) z
 
 unfit_line : (b : ℕ) → is_white b ≡ false → is_line_byte b ≡ false
 unfit_line b h =
@@ -244,6 +252,8 @@ name_stops (b ∷ more) behind h = begins_stops b h
 mark_stops : (m : Mark) → ends_gap false (mark_byte m) ≡ true
 mark_stops mark.OpenBracket = refl
 mark_stops mark.CloseBracket = refl
+mark_stops mark.OpenParenthesis = refl
+mark_stops mark.CloseParenthesis = refl
 mark_stops mark.Semicolon = refl
 mark_stops mark.Comma = refl
 

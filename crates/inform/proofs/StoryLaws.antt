@@ -1,28 +1,29 @@
 -- What the header of a story says of the story.
-use Rattle.std.proofs.Common.{◌≡◌, ℕ, ◌+◌, ◌/◌, ◌%◌, List, [], ◌∷◌, ◌++◌, length, sum, refl, sym, ap, ◌∙◌, arith, length-append}
+use Rattle.std.proofs.Common.{◌≡◌, ℕ, ◌+◌, ◌/◌, ◌%◌, List, [], ◌∷◌, ◌++◌, length, sum, map, refl, sym, ap, subst, ◌∙◌, arith, length-append}
 use Rattle.std.proofs.lemmas.List.{length-replicate}
 use Rattle.byteorder.specs.Endian.{big_bytes}
 use Rattle.inform.specs.Areas.{fill, gap}
-use Rattle.inform.specs.Fixed.{repeated, fixed_bytes, header_front, header_sizes, header_bytes, start_bytes, code_bytes}
-use Rattle.inform.specs.Story.{body, story}
+use Rattle.inform.specs.Fixed.{repeated, fixed_bytes, header_front, header_sizes, header_bytes, start_bytes, code_bytes as routines_bytes, body_bytes, story_bytes}
+use Rattle.inform.specs.Code.{code_bytes}
+use Rattle.inform.specs.Names.{packed_address}
 use Rattle.inform.specs.StoryLaws.{TellsItself, StoriesTellThemselves}
-use Rattle.inform.proofs.Fixed.{body_is, story_is}
+use Rattle.inform.proofs.Fixed.{story_is}
 
 fixed_length : length fixed_bytes ≡ 895
 unfolding repeated fixed_bytes
 fixed_length = refl
 
 -- the code ends at a multiple of 4
-code_length : (main : ℕ) (routines : List ℕ) → length (code_bytes main routines) ≡ 9 + length routines + gap 4 (968 + length routines)
+code_length : (main : ℕ) (routines : List ℕ) → length (routines_bytes main routines) ≡ 9 + length routines + gap 4 (968 + length routines)
 code_length main routines =
     let front : List ℕ = (0x00 ∷ []) ++ start_bytes main in
     let end : List ℕ = fill 4 (968 + length routines) in
     omega (arith, length-append (front ++ routines) end, length-append front routines, length-replicate {A = ℕ} (gap 4 (968 + length routines)) 0)
 
-body_length : (main : ℕ) (routines : List ℕ) → (64 + length (body main routines)) % 4 ≡ 0
+body_length : (main : ℕ) (routines : List ℕ) → (64 + length (body_bytes main routines)) % 4 ≡ 0
 body_length main routines =
-    let whole : length (body main routines) ≡ length fixed_bytes + length (code_bytes main routines) =
-    ap length (body_is main routines) ∙ length-append fixed_bytes (code_bytes main routines) in
+    let whole : length (body_bytes main routines) ≡ length fixed_bytes + length (routines_bytes main routines) =
+    length-append fixed_bytes (routines_bytes main routines) in
     omega (arith, whole, fixed_length, code_length main routines)
 
 abbrev whole : List ℕ → List ℕ → List ℕ
@@ -54,12 +55,14 @@ six_told bytes fours a b c d e f =
       checksum_word = ap (λ n. big_bytes 2 n) twice;
     }
 
-pub story_length : (serial : List ℕ) (main : ℕ) (routines : List ℕ) → length serial ≡ 6 → length (story serial main routines) ≡ 64 + length (body main routines)
+pub story_length : (serial : List ℕ) (main : ℕ) (routines : List ℕ) → length serial ≡ 6 → length (story_bytes serial main routines) ≡ 64 + length (body_bytes main routines)
 story_length serial main routines six =
-    ap length (story_is serial main routines)
-    ∙ with_six (λ s. length (whole s (body main routines)) ≡ 64 + length (body main routines)) (six_length (body main routines)) serial six
+    with_six (λ s. length (whole s (body_bytes main routines)) ≡ 64 + length (body_bytes main routines)) (six_length (body_bytes main routines)) serial six
+
+pub bytes_tell_themselves : (serial : List ℕ) (main : ℕ) (routines : List ℕ) → length serial ≡ 6 → TellsItself (story_bytes serial main routines)
+bytes_tell_themselves serial main routines six =
+    with_six (λ s. TellsItself (whole s (body_bytes main routines))) (six_told (body_bytes main routines) (body_length main routines)) serial six
 
 pub stories_tell_themselves : StoriesTellThemselves
-stories_tell_themselves serial main routines six =
-    rw (story_is serial main routines)
-    (with_six (λ s. TellsItself (whole s (body main routines))) (six_told (body main routines) (body_length main routines)) serial six)
+stories_tell_themselves serial main places code six =
+    subst TellsItself (sym (story_is serial main places code)) (bytes_tell_themselves serial main (code_bytes (map packed_address places) code) six)

@@ -1,9 +1,10 @@
 -- The areas of a story, first by their items and sizes, then by their addresses, then by their bytes.
 -- Z-Machine Standard 1.1, section 1.1 (the memory map) and the sections named below.
-use Rattle.std.specs.Prelude.{ℕ, ◌+◌, ◌-◌, ◌/◌, ◌%◌, List, [], ◌∷◌, ◌++◌, length, map, replicate, codes, ◌==◌, if◌then◌else◌}
+use Rattle.std.specs.Prelude.{ℕ, ◌+◌, ◌-◌, ◌/◌, ◌%◌, List, [], ◌∷◌, ◌++◌, length, map, replicate, codes, ◌==◌, if◌then◌else◌, Option, Some, None, slice_get}
 use Rattle.std.specs.List.{flat_map}
 use Rattle.byteorder.specs.Endian.{big_bytes}
 use Rattle.inf_text.specs.Packing.{packed}
+use Rattle.inform.specs.Code.{CodeCell, Known, Awaited}
 use Rattle.inf_text.specs.declared.texts.TextItem.TheVariants.{Character}
 
 -- The areas behind the header, in the order in which they lie.
@@ -159,13 +160,24 @@ with_fixed_areas behind =
     ∷ area Dictionary (bytes_cells dictionary)
     ∷ behind
 
--- The code with these routines, the first routine calling the one at a place among them, and the strings.
+-- Where a routine lies whose place among the routines of the source is given, packed. Behind a number that no name has, which
+-- no source makes, stands 0.
+abbrev pub routine_cell : Option ℕ → List Cell
+routine_cell (Some place) = Reference Code (8 + place) 4 ∷ []
+routine_cell None = bytes_cells (0 ∷ 0 ∷ [])
+
+-- a cell of the code, with the places of the routines of all names
+abbrev pub cells_of : List ℕ → CodeCell → List Cell
+cells_of places (Known byte) = Byte byte ∷ []
+cells_of places (Awaited r) = routine_cell (slice_get places r.number)
+
+-- The code with the routines of the source, the first routine calling the one at a place among them, and the strings.
 -- Both begin at multiples of 4 (section 1.2.3).
-abbrev pub code_areas : ℕ → List ℕ → List Area
-code_areas main routines =
-    record { name = Code; alignment = 4; cells = start_routine (8 + main) ++ bytes_cells routines }
+abbrev pub code_areas : ℕ → List ℕ → List CodeCell → List Area
+code_areas main places code =
+    record { name = Code; alignment = 4; cells = start_routine (8 + main) ++ flat_map (cells_of places) code }
     ∷ record { name = Strings; alignment = 4; cells = [] }
     ∷ []
 
-abbrev pub areas : ℕ → List ℕ → List Area
-areas main routines = with_fixed_areas (code_areas main routines)
+abbrev pub areas : ℕ → List ℕ → List CodeCell → List Area
+areas main places code = with_fixed_areas (code_areas main places code)

@@ -1,5 +1,7 @@
 -- Worked examples: what comes of some sources by the name `t.inf`.
-use Rattle.std.specs.Prelude.{◌≡◌, ℕ, List, [], ◌∷◌, length, codes, Option, Some, None}
+use Rattle.std.specs.Prelude.{◌≡◌, ℕ, List, [], ◌∷◌, ◌++◌, length, codes, Option, Some, None}
+use Rattle.inf_asm.specs.declared.references.ReferenceKind.TheVariants.{PackedAddress}
+use Rattle.inform.specs.Code.{known, Awaited}
 use Rattle.inform.specs.Reading.{compiled}
 use Rattle.inform.specs.Outcome.{Ending, outcome}
 use Rattle.inform.specs.StoryLaws.{HasWordAt}
@@ -44,7 +46,32 @@ hello = codes "[ Main; print \"hello\"; ];"
 
 -- no locals, print, the text, rtrue, and a zero to a multiple of 4
 abbrev pub HelloIsCompiled : Type 0
-HelloIsCompiled = (compiled name hello).code ≡ 0x00 ∷ 0xB2 ∷ 0x35 ∷ 0x51 ∷ 0xC6 ∷ 0x85 ∷ 0xB0 ∷ 0x00 ∷ []
+HelloIsCompiled = (compiled name hello).code ≡ known (0x00 ∷ 0xB2 ∷ 0x35 ∷ 0x51 ∷ 0xC6 ∷ 0x85 ∷ 0xB0 ∷ 0x00 ∷ [])
+
+-- Two routines of one local: the first calls the second with its local and gives it back, as the second does. The address
+-- of the second, which is name number 1, comes later.
+abbrev pub CallsAreCompiled : Type 0
+CallsAreCompiled =
+    (compiled name (codes "[ Main x; F(x); return x; ]; [ F y; return y; ];")).code
+    ≡ known (0x01 ∷ 0xDA ∷ 0x2F ∷ [])
+    ++ Awaited (record { kind = PackedAddress; number = 1 })
+    ∷ known (0x01 ∷ 0xAB ∷ 0x01 ∷ 0x01 ∷ 0xAB ∷ 0x01 ∷ 0x00 ∷ [])
+
+-- each name once, in order of first use, as it is spelled there
+abbrev pub NamesAreUndeclared : Type 0
+NamesAreUndeclared =
+    Refuses (Some (codes "[ Main; a(); b(C); A(); ];\n"))
+    (codes "t.inf(1): Error: \"a\" was never declared\nt.inf(1): Error: \"b\" was never declared\nt.inf(1): Error: \"C\" was never declared\nErrors: 3, warnings: 0 (no output)\n")
+
+abbrev pub LocalIsNamedTwice : Type 0
+LocalIsNamedTwice =
+    Refuses (Some (codes "[ Main a b A;\nreturn b; ];"))
+    (codes "t.inf(1): Error: \"A\" was declared at t.inf(1)\nt.inf(2): Warning: Local \"a\" is unused\nErrors: 1, warnings: 1 (no output)\n")
+
+abbrev pub ArgumentsAreTooMany : Type 0
+ArgumentsAreTooMany =
+    Refuses (Some (codes "[ Main a;\nF(a,a,a,a,a,a,a,a);\n];"))
+    (codes "t.inf(2): Error: Too many arguments\nErrors: 1, warnings: 0 (no output)\n")
 
 -- a story of 976 bytes, which says that it has 244 fours
 pub record IsHello (o : Ending) : Type 0 where

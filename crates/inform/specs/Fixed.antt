@@ -1,8 +1,8 @@
 -- The bytes of the areas before the code, which are the same in every story.
-use Rattle.std.specs.Prelude.{ℕ, ◌+◌, ◌/◌, length, List, [], ◌∷◌, ◌++◌, zero, suc}
+use Rattle.std.specs.Prelude.{ℕ, ◌+◌, ◌/◌, length, List, [], ◌∷◌, ◌++◌, zero, suc, Bool, nat_lt}
 use Rattle.byteorder.specs.Endian.{big_bytes}
 use Rattle.inform.specs.Areas.{word, fill}
-use Rattle.inform.specs.Story.{checksum}
+use Rattle.inform.specs.Story.{checksum, most_bytes}
 
 unfoldable pub repeated : ℕ → List ℕ → List ℕ
 repeated zero bytes = []
@@ -60,3 +60,11 @@ header_sizes behind = word ((64 + length behind) / 4) ++ word (checksum behind)
 -- the header of a story with this serial number and these bytes behind it
 abbrev pub header_bytes : List ℕ → List ℕ → List ℕ
 header_bytes serial behind = header_front serial ++ header_sizes behind ++ repeated 34 (0x00 ∷ [])
+
+-- the story of these routines
+abbrev pub story_bytes : List ℕ → ℕ → List ℕ → List ℕ
+story_bytes serial main routines = header_bytes serial (body_bytes main routines) ++ body_bytes main routines
+
+-- whether it is longer than a story may be
+abbrev pub is_over_long : ℕ → List ℕ → Bool
+is_over_long main routines = nat_lt most_bytes (64 + length (body_bytes main routines))

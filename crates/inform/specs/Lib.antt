@@ -7,6 +7,9 @@ pub mod Reports
 pub mod Reported
 pub mod Names
 pub mod NameMap
+pub mod Locals
+pub mod LocalList
+pub mod Code
 pub mod Reading
 pub mod Sessions
 pub mod Areas

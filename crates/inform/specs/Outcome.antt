@@ -2,7 +2,8 @@
 use Rattle.std.specs.Prelude.{ℕ, ◌+◌, List, [], length, codes, Bool, not, ◌&&◌, ◌==◌, nat_lt, if◌then◌else◌, Option, Some, None}
 use Rattle.inform.specs.Files.{Opening}
 use Rattle.inform.specs.Messages.{Reported, nothing_reported, with_error, with_fatal, with_closing, NoMain, StoryTooLong, NoFile}
-use Rattle.inform.specs.Names.{declaration_of}
+use Rattle.inform.specs.Code.{CodeCell}
+use Rattle.inform.specs.Names.{declaration_of, places, with_all_undeclared}
 use Rattle.inform.specs.Reading.{State, compiled}
 use Rattle.inform.specs.Story.{story, body, header_size, most_bytes}
 use Rattle.inform.specs.declared.names.Declaration.{Declaration}
@@ -27,26 +28,28 @@ refused r = record { messages = (with_closing r).lines; story = None; status = s
 abbrev pub is_clean : Reported → Bool
 is_clean r = not r.is_over && (r.errors == 0)
 
-abbrev pub is_too_long : ℕ → List ℕ → Bool
-is_too_long main routines = nat_lt most_bytes (header_size + length (body main routines))
+abbrev pub is_too_long : ℕ → List ℕ → List CodeCell → Bool
+is_too_long main places code = nat_lt most_bytes (header_size + length (body main places code))
 
 -- the story of the routines, where it is not too long; messages about it stand at the first line
-abbrev pub laid : List ℕ → List ℕ → ℕ → List ℕ → Reported → Ending
-laid serial file main routines r =
-    if is_too_long main routines then refused (with_fatal file 1 StoryTooLong r)
-    else record { messages = (with_closing r).lines; story = Some (story serial main routines); status = status.Success }
+abbrev pub laid : List ℕ → List ℕ → ℕ → State → Reported → Ending
+laid serial file main s r =
+    if is_too_long main (places s.names) s.code then refused (with_fatal file 1 StoryTooLong r)
+    else record { messages = (with_closing r).lines; story = Some (story serial main (places s.names) s.code); status = status.Success }
 
 -- the routine with which a story begins
 abbrev pub main_name : List ℕ
 main_name = codes "main"
 
 -- the ending of a source that was read: without its first routine it has an error
-abbrev pub begun : List ℕ → List ℕ → State → Option Declaration → Ending
-begun serial file s None = refused (with_error file 1 1 NoMain s.report)
-begun serial file s (Some main) = if is_clean s.report then laid serial file main.place s.code s.report else refused s.report
+abbrev pub begun : List ℕ → List ℕ → State → Reported → Option Declaration → Ending
+begun serial file s r None = refused (with_error file 1 1 NoMain r)
+begun serial file s r (Some main) = if is_clean r then laid serial file main.place s r else refused r
 
+-- at the end the names are told that were used and never declared
 abbrev pub finished : List ℕ → List ℕ → State → Ending
-finished serial file s = begun serial file s (declaration_of main_name s.names)
+finished serial file s =
+    begun serial file s (with_all_undeclared file s.names s.report) (declaration_of main_name s.names)
 
 -- the ending of a source that is not there
 abbrev pub missing : List ℕ → Ending

@@ -1,9 +1,10 @@
 -- What the code's session stands for.
-use Rattle.std.specs.Prelude.{[], ◌∷◌, true}
+use Rattle.std.specs.Prelude.{[], ◌∷◌, true, map}
 use Rattle.inform.specs.Reading.{State}
-use Rattle.inform.specs.Tokens.{cursor}
+use Rattle.inform.specs.Tokens.{cursor, spelled}
 use Rattle.inform.specs.Reported.{reported}
 use Rattle.inform.specs.NameMap.{named}
+use Rattle.inform.specs.LocalList.{listed}
 use Rattle.inform.specs.declared.session.Session.{Session}
 
 abbrev pub state : Session → State
@@ -11,9 +12,12 @@ state s = record {
   openings = record { name = s.file.now; given = s.source.now; is_read_out = true } ∷ [];
   cursor = cursor s.lexer;
   control = s.control;
+  unit_line = s.unit_line;
+  unit_names = map spelled s.unit_names.items;
   names = named s.names;
-  code = s.code.items;
-  routine = s.routine.items;
+  code = s.code;
+  routine = s.routine;
+  locals = listed s.locals;
   is_lost = s.is_lost;
   report = reported s.report;
 }

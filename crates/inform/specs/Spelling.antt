@@ -63,12 +63,16 @@ abbrev pub mark_of : ℕ → Option Mark
 mark_of b =
     if b == 91 then Some mark.OpenBracket else
     if b == 93 then Some mark.CloseBracket else
+    if b == 40 then Some mark.OpenParenthesis else
+    if b == 41 then Some mark.CloseParenthesis else
     if b == 59 then Some mark.Semicolon else
     if b == 44 then Some mark.Comma else None
 
 abbrev pub mark_byte : Mark → ℕ
 mark_byte mark.OpenBracket = 91
 mark_byte mark.CloseBracket = 93
+mark_byte mark.OpenParenthesis = 40
+mark_byte mark.CloseParenthesis = 41
 mark_byte mark.Semicolon = 59
 mark_byte mark.Comma = 44
 

@@ -1,5 +1,6 @@
 -- The story file: its header, and the bytes of its areas. Z-Machine Standard 1.1, section 11.
 use Rattle.std.specs.Prelude.{ℕ, ◌+◌, ◌/◌, ◌%◌, List, ◌∷◌, ◌++◌, length, replicate, sum}
+use Rattle.inform.specs.Code.{CodeCell}
 use Rattle.inform.specs.Areas.{AreaName, AbbreviationWords, PropertyDefaults, Globals, Grammar, Dictionary, Code, base_from, bytes_from, areas, word}
 
 -- the header's size, where the areas begin
@@ -32,15 +33,15 @@ header base serial body =
     ++ (word ((header_size + length body) / 4) ++ word (checksum body))
     ++ replicate 34 0
 
--- where each area of a story lies
-abbrev pub base_of : ℕ → List ℕ → AreaName → ℕ
-base_of main routines name = base_from header_size (areas main routines) name
+-- where each area of a story lies, with the routine at a place called first, the places of all names and the code
+abbrev pub base_of : ℕ → List ℕ → List CodeCell → AreaName → ℕ
+base_of main places code name = base_from header_size (areas main places code) name
 
 -- the bytes behind the header
-unfoldable pub body : ℕ → List ℕ → List ℕ
-body main routines = bytes_from (base_of main routines) header_size (areas main routines)
+unfoldable pub body : ℕ → List ℕ → List CodeCell → List ℕ
+body main places code = bytes_from (base_of main places code) header_size (areas main places code)
 
 -- the story
-unfoldable pub story : List ℕ → ℕ → List ℕ → List ℕ
-story serial main routines =
-    let behind = body main routines in header (base_of main routines) serial behind ++ behind
+unfoldable pub story : List ℕ → ℕ → List ℕ → List CodeCell → List ℕ
+story serial main places code =
+    let behind = body main places code in header (base_of main places code) serial behind ++ behind

@@ -1,5 +1,5 @@
 //! What the definitions give together.
-ghost use Rattle.inform.specs.Examples.{NoSource, EmptySource, TextIsMissing, SemicolonIsMissing, NameIsDeclaredTwice, LinesEndInThreeWays, HelloIsCompiled, HelloIsAStory};
+ghost use Rattle.inform.specs.Examples.{NoSource, EmptySource, TextIsMissing, SemicolonIsMissing, NameIsDeclaredTwice, LinesEndInThreeWays, HelloIsCompiled, HelloIsAStory, CallsAreCompiled, NamesAreUndeclared, LocalIsNamedTwice, ArgumentsAreTooMany};
 ghost use Rattle.inform.specs.Grammar.{FaultyTokensFitNothing, FrontsBegin, ItemsAreRead, PartsBegin, TextsBegin, TurnsAreRead};
 ghost use Rattle.inform.specs.ReadingLaws.{SourcesAreRead};
 ghost use Rattle.inform.specs.SpellingLaws.{SourcesAreSpelledOnce};
@@ -31,6 +31,10 @@ pub fn sources_have_these_outcomes()
     ensures lines_end_in_three_ways { LinesEndInThreeWays }
     ensures hello_is_compiled { HelloIsCompiled }
     ensures hello_is_a_story { HelloIsAStory }
+    ensures calls_are_compiled { CallsAreCompiled }
+    ensures names_are_undeclared { NamesAreUndeclared }
+    ensures local_is_named_twice { LocalIsNamedTwice }
+    ensures arguments_are_too_many { ArgumentsAreTooMany }
 {}
 
 /// Reading follows the grammar: from between the pieces it leads through an item, or to the bad

@@ -1,9 +1,8 @@
 ghost use Rattle.std.specs.Prelude.{◌≡◌, ◌++◌, ◌+◌, ◌/◌, ◌%◌, ◌≤◌, IfOk, IfSome, OnOk, is_none, length};
-ghost use Rattle.inform.specs.Outcome.{is_too_long};
 ghost use Rattle.byteorder.specs.Endian.{big_bytes};
 ghost use Rattle.inform.specs.Areas.{word, fill};
-ghost use Rattle.inform.specs.Fixed.{repeated, object_bytes, objects_bytes, fixed_bytes, start_bytes, code_bytes, header_front, header_sizes, header_bytes};
-ghost use Rattle.inform.specs.Story.{body, checksum, story};
+ghost use Rattle.inform.specs.Fixed.{repeated, object_bytes, objects_bytes, fixed_bytes, start_bytes, code_bytes, header_front, header_sizes, header_bytes, body_bytes, story_bytes, is_over_long};
+ghost use Rattle.inform.specs.Story.{checksum};
 
 use byteorder::{BigEndian, ByteOrder};
 use std::alloc::{AllocError, Global};
@@ -15,7 +14,7 @@ pub const MOST_BYTES: usize = 262_144;
 const HEADER_SIZE: usize = 64;
 
 /// Where the routines of the source lie: behind the first routine of the code.
-const ROUTINES: usize = 968;
+pub const ROUTINES: usize = 968;
 
 /// The bytes of a header before the serial number (Z-Machine Standard 1.1, section 11.1): the
 /// version and the release, and the addresses of the code, the first instruction, the dictionary,
@@ -150,9 +149,8 @@ fn append_start(out: &mut Vec<u8>, main: usize) -> Result<(), AllocError>
 
 /// The bytes behind the header of a story with these routines, of which the one at a place is
 /// called first.
-#[tactic(auto, using(crate::proofs::Fixed::body_is))]
 fn body(alloc: Global, main: usize, routines: &[u8]) -> Result<Vec<u8>, AllocError>
-    ensures { IfOk result (λ v. v.items ≡ body main routines.now) }
+    ensures { IfOk result (λ v. v.items ≡ body_bytes main routines.now) }
 {
     let mut out = Vec::new(alloc);
     append_fixed_areas(&mut out)?;
@@ -204,15 +202,14 @@ fn append_header(out: &mut Vec<u8>, serial: &[u8], behind: &[u8]) -> Result<(), 
 /// The story of a version 5 game with these routines, of which the one at a place is called
 /// first, or none where it would be longer than such a story may be (Z-Machine Standard 1.1,
 /// section 1.1.4).
-#[tactic(auto, using(crate::proofs::Fixed::story_is))]
 pub fn story(
     alloc: Global,
     serial: &[u8],
     main: usize,
     routines: &[u8],
 ) -> Result<Option<Vec<u8>>, AllocError>
-    ensures long { IfOk result (λ o. is_none o ≡ is_too_long main routines.now) }
-    ensures bytes { IfOk result (λ o. IfSome o (λ v. v.items ≡ story serial.now main routines.now)) }
+    ensures long { IfOk result (λ o. is_none o ≡ is_over_long main routines.now) }
+    ensures bytes { IfOk result (λ o. IfSome o (λ v. v.items ≡ story_bytes serial.now main routines.now)) }
 {
     let behind = body(alloc, main, routines)?;
     if behind.len() > MOST_BYTES - HEADER_SIZE {

@@ -1,7 +1,9 @@
 #![tactic(auto)]
 
+mod code;
 mod command_line;
 mod compile;
+mod control;
 mod dates;
 mod disk;
 mod failures;
@@ -9,15 +11,18 @@ mod files;
 mod given_bytes;
 mod laws;
 mod layout;
+mod locals;
 mod memory_files;
 mod memory_sink;
 mod messages;
 mod names;
+mod operands;
 mod outcome;
 mod report;
 mod session;
 mod sinks;
 mod spelling;
+mod tokens;
 
 use command_line::{CommandLine, Options, WordFault};
 use disk::{DiskFiles, StandardSink, StorySink};

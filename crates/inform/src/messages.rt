@@ -1,5 +1,5 @@
 ghost use Rattle.std.specs.Prelude.{◌≡◌, ◌++◌, OnOk, codes};
-ghost use Rattle.inform.specs.Messages.{text, told, quoted, place, line_of, severity, is_fatal};
+ghost use Rattle.inform.specs.Messages.{text, told, quoted, place, line_of, severity, is_fatal, is_warning};
 ghost use Rattle.inform.specs.Reports.{meant};
 
 use crate::spelling::{Token, TokenKind};
@@ -20,10 +20,25 @@ pub enum Message<'a> {
     /// A name that was declared before, and the line where it was.
     Declared(&'a [u8], u32),
     SystemName(&'a [u8]),
+    /// A token that names what cannot stand there.
+    WrongKind(Token<'a>),
+    /// A name that is used, and declared nowhere.
+    Undeclared(&'a [u8]),
+    TooManyArguments,
+    TooManyLocals,
     NoMain,
+    /// A local variable that no statement names.
+    UnusedLocal(&'a [u8]),
     TooManyErrors,
     StoryTooLong,
     NoFile,
+}
+
+/// A message at a line of the source.
+#[derive(Clone, Copy)]
+pub struct Blame<'a> {
+    pub line: u32,
+    pub message: Message<'a>,
 }
 
 impl Message<'_> {
@@ -37,12 +52,21 @@ impl Message<'_> {
         }
     }
 
+    /// Whether it is no error.
+    fn is_warning(&self) -> bool
+        ensures { result ≡ is_warning (meant self.now) }
+    {
+        matches!(self, Message::UnusedLocal(_))
+    }
+
     /// What stands between the place and the text.
     fn severity(&self) -> &'static [u8]
         ensures { result.now ≡ severity (meant self.now) }
     {
         if self.is_fatal() {
             b": Fatal error: "
+        } else if self.is_warning() {
+            b": Warning: "
         } else {
             b": Error: "
         }
@@ -65,6 +89,14 @@ impl Message<'_> {
                 append_quoted(out, name)?;
                 out.extend_from_slice(b" is a system name")
             }
+            Message::WrongKind(token) => append_wrong_kind(out, token),
+            Message::Undeclared(name) => {
+                append_quoted(out, name)?;
+                out.extend_from_slice(b" was never declared")
+            }
+            Message::TooManyArguments => out.extend_from_slice(b"Too many arguments"),
+            Message::TooManyLocals => out.extend_from_slice(b"More than 15 locals"),
+            Message::UnusedLocal(name) => append_unused(out, name),
             Message::NoMain => out.extend_from_slice(b"No routine \"Main\""),
             Message::TooManyErrors => out.extend_from_slice(b"Too many errors"),
             Message::StoryTooLong => out.extend_from_slice(b"Story is over 262144 bytes"),
@@ -92,7 +124,24 @@ fn append_syntax(out: &mut Vec<u8>, token: Token<'_>) -> Result<(), AllocError>
     append_told(out, token)
 }
 
-/// Appends how a token that fits nowhere is told.
+fn append_wrong_kind(out: &mut Vec<u8>, token: Token<'_>) -> Result<(), AllocError>
+    ensures { let said = codes "Wrong kind: " ++ told token.entry.kind token.entry.bytes.now in
+        OnOk result (out.new.items ≡ out.old.items ++ said) }
+{
+    out.extend_from_slice(b"Wrong kind: ")?;
+    append_told(out, token)
+}
+
+fn append_unused(out: &mut Vec<u8>, name: &[u8]) -> Result<(), AllocError>
+    ensures { let said = codes "Local " ++ quoted name.now ++ codes " is unused" in
+        OnOk result (out.new.items ≡ out.old.items ++ said) }
+{
+    out.extend_from_slice(b"Local ")?;
+    append_quoted(out, name)?;
+    out.extend_from_slice(b" is unused")
+}
+
+/// Appends how a token is told.
 fn append_told(out: &mut Vec<u8>, token: Token<'_>) -> Result<(), AllocError>
     ensures { OnOk result (out.new.items ≡ out.old.items ++ told token.entry.kind token.entry.bytes.now) }
 {

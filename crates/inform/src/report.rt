@@ -1,26 +1,27 @@
-ghost use Rattle.std.specs.Prelude.{◌≡◌, ◌<◌, ◌++◌, OnOk, false};
+ghost use Rattle.std.specs.Prelude.{◌≡◌, ◌<◌, ◌++◌, OnOk, false, option_map};
 ghost use Rattle.inform.specs.Messages.{closing, ending};
-ghost use Rattle.inform.specs.Reports.{meant};
+ghost use Rattle.inform.specs.Reports.{meant, blamed};
 
-use crate::messages::{Message, append_line};
+use crate::messages::{Blame, Message, append_line};
 use itoa::Buffer;
 use std::alloc::{AllocError, Global};
 
 /// The error with this number is the last.
 const MOST_ERRORS: u32 = 100;
 
-/// The lines of the messages so far, how many of them are errors, and whether a fatal
-/// message has ended them.
+/// The lines of the messages so far, how many of them are errors and warnings, and whether a
+/// fatal message has ended them. The count of warnings stops at its last value.
 #[derive(Drop)]
 pub struct Report {
     pub lines: Vec<u8>,
     pub errors: u32,
+    pub warnings: u64,
     pub is_over: bool,
     ghost few: { is_over ≡ false → errors < 100 },
 }
 
 impl Report {
-    ghost use Rattle.inform.specs.Messages.{with_error, with_fatal, with_closing, nothing_reported};
+    ghost use Rattle.inform.specs.Messages.{with_error, with_fault, with_warning, with_fatal, with_closing, nothing_reported};
     ghost use Rattle.inform.specs.Reported.{reported};
 
     pub fn new(alloc: Global) -> Report
@@ -29,6 +30,7 @@ impl Report {
         Report {
             lines: Vec::new(alloc),
             errors: 0,
+            warnings: 0,
             is_over: false,
         }
     }
@@ -57,12 +59,46 @@ impl Report {
         Ok(())
     }
 
+    /// The error that a unit had which begins at a line, if any.
+    pub fn fault(
+        &mut self,
+        file: &[u8],
+        unit_line: u32,
+        fault: Option<Blame<'_>>,
+    ) -> Result<(), AllocError>
+        ensures { OnOk result (reported self.new
+            ≡ with_fault file.now unit_line (option_map blamed fault.entry) (reported self.old)) }
+    {
+        match fault {
+            Some(blame) => self.error(file, blame.line, unit_line, blame.message),
+            None => Ok(()),
+        }
+    }
+
+    /// A warning at a line, unless a fatal error came before.
+    pub fn warning(
+        &mut self,
+        file: &[u8],
+        line: u32,
+        message: Message<'_>,
+    ) -> Result<(), AllocError>
+        ensures { OnOk result (reported self.new
+            ≡ with_warning file.now line (meant message.entry) (reported self.old)) }
+    {
+        if !self.is_over {
+            append_line(&mut self.lines, file, line, message)?;
+            self.warnings = self.warnings.saturating_add(1);
+        }
+        Ok(())
+    }
+
     /// A fatal error at a line, unless one came before.
     pub fn fatal(&mut self, file: &[u8], line: u32, message: Message<'_>) -> Result<(), AllocError>
         ensures { OnOk result (reported self.new
             ≡ with_fatal file.now line (meant message.entry) (reported self.old)) }
     {
-        if !self.is_over {
+        let is_first = !self.is_over;
+        if is_first {
             append_line(&mut self.lines, file, line, message)?;
             self.is_over = true;
         }
@@ -76,17 +112,19 @@ impl Report {
         if self.is_over {
             return Ok(());
         }
-        append_closing(&mut self.lines, self.errors)
+        append_closing(&mut self.lines, self.errors, self.warnings)
     }
 }
 
 /// Appends the last line.
-fn append_closing(out: &mut Vec<u8>, errors: u32) -> Result<(), AllocError>
-    ensures { OnOk result (out.new.items ≡ out.old.items ++ closing errors) }
+fn append_closing(out: &mut Vec<u8>, errors: u32, warnings: u64) -> Result<(), AllocError>
+    ensures { OnOk result (out.new.items ≡ out.old.items ++ closing errors warnings) }
 {
     let mut buffer = Buffer::new();
     out.extend_from_slice(b"Errors: ")?;
     out.extend_from_slice(buffer.format(errors).as_bytes())?;
+    out.extend_from_slice(b", warnings: ")?;
+    out.extend_from_slice(buffer.format(warnings).as_bytes())?;
     out.extend_from_slice(ending(errors))
 }
 
@@ -94,8 +132,8 @@ fn ending(errors: u32) -> &'static [u8]
     ensures { result.now ≡ ending errors }
 {
     if errors == 0 {
-        b", warnings: 0\n"
+        b"\n"
     } else {
-        b", warnings: 0 (no output)\n"
+        b" (no output)\n"
     }
 }

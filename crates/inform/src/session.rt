@@ -1,143 +1,35 @@
-ghost use Rattle.std.specs.Prelude.{◌≡◌, ◌<◌, ◌^◌, ◌+◌, ◌++◌, OnOk, IfOk, IfSome, IfNone, None, Some, Ok, Err, length, is_some, option_map};
-ghost use Rattle.std.specs.Str.{str_eq_ignore_ascii_case};
-ghost use Rattle.inform.specs.Spelling.{mark_byte, next_token};
-ghost use Rattle.inform.specs.Reading.{is_mark, is_end, is_fit_name, is_word, fault_of, complaint_of, passed, padding, has_ended, text_fault_of, is_fit_text_kind, characters};
+ghost use Rattle.std.specs.Prelude.{◌≡◌, ◌<◌, ◌^◌, ◌+◌, OnOk, IfOk, IfSome, IfNone, None, Some, Ok, [], is_none, length, option_map, map};
+ghost use Rattle.inform.specs.Reading.{has_ended, turn, header_fault};
 ghost use Rattle.inform.specs.Tokens.{spelled};
-ghost use Rattle.inform.specs.Reports.{meant};
+ghost use Rattle.inform.specs.Reports.{blamed};
 ghost use Rattle.inform.specs.Reported.{reported};
+ghost use Rattle.inform.specs.LocalList.{headed as as_headed};
 ghost use Rattle.inform.specs.Translations.{seen};
-ghost use Rattle.inform.specs.Outcome.{outcome, missing, finished, refused};
+ghost use Rattle.inform.specs.Names.{places};
+ghost use Rattle.inform.specs.NameMap.{named as name_list};
+ghost use Rattle.inform.specs.Story.{story};
+ghost use Rattle.inform.specs.Outcome.{outcome, missing, finished, refused, is_too_long};
 
+use crate::code::Code;
+use crate::control::{Control, Statement, passed};
 use crate::layout::story;
-use crate::messages::Message;
+use crate::locals::{Headed, Locals};
+use crate::messages::{Blame, Message};
 use crate::names::{Declaration, Names, folded, is_system_name};
+use crate::operands::{call_fault, call_opcode, operand_fault, operands_of};
 use crate::outcome::{Status, Translation};
 use crate::report::Report;
-use crate::spelling::{Lexer, Mark, Token, TokenKind};
-use inf_text::{CharSet, Mode, Text, TextFault, pack, read_text};
+use crate::spelling::{Lexer, Mark, Token};
+use crate::tokens::{
+    complaint_of, is_end, is_fit_name, is_mark, is_operand, is_word, one_word, text_of,
+};
+use inf_asm::{Instruction, Opcode, Routine, RoutineKind};
+use inf_text::{Text, pack};
 use std::alloc::{AllocError, Global};
-
-/// The longest name that the language has.
-const LONGEST_NAME: usize = 32;
+use std::mem;
 
 /// Where the messages about a whole source stand.
 const FIRST_LINE: u32 = 1;
-
-/// The opcodes `print` and `rtrue` (Z-Machine Standard 1.1, section 14).
-const PRINT: u8 = 0xB2;
-
-const RTRUE: u8 = 0xB0;
-
-/// Where in a directive the reading of a source stands.
-#[derive(Clone, Copy, Debug, PartialEq, Eq)]
-pub enum Control {
-    /// Between directives.
-    Between,
-    /// In a routine, behind its header.
-    Body,
-    /// Behind a routine's closing bracket.
-    Closed,
-    /// In a bad piece, before the closing bracket of its routine.
-    SkipRoutine,
-    /// In a bad piece, before its semicolon.
-    SkipDirective,
-    /// At the end of the source.
-    Ended,
-}
-
-fn is_mark(kind: TokenKind, mark: Mark) -> bool
-    ensures { result ≡ is_mark mark kind }
-{
-    match kind {
-        TokenKind::Mark(found) => found == mark,
-        _ => false,
-    }
-}
-
-fn is_end(kind: TokenKind) -> bool
-    ensures { result ≡ is_end kind }
-{
-    matches!(kind, TokenKind::End)
-}
-
-fn is_fit_name(token: Token<'_>) -> bool
-    ensures { result ≡ is_fit_name (spelled token.entry) }
-{
-    matches!(token.kind, TokenKind::Name) && token.bytes.len() <= LONGEST_NAME
-}
-
-/// Whether a token is a word of the language, in any case.
-fn is_word(token: Token<'_>, word: &[u8]) -> bool
-    ensures { result ≡ is_word word.now (spelled token.entry) }
-{
-    matches!(token.kind, TokenKind::Name) && token.bytes.eq_ignore_ascii_case(word)
-}
-
-/// Where reading stands behind a token that is passed over.
-fn passed(skip: Control, token: TokenKind) -> Control
-    ensures { result ≡ passed skip token }
-{
-    if is_end(token) {
-        return Control::Ended;
-    }
-    match skip {
-        Control::SkipRoutine if is_mark(token, Mark::CloseBracket) => Control::SkipDirective,
-        Control::SkipRoutine => Control::SkipRoutine,
-        _ if is_mark(token, Mark::Semicolon) => Control::Between,
-        _ => Control::SkipDirective,
-    }
-}
-
-/// The message of a fault of a text by itself, or want of memory.
-fn text_message(fault: TextFault) -> Result<Message<'static>, AllocError>
-    ensures { IfOk result (λ m. Some (meant m) ≡ text_fault_of (Err fault)) }
-{
-    match fault {
-        TextFault::UnknownEscape => Ok(Message::UnknownEscape),
-        TextFault::NoZscii => Ok(Message::NoZscii),
-        TextFault::BadCode => Ok(Message::NumberOutOfRange),
-        TextFault::Memory => Err(AllocError),
-    }
-}
-
-/// The message of the bad token of a piece: its own fault, or that it fits nowhere.
-fn complaint_of<'t>(alloc: Global, token: Token<'t>) -> Result<Message<'t>, AllocError>
-    ensures { IfOk result (λ m. meant m ≡ complaint_of (spelled token.entry)) }
-{
-    match token.kind {
-        TokenKind::Name if token.bytes.len() > LONGEST_NAME => Ok(Message::LongName),
-        TokenKind::Text => match read_text(alloc, token.bytes, CharSet::Latin1, Mode::Text) {
-            Ok(_) => Ok(Message::Syntax(token)),
-            Err(fault) => text_message(fault),
-        },
-        TokenKind::UnclosedText => Ok(Message::UnclosedQuote),
-        TokenKind::Unfit => Ok(Message::IllegalCharacter),
-        TokenKind::Name | TokenKind::Mark(_) | TokenKind::End => Ok(Message::Syntax(token)),
-    }
-}
-
-/// The characters of a token, where it is a text with no fault.
-fn text_of(alloc: Global, token: Token<'_>) -> Result<Option<Text>, AllocError>
-    ensures some { IfOk result (λ o. IfSome o (λ text. characters token.entry.bytes.now ≡ Ok text)) }
-    ensures fit { IfOk result (λ o.
-        is_some o ≡ is_fit_text_kind token.entry.kind (characters token.entry.bytes.now)) }
-{
-    if !matches!(token.kind, TokenKind::Text) {
-        return Ok(None);
-    }
-    match read_text(alloc, token.bytes, CharSet::Latin1, Mode::Text) {
-        Ok(text) => Ok(Some(text)),
-        Err(TextFault::Memory) => Err(AllocError),
-        Err(TextFault::UnknownEscape | TextFault::NoZscii | TextFault::BadCode) => Ok(None),
-    }
-}
-
-/// The zeros that fill up code of this size to a multiple of 4.
-fn padding(size: usize) -> &'static [u8]
-    ensures { result.now ≡ padding size }
-{
-    &[0, 0, 0][..(4 - size % 4) % 4]
-}
 
 /// The reading of one source, and what was compiled of it so far.
 #[derive(Drop)]
@@ -147,42 +39,54 @@ pub struct Session<'a> {
     source: &'a [u8],
     lexer: Lexer<'a>,
     control: Control,
-    names: Names,
+    /// The line where the unit at hand begins.
+    unit_line: u32,
+    /// The names in it so far.
+    unit_names: Vec<Token<'a>>,
+    names: Names<'a>,
     /// The finished routines.
-    code: Vec<u8>,
-    /// The open routine.
-    routine: Vec<u8>,
-    /// Whether the open routine's header had an error.
+    code: Code,
+    /// The open routine, or an empty one.
+    routine: Routine,
+    /// The locals of the routine that was opened last.
+    locals: Locals<'a>,
+    /// Whether that routine's header had an error.
     is_lost: bool,
     report: Report,
 }
 
 impl<'a> Session<'a> {
-    ghost use Rattle.inform.specs.Reading.{start, bad, turn, run, turns_of, directive, header, name_fault, statement, print, close, directive_end};
-    ghost use Rattle.inform.specs.NameMap.{named};
-    ghost use Rattle.inform.specs.Names.{declaration_of};
+    ghost use Rattle.inform.specs.Reading.{start, bad, begun, named, moved, run, turns_of, taken, directive, routine_name, local_name, header, header_with, name_fault, statement_at, one_word, other_statement, print_text, print_more, print, call_bracket, first_argument, argument, argument_end, return_at, statement_end, finish, call_of, return_of, emitted, close, directive_end};
+    ghost use Rattle.inform.specs.Names.{declaration_of, folded};
     ghost use Rattle.inform.specs.Tokens.{HasRoom, cursor};
     ghost use Rattle.inform.specs.Sessions.{state};
+    ghost use Rattle.inf_asm.specs.Instructions.{IsProper};
+    ghost use Rattle.inf_asm.specs.PartsOf.{parts_of};
 
     /// At the front of a source, which has fewer than 2^32 - 1 bytes.
-    pub fn new(alloc: Global, file: &'a [u8], source: &'a [u8]) -> Session<'a>
+    pub fn new(alloc: Global, file: &'a [u8], source: &'a [u8]) -> Result<Session<'a>, AllocError>
         requires { length source.now + 1 < 2 ^ 32 }
-        ensures state { state result ≡ start file.now source.now }
-        ensures room { HasRoom result.lexer }
-        ensures file { result.file.now ≡ file.now }
+        ensures state { IfOk result (λ session. state session ≡ start file.now source.now) }
+        ensures room { IfOk result (λ session. HasRoom session.lexer) }
+        ensures file { IfOk result (λ session. session.file.now ≡ file.now) }
     {
-        Session {
+        let mut code = Code::new(alloc);
+        let routine = code.open(alloc, 0)?;
+        Ok(Session {
             alloc,
             file,
             source,
             lexer: Lexer::new(source),
             control: Control::Between,
+            unit_line: FIRST_LINE,
+            unit_names: Vec::new(alloc),
             names: Names::new(alloc),
-            code: Vec::new(alloc),
-            routine: Vec::new(alloc),
+            code,
+            routine,
+            locals: Locals::new(),
             is_lost: false,
             report: Report::new(alloc),
-        }
+        })
     }
 
     /// Whether there is nothing left to read.
@@ -190,18 +94,6 @@ impl<'a> Session<'a> {
         ensures { result ≡ has_ended (state self.now) }
     {
         self.report.is_over || matches!(self.control, Control::Ended)
-    }
-
-    /// Tells the bad token of a piece, and passes over it. The lexer stands behind it.
-    fn bad(&mut self, token: Token<'_>, skip: Control) -> Result<(), AllocError>
-        ensures state { OnOk result (state self.new ≡ bad self.old.file.now skip
-            (spelled token.entry, cursor self.old.lexer) (state self.old)) }
-        ensures same { (self.new.lexer ≡ self.old.lexer) × (self.new.file ≡ self.old.file) }
-    {
-        let message = complaint_of(self.alloc, token)?;
-        self.control = passed(skip, token.kind);
-        self.report
-            .error(self.file, token.line, token.line, message)
     }
 
     /// Reads the whole source.
@@ -217,35 +109,83 @@ impl<'a> Session<'a> {
         Ok(())
     }
 
-    /// One turn: reads the tokens of one unit, or passes over one token of a bad piece.
+    /// One turn takes the next token: it goes on with the unit at hand, or ends it, and then the
+    /// unit acts (a `print` adds each of its texts as it comes); or it is passed over.
     pub fn turn(&mut self) -> Result<(), AllocError>
         requires { HasRoom self.old.lexer }
         ensures state { OnOk result (state self.new ≡ turn self.old.file.now (state self.old)) }
         ensures room { HasRoom self.new.lexer }
         ensures file { self.new.file ≡ self.old.file }
     {
-        if matches!(self.control, Control::Ended) {
-            return Ok(());
-        }
         let token = self.lexer.next();
+        self.take(token)
+    }
+
+    /// Takes a token, behind which the lexer stands.
+    fn take(&mut self, token: Token<'a>) -> Result<(), AllocError>
+        ensures state { OnOk result (state self.new
+            ≡ taken self.old.file.now (spelled token.entry) (state self.old)) }
+        ensures same { (self.new.lexer ≡ self.old.lexer) × (self.new.file ≡ self.old.file) }
+    {
         match self.control {
             Control::Between => self.directive(token),
+            Control::RoutineName => self.routine_name(token),
+            Control::Locals => self.local_name(token),
             Control::Body => self.statement(token),
+            Control::PrintText => self.print_text(token),
+            Control::PrintMore => self.print_more(token),
+            Control::CallBracket => self.call_bracket(token),
+            Control::FirstArgument => self.first_argument(token),
+            Control::Argument => self.argument(token),
+            Control::ArgumentEnd => self.argument_end(token),
+            Control::ReturnValue => self.return_value(token),
+            Control::StatementEnd(statement) => self.statement_end(statement, token),
             Control::Closed => self.directive_end(token),
-            Control::SkipRoutine | Control::SkipDirective | Control::Ended => {
+            Control::SkipRoutine | Control::SkipDirective => {
                 self.control = passed(self.control, token.kind);
                 Ok(())
             }
+            Control::Ended => Ok(()),
         }
     }
 
-    /// directive: "[" Name ";" {statement} "]", up to its semicolon
+    /// Tells the bad token of a piece, and passes over it.
+    fn bad(&mut self, token: Token<'_>, skip: Control) -> Result<(), AllocError>
+        ensures state { OnOk result (state self.new
+            ≡ bad self.old.file.now skip (spelled token.entry) (state self.old)) }
+        ensures same { (self.new.lexer ≡ self.old.lexer) × (self.new.file ≡ self.old.file) }
+    {
+        let message = complaint_of(self.alloc, token)?;
+        self.control = passed(skip, token.kind);
+        self.report
+            .error(self.file, token.line, token.line, message)
+    }
+
+    /// A unit begins with a token, and has no names yet.
+    fn begin(&mut self, next: Control, token: Token<'_>)
+        ensures state { state self.new ≡ begun next (spelled token.entry) [] (state self.old) }
+        ensures same { (self.new.lexer ≡ self.old.lexer) × (self.new.file ≡ self.old.file) }
+    {
+        self.control = next;
+        self.unit_line = token.line;
+        self.unit_names.clear();
+    }
+
+    /// The unit at hand has one name more.
+    fn name(&mut self, next: Control, token: Token<'a>) -> Result<(), AllocError>
+        ensures state { OnOk result (state self.new ≡ named next (spelled token.entry) (state self.old)) }
+        ensures same { (self.new.lexer ≡ self.old.lexer) × (self.new.file ≡ self.old.file) }
+    {
+        self.control = next;
+        self.unit_names.push(token)?;
+        Ok(())
+    }
+
+    /// Between directives.
     fn directive(&mut self, token: Token<'_>) -> Result<(), AllocError>
-        requires { HasRoom self.old.lexer }
-        ensures state { OnOk result (state self.new ≡ directive self.old.file.now
-            (spelled token.entry, cursor self.old.lexer) (state self.old)) }
-        ensures room { HasRoom self.new.lexer }
-        ensures file { self.new.file ≡ self.old.file }
+        ensures state { OnOk result (state self.new
+            ≡ directive self.old.file.now (spelled token.entry) (state self.old)) }
+        ensures same { (self.new.lexer ≡ self.old.lexer) × (self.new.file ≡ self.old.file) }
     {
         if is_end(token.kind) {
             self.control = Control::Ended;
@@ -254,113 +194,336 @@ impl<'a> Session<'a> {
         if !is_mark(token.kind, Mark::OpenBracket) {
             return self.bad(token, Control::SkipDirective);
         }
-        let name = self.lexer.next();
-        if !is_fit_name(name) {
-            return self.bad(name, Control::SkipRoutine);
-        }
-        let end = self.lexer.next();
-        if !is_mark(end.kind, Mark::Semicolon) {
-            return self.bad(end, Control::SkipRoutine);
-        }
-        self.header(token, name)
+        self.begin(Control::RoutineName, token);
+        Ok(())
     }
 
-    /// The header of a routine, which begins with a bracket. Its code begins with the number
-    /// of its locals (Z-Machine Standard 1.1, section 5.2).
-    fn header(&mut self, bracket: Token<'_>, name: Token<'_>) -> Result<(), AllocError>
-        ensures state { let rest = cursor self.old.lexer in
-            OnOk result (state self.new ≡ header self.old.file.now
-            (spelled bracket.entry) (spelled name.entry) rest (state self.old)) }
+    /// Behind the bracket of a header.
+    fn routine_name(&mut self, token: Token<'a>) -> Result<(), AllocError>
+        ensures state { OnOk result (state self.new
+            ≡ routine_name self.old.file.now (spelled token.entry) (state self.old)) }
+        ensures same { (self.new.lexer ≡ self.old.lexer) × (self.new.file ≡ self.old.file) }
+    {
+        if !is_fit_name(token) {
+            return self.bad(token, Control::SkipRoutine);
+        }
+        self.name(Control::Locals, token)
+    }
+
+    /// Behind the name of a routine or a local.
+    fn local_name(&mut self, token: Token<'a>) -> Result<(), AllocError>
+        ensures state { OnOk result (state self.new
+            ≡ local_name self.old.file.now (spelled token.entry) (state self.old)) }
+        ensures same { (self.new.lexer ≡ self.old.lexer) × (self.new.file ≡ self.old.file) }
+    {
+        if is_mark(token.kind, Mark::Semicolon) {
+            return self.header();
+        }
+        if !is_fit_name(token) {
+            return self.bad(token, Control::SkipRoutine);
+        }
+        self.name(Control::Locals, token)
+    }
+
+    /// The header of a routine, which ends here.
+    fn header(&mut self) -> Result<(), AllocError>
+        ensures state { OnOk result (state self.new ≡ header self.old.file.now (state self.old)) }
+        ensures same { (self.new.lexer ≡ self.old.lexer) × (self.new.file ≡ self.old.file) }
+    {
+        let Some((name, locals)) = self.unit_names.as_slice().split_first() else {
+            self.control = Control::Body;
+            return Ok(());
+        };
+        let (name, headed) = (*name, Headed::of(locals));
+        self.open(name, headed)
+    }
+
+    /// Opens the routine of a header. Its code begins with the number of its locals (Z-Machine
+    /// Standard 1.1, section 5.2).
+    fn open(&mut self, name: Token<'a>, headed: Headed<'a>) -> Result<(), AllocError>
+        ensures state { let key = folded name.entry.bytes.now in
+            OnOk result (state self.new ≡ header_with self.old.file.now
+            (spelled name.entry) key (as_headed headed.entry) (state self.old)) }
         ensures same { (self.new.lexer ≡ self.old.lexer) × (self.new.file ≡ self.old.file) }
     {
         let key = folded(self.alloc, name.bytes)?;
-        let fault = self.name_fault(key.as_slice(), name);
+        let of_name = self.name_fault(key.as_slice(), name);
+        let fault = header_fault(self.unit_line, of_name, &headed);
+        if of_name.is_none() {
+            let declaration = Declaration {
+                line: name.line,
+                place: self.code.len(),
+            };
+            self.names.declare(key, declaration)?;
+        }
         self.control = Control::Body;
         self.is_lost = fault.is_some();
-        self.routine.clear();
-        self.routine.push(0)?;
-        match fault {
-            Some(message) => self
-                .report
-                .error(self.file, name.line, bracket.line, message),
-            None => {
-                let declaration = Declaration {
-                    line: name.line,
-                    place: self.code.len(),
-                };
-                self.names.declare(key, declaration)
-            }
-        }
+        self.routine = self.code.open(self.alloc, headed.locals.count())?;
+        self.locals = headed.locals;
+        self.report.fault(self.file, self.unit_line, fault)
     }
 
     /// What is wrong with declaring a name, given without case too.
-    fn name_fault<'t>(&self, key: &[u8], name: Token<'t>) -> Option<Message<'t>>
-        ensures fault { option_map meant result
-            ≡ name_fault key.now (spelled name.entry) (named self.now.names) }
-        ensures undeclared { IfNone result (declaration_of key.now (named self.now.names) ≡ None) }
+    fn name_fault<'t>(&self, key: &[u8], name: Token<'t>) -> Option<Blame<'t>>
+        ensures fault { option_map blamed result
+            ≡ name_fault key.now (spelled name.entry) (name_list self.now.names) }
+        ensures undeclared { IfNone result (declaration_of key.now (name_list self.now.names) ≡ None) }
     {
-        if is_system_name(key) {
-            return Some(Message::SystemName(name.bytes));
+        if is_system_name(name.bytes) {
+            return Some(Blame {
+                line: name.line,
+                message: Message::SystemName(name.bytes),
+            });
         }
         let first = self.names.find(key)?;
-        Some(Message::Declared(name.bytes, first.line))
+        Some(Blame {
+            line: name.line,
+            message: Message::Declared(name.bytes, first.line),
+        })
     }
 
-    /// statement: "print" Text ";", or the routine's closing bracket
-    fn statement(&mut self, token: Token<'_>) -> Result<(), AllocError>
-        requires { HasRoom self.old.lexer }
-        ensures state { OnOk result (state self.new ≡ statement self.old.file.now
-            (spelled token.entry, cursor self.old.lexer) (state self.old)) }
-        ensures room { HasRoom self.new.lexer }
-        ensures file { self.new.file ≡ self.old.file }
+    /// Before a statement or the closing bracket of a routine.
+    fn statement(&mut self, token: Token<'a>) -> Result<(), AllocError>
+        ensures state { OnOk result (state self.new
+            ≡ statement_at self.old.file.now (spelled token.entry) (state self.old)) }
+        ensures same { (self.new.lexer ≡ self.old.lexer) × (self.new.file ≡ self.old.file) }
     {
         if is_mark(token.kind, Mark::CloseBracket) {
-            return self.close();
+            return self.close(token.line);
         }
-        if !is_word(token, b"print") {
+        if is_mark(token.kind, Mark::Semicolon) {
+            return Ok(());
+        }
+        if is_word(token, b"print") {
+            self.begin(Control::PrintText, token);
+            return Ok(());
+        }
+        if is_word(token, b"return") {
+            self.begin(Control::ReturnValue, token);
+            return Ok(());
+        }
+        self.other_statement(token)
+    }
+
+    /// A statement that is one word, or a call.
+    fn other_statement(&mut self, token: Token<'a>) -> Result<(), AllocError>
+        ensures state { let what = one_word (spelled token.entry) in OnOk result (state self.new
+            ≡ other_statement what self.old.file.now (spelled token.entry) (state self.old)) }
+        ensures same { (self.new.lexer ≡ self.old.lexer) × (self.new.file ≡ self.old.file) }
+    {
+        if let Some(statement) = one_word(token) {
+            self.begin(Control::StatementEnd(statement), token);
+            return Ok(());
+        }
+        if !is_operand(token) {
             return self.bad(token, Control::SkipRoutine);
         }
-        let token = self.lexer.next();
+        self.begin(Control::CallBracket, token);
+        self.name(Control::CallBracket, token)
+    }
+
+    /// Behind `print` or a comma behind a text.
+    fn print_text(&mut self, token: Token<'_>) -> Result<(), AllocError>
+        ensures state { OnOk result (state self.new
+            ≡ print_text self.old.file.now (spelled token.entry) (state self.old)) }
+        ensures same { (self.new.lexer ≡ self.old.lexer) × (self.new.file ≡ self.old.file) }
+    {
         let Some(text) = text_of(self.alloc, token)? else {
             return self.bad(token, Control::SkipRoutine);
         };
-        let end = self.lexer.next();
-        if !is_mark(end.kind, Mark::Semicolon) {
-            return self.bad(end, Control::SkipRoutine);
-        }
+        self.control = Control::PrintMore;
         self.print(&text)
     }
 
-    /// Appends the instruction that prints a text.
+    /// Appends the instruction that prints a text (Z-Machine Standard 1.1, section 4.8).
     fn print(&mut self, text: &Text) -> Result<(), AllocError>
-        ensures state { OnOk result (state self.new
-            ≡ print (Ok text.now) (cursor self.old.lexer) (state self.old)) }
+        ensures state { OnOk result (state self.new ≡ print (Ok text.now) (state self.old)) }
         ensures same { (self.new.lexer ≡ self.old.lexer) × (self.new.file ≡ self.old.file) }
     {
         let packed = pack(self.alloc, text, None)?;
-        self.routine.push(PRINT)?;
-        self.routine.extend_from_slice(packed.as_slice())
+        self.emit(Instruction::with_text(Opcode::Print, packed))
     }
 
-    /// Ends the open routine, and keeps its code unless its header had an error.
-    fn close(&mut self) -> Result<(), AllocError>
-        ensures state { OnOk result (state self.new ≡ close (cursor self.old.lexer) (state self.old)) }
+    /// Appends an instruction to the open routine.
+    fn emit(&mut self, instruction: Instruction) -> Result<(), AllocError>
+        requires { IsProper (parts_of instruction) }
+        ensures state { OnOk result (state self.new ≡ emitted (parts_of instruction) (state self.old)) }
+        ensures same { (self.new.lexer ≡ self.old.lexer) × (self.new.file ≡ self.old.file) }
+    {
+        self.code.emit(&mut self.routine, instruction)
+    }
+
+    /// Behind a text.
+    fn print_more(&mut self, token: Token<'_>) -> Result<(), AllocError>
+        ensures state { OnOk result (state self.new
+            ≡ print_more self.old.file.now (spelled token.entry) (state self.old)) }
+        ensures same { (self.new.lexer ≡ self.old.lexer) × (self.new.file ≡ self.old.file) }
+    {
+        if is_mark(token.kind, Mark::Comma) {
+            self.control = Control::PrintText;
+            return Ok(());
+        }
+        if !is_mark(token.kind, Mark::Semicolon) {
+            return self.bad(token, Control::SkipRoutine);
+        }
+        self.control = Control::Body;
+        Ok(())
+    }
+
+    /// Behind the name of what is called.
+    fn call_bracket(&mut self, token: Token<'_>) -> Result<(), AllocError>
+        ensures state { OnOk result (state self.new
+            ≡ call_bracket self.old.file.now (spelled token.entry) (state self.old)) }
+        ensures same { (self.new.lexer ≡ self.old.lexer) × (self.new.file ≡ self.old.file) }
+    {
+        if !is_mark(token.kind, Mark::OpenParenthesis) {
+            return self.bad(token, Control::SkipRoutine);
+        }
+        self.control = Control::FirstArgument;
+        Ok(())
+    }
+
+    /// Behind the opening parenthesis of a call.
+    fn first_argument(&mut self, token: Token<'a>) -> Result<(), AllocError>
+        ensures state { OnOk result (state self.new
+            ≡ first_argument self.old.file.now (spelled token.entry) (state self.old)) }
+        ensures same { (self.new.lexer ≡ self.old.lexer) × (self.new.file ≡ self.old.file) }
+    {
+        if is_mark(token.kind, Mark::CloseParenthesis) {
+            self.control = Control::StatementEnd(Statement::Call);
+            return Ok(());
+        }
+        self.argument(token)
+    }
+
+    /// Before an argument.
+    fn argument(&mut self, token: Token<'a>) -> Result<(), AllocError>
+        ensures state { OnOk result (state self.new
+            ≡ argument self.old.file.now (spelled token.entry) (state self.old)) }
+        ensures same { (self.new.lexer ≡ self.old.lexer) × (self.new.file ≡ self.old.file) }
+    {
+        if !is_operand(token) {
+            return self.bad(token, Control::SkipRoutine);
+        }
+        self.name(Control::ArgumentEnd, token)
+    }
+
+    /// Behind an argument.
+    fn argument_end(&mut self, token: Token<'_>) -> Result<(), AllocError>
+        ensures state { OnOk result (state self.new
+            ≡ argument_end self.old.file.now (spelled token.entry) (state self.old)) }
+        ensures same { (self.new.lexer ≡ self.old.lexer) × (self.new.file ≡ self.old.file) }
+    {
+        if is_mark(token.kind, Mark::Comma) {
+            self.control = Control::Argument;
+            return Ok(());
+        }
+        if !is_mark(token.kind, Mark::CloseParenthesis) {
+            return self.bad(token, Control::SkipRoutine);
+        }
+        self.control = Control::StatementEnd(Statement::Call);
+        Ok(())
+    }
+
+    /// Behind `return`.
+    fn return_value(&mut self, token: Token<'a>) -> Result<(), AllocError>
+        ensures state { OnOk result (state self.new
+            ≡ return_at self.old.file.now (spelled token.entry) (state self.old)) }
+        ensures same { (self.new.lexer ≡ self.old.lexer) × (self.new.file ≡ self.old.file) }
+    {
+        if is_mark(token.kind, Mark::Semicolon) {
+            self.control = Control::Body;
+            return self.emit(Instruction::bare(Opcode::Rtrue));
+        }
+        if !is_operand(token) {
+            return self.bad(token, Control::SkipRoutine);
+        }
+        self.name(Control::StatementEnd(Statement::Return), token)
+    }
+
+    /// Before the semicolon of a statement.
+    fn statement_end(&mut self, statement: Statement, token: Token<'_>) -> Result<(), AllocError>
+        ensures state { OnOk result (state self.new
+            ≡ statement_end statement self.old.file.now (spelled token.entry) (state self.old)) }
+        ensures same { (self.new.lexer ≡ self.old.lexer) × (self.new.file ≡ self.old.file) }
+    {
+        if !is_mark(token.kind, Mark::Semicolon) {
+            return self.bad(token, Control::SkipRoutine);
+        }
+        self.control = Control::Body;
+        match statement {
+            Statement::NewLine => self.emit(Instruction::bare(Opcode::NewLine)),
+            Statement::Quit => self.emit(Instruction::bare(Opcode::Quit)),
+            Statement::ReturnTrue => self.emit(Instruction::bare(Opcode::Rtrue)),
+            Statement::ReturnFalse => self.emit(Instruction::bare(Opcode::Rfalse)),
+            Statement::Call => self.call(),
+            Statement::Return => self.return_name(),
+        }
+    }
+
+    /// Calls the first name of the unit with the others.
+    fn call(&mut self) -> Result<(), AllocError>
+        ensures state { let names = (state self.old).unit_names in
+            OnOk result (state self.new ≡ call_of self.old.file.now names (state self.old)) }
+        ensures same { (self.new.lexer ≡ self.old.lexer) × (self.new.file ≡ self.old.file) }
+    {
+        let names = self.unit_names.as_slice();
+        let Some((called, arguments)) = names.split_first() else {
+            return Ok(());
+        };
+        if let Some(blame) = call_fault(self.unit_line, &self.locals, *called, arguments) {
+            self.locals.name_all(names);
+            return self
+                .report
+                .error(self.file, blame.line, self.unit_line, blame.message);
+        }
+        let operands = operands_of(self.alloc, &self.locals, &mut self.names, names)?;
+        self.locals.name_all(names);
+        let opcode = call_opcode(operands.len());
+        self.emit(Instruction::new(opcode, operands.as_slice(), None))
+    }
+
+    /// Returns the name of the unit.
+    fn return_name(&mut self) -> Result<(), AllocError>
+        ensures state { let names = (state self.old).unit_names in
+            OnOk result (state self.new ≡ return_of self.old.file.now names (state self.old)) }
+        ensures same { (self.new.lexer ≡ self.old.lexer) × (self.new.file ≡ self.old.file) }
+    {
+        let Some((name, _)) = self.unit_names.as_slice().split_first() else {
+            return Ok(());
+        };
+        let names = [*name];
+        if let Some(blame) = operand_fault(&self.locals, *name) {
+            self.locals.name_all(&names);
+            return self
+                .report
+                .error(self.file, blame.line, self.unit_line, blame.message);
+        }
+        let operands = operands_of(self.alloc, &self.locals, &mut self.names, &names)?;
+        self.locals.name_all(&names);
+        self.emit(Instruction::new(Opcode::Ret, operands.as_slice(), None))
+    }
+
+    /// Ends the open routine at a line: tells its unused locals, and keeps its code unless its
+    /// header had an error.
+    fn close(&mut self, line: u32) -> Result<(), AllocError>
+        ensures state { OnOk result (state self.new ≡ close self.old.file.now line (state self.old)) }
         ensures same { (self.new.lexer ≡ self.old.lexer) × (self.new.file ≡ self.old.file) }
     {
         self.control = Control::Closed;
+        self.locals.tell_unused(self.file, line, &mut self.report)?;
+        let empty = self.code.open(self.alloc, 0)?;
+        let routine = mem::replace(&mut self.routine, empty);
         if self.is_lost {
             return Ok(());
         }
-        self.code.extend_from_slice(self.routine.as_slice())?;
-        self.code.push(RTRUE)?;
-        let size = self.routine.len() + 1;
-        self.code.extend_from_slice(padding(size))
+        self.code.close(routine, RoutineKind::Plain)
     }
 
-    /// The semicolon behind a directive.
+    /// Behind a routine's closing bracket.
     fn directive_end(&mut self, token: Token<'_>) -> Result<(), AllocError>
-        ensures state { OnOk result (state self.new ≡ directive_end self.old.file.now
-            (spelled token.entry, cursor self.old.lexer) (state self.old)) }
+        ensures state { OnOk result (state self.new
+            ≡ directive_end self.old.file.now (spelled token.entry) (state self.old)) }
         ensures same { (self.new.lexer ≡ self.old.lexer) × (self.new.file ≡ self.old.file) }
     {
         if !is_mark(token.kind, Mark::Semicolon) {
@@ -370,21 +533,24 @@ impl<'a> Session<'a> {
         Ok(())
     }
 
-    /// Ends the compilation of a source that was read: without a routine `Main` it has an error.
-    /// A story comes only where no error was found.
+    /// Ends the compilation of a source that was read. A name that was used and never declared is
+    /// an error, and that there is no routine `Main`. A story comes only where no error was found.
     pub fn finish(self, serial: &[u8]) -> Result<Translation, AllocError>
         ensures { IfOk result (λ t. seen t ≡ finished serial.now self.entry.file.now (state self.entry)) }
     {
         let file = self.file;
         let mut report = self.report;
-        let Some(main) = self.names.find(b"main") else {
+        let names = self.names;
+        let code = self.code;
+        names.tell_undeclared(file, &mut report)?;
+        let Some(main) = names.find(b"main") else {
             report.error(file, FIRST_LINE, FIRST_LINE, Message::NoMain)?;
             return refused(report);
         };
         if report.is_over || report.errors != 0 {
             return refused(report);
         }
-        let Some(story) = story(self.alloc, serial, main.place, self.code.as_slice())? else {
+        let Some(story) = story_of(self.alloc, serial, main.place, &names, code)? else {
             report.fatal(file, FIRST_LINE, Message::StoryTooLong)?;
             return refused(report);
         };
@@ -395,6 +561,43 @@ impl<'a> Session<'a> {
             status: Status::Success,
         })
     }
+}
+
+/// The story of some code, in which the routine at a place is called first, and the names get the
+/// packed addresses of their routines; or none where it would be too long.
+fn story_of(
+    alloc: Global,
+    serial: &[u8],
+    main: usize,
+    names: &Names<'_>,
+    code: Code,
+) -> Result<Option<Vec<u8>>, AllocError>
+    ensures long { IfOk result (λ o. is_none o ≡ is_too_long main (places (name_list names.now)) code) }
+    ensures bytes { IfOk result (λ o. IfSome o (λ v.
+        v.items ≡ story serial.now main (places (name_list names.now)) code)) }
+{
+    let addresses = names.packed_addresses(alloc)?;
+    let routines = code.fill(addresses.as_slice());
+    story(alloc, serial, main, routines.as_slice())
+}
+
+/// The first error of a header by its place: too many locals, which stands at its bracket, its
+/// name, a local named again.
+fn header_fault<'a>(
+    unit_line: u32,
+    of_name: Option<Blame<'a>>,
+    headed: &Headed<'a>,
+) -> Option<Blame<'a>>
+    ensures { option_map blamed result
+        ≡ header_fault unit_line (option_map blamed of_name.entry) (as_headed headed.entry.now) }
+{
+    if headed.are_too_many {
+        return Some(Blame {
+            line: unit_line,
+            message: Message::TooManyLocals,
+        });
+    }
+    of_name.or(headed.repeated)
 }
 
 /// The outcome of a compilation with an error or a fatal one.
@@ -420,7 +623,7 @@ pub fn translate(
     requires { length source.now + 1 < 2 ^ 32 }
     ensures { IfOk result (λ t. seen t ≡ (outcome serial.now file.now (Some source.now)).ending) }
 {
-    let mut session = Session::new(alloc, file, source);
+    let mut session = Session::new(alloc, file, source)?;
     session.read()?;
     session.finish(serial)
 }

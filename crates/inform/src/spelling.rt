@@ -6,6 +6,8 @@ ghost use Rattle.inform.specs.Spelling.{is_white, is_line_byte, line_step, line_
 pub enum Mark {
     OpenBracket,
     CloseBracket,
+    OpenParenthesis,
+    CloseParenthesis,
     Semicolon,
     Comma,
 }
@@ -100,6 +102,8 @@ fn mark_of(byte: u8) -> Option<Mark>
     match byte {
         b'[' => Some(Mark::OpenBracket),
         b']' => Some(Mark::CloseBracket),
+        b'(' => Some(Mark::OpenParenthesis),
+        b')' => Some(Mark::CloseParenthesis),
         b';' => Some(Mark::Semicolon),
         b',' => Some(Mark::Comma),
         _ => None,

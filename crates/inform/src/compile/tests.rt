@@ -403,3 +403,5 @@ fn a_failed_read_is_not_the_end_of_a_source(rt: HostRuntime) -> Result<(), Fail>
     }
     Ok(())
 }
+
+mod calls;
