@@ -1,66 +1,120 @@
-ghost use Rattle.std.specs.Prelude.{◌≡◌, ◌≤◌, Ok, IsErr, IfOk, length};
-ghost use Rattle.inform.specs.Files.{Rose};
-ghost use Rattle.inform.specs.Disk.{counted};
+ghost use Rattle.std.specs.Prelude.{◌≡◌, ◌+◌, ◌<◌, ◌≤◌, [], ◌∷◌, ◌++◌, None, Some, Ok, IsErr, IsSome, IsErrOf, IfOk, OnErr, is_ok, length, min, if◌then◌else◌};
+ghost use Rattle.std.specs.Io.KnownBytes.{ReadConsumes, WriteAppends};
+ghost use Rattle.inform.specs.Files.{Rose, last_count};
+ghost use Rattle.inform.specs.Disk.{fault_of_kind, OpensFile, ReadsLast, WritesMade};
 
 use crate::failures::Failures;
 use crate::files::{Files, OpenFault, ReadFault};
 use crate::given_bytes::GivenBytes;
 use crate::sinks::{Sink, SinkFault};
 use std::alloc::Global;
-use std::fs::OpenFile;
 use std::io::{ErrorKind, Read, Write};
-use std::{fs, io, rt};
+use std::{fs, rt};
+
+/// What went wrong at a device of the system.
+#[derive(Drop)]
+pub struct Trouble {
+    /// How often it failed.
+    pub failures: Failures,
+    /// Why its last call that failed did so, where one did. A file that is opened leaves none.
+    pub reason: Option<ErrorKind>,
+}
+
+impl Trouble {
+    /// Nothing yet.
+    pub fn none() -> Trouble
+        ensures failures { result.failures ≡ 0 }
+        ensures reason { result.reason ≡ None }
+    {
+        Trouble {
+            failures: Failures::none(),
+            reason: None,
+        }
+    }
+
+    /// Counts a failure, and keeps its reason.
+    pub fn add(&mut self, reason: ErrorKind)
+        ensures rose { Rose self.old.failures self.new.failures }
+        ensures later { self.old.failures ≤ self.new.failures }
+        ensures reason { self.new.reason ≡ Some reason }
+    {
+        self.failures.add();
+        self.reason = Some(reason);
+    }
+}
 
 /// Files of the system, by their paths. What they hold is not stated.
 #[derive(Drop)]
 pub struct DiskFiles<'r, R: rt::Files> {
     system: &'r R,
     open_files: Vec<R::File>,
-    failures: Failures,
+    /// What went wrong so far.
+    pub trouble: Trouble,
     given: GivenBytes,
 }
 
 impl<'r, R: rt::Files> DiskFiles<'r, R> {
     /// The files that `system` has, none of them open yet.
     pub fn new(alloc: Global, system: &'r R) -> DiskFiles<'r, R>
-        ensures depth { ⟦<DiskFiles<'r, R> as Files>⟧.depth result ≡ 0 }
-        ensures faults { ⟦<DiskFiles<'r, R> as Files>⟧.faults result ≡ 0 }
+        ensures files { result.open_files.items ≡ [] }
+        ensures faults { result.trouble.failures ≡ 0 }
+        ensures reason { result.trouble.reason ≡ None }
+        ensures given { result.given ≡ 0 }
     {
         DiskFiles {
             system,
             open_files: Vec::new(alloc),
-            failures: Failures::none(),
+            trouble: Trouble::none(),
             given: GivenBytes::none(),
         }
     }
 }
 
-/// Opens a file to be read, and refuses a folder.
-fn open_file<R: rt::Files>(system: &R, name: &str) -> io::Result<R::File> {
-    let file = fs::open(system, name)?;
-    if file.metadata()?.is_dir() {
-        return Err(io::Error::from(ErrorKind::IsADirectory));
+/// What it means that a file cannot be opened. It is absent where no file has this name, or none
+/// can have it.
+fn open_fault(kind: ErrorKind) -> OpenFault
+    ensures { result ≡ fault_of_kind kind }
+{
+    match kind {
+        ErrorKind::NotFound
+        | ErrorKind::NotADirectory
+        | ErrorKind::InvalidInput
+        | ErrorKind::InvalidFilename => OpenFault::Absent,
+        ErrorKind::OutOfMemory => OpenFault::Memory,
+        _ => OpenFault::Device,
     }
-    Ok(file)
 }
 
-/// Reads once, and again for as long as a signal comes first.
-fn read_some<F: Read>(file: &mut F, to: &mut [u8]) -> io::Result<usize>
-    ensures { IfOk result (λ n. n ≤ length to.new) }
+/// Reads once, and again for as long as a signal comes first. A failure is counted.
+fn read_some<F: Read>(
+    file: &mut F,
+    to: &mut [u8],
+    trouble: &mut Trouble,
+) -> Result<usize, ReadFault>
+    ensures bytes { ReadConsumes (F.remaining file.old) (F.remaining file.new) result to.new }
+    ensures count { IfOk result (λ n. n ≤ length to.new) }
+    ensures failed { IsErr result → Rose trouble.old.failures trouble.new.failures }
+    ensures reason { IsErr result → IsSome trouble.new.reason }
+    ensures later { trouble.old.failures ≤ trouble.new.failures }
 {
     for _ in 0..u64::MAX {
         match file.read(to) {
+            Ok(count) => return Ok(count),
             Err(error) if error.kind() == ErrorKind::Interrupted => {}
-            answer => return answer,
+            Err(error) => {
+                trouble.add(error.kind());
+                return Err(ReadFault::Device);
+            }
         }
     }
-    Err(io::Error::from(ErrorKind::Interrupted))
+    trouble.add(ErrorKind::Interrupted);
+    Err(ReadFault::Device)
 }
 
 impl<R: rt::Files> Files for DiskFiles<'_, R> {
     ghost use Rattle.std.specs.Prelude.{length, false, None, []};
 
-    ghost faults = { λ f. f.failures };
+    ghost faults = { λ f. f.trouble.failures };
 
     ghost given = { λ f. f.given };
 
@@ -72,88 +126,132 @@ impl<R: rt::Files> Files for DiskFiles<'_, R> {
 
     ghost depth = { λ f. length f.open_files.items };
 
-    fn open(&mut self, name: &str) -> Result<(), OpenFault> {
+    fn open(&mut self, name: &str) -> Result<(), OpenFault>
+        ensures opens { OpensFile self.old.open_files.items self.new.open_files.items
+            self.new.trouble.reason result }
+        ensures depth { length self.new.open_files.items ≡ (if is_ok result
+            then length self.old.open_files.items + 1 else length self.old.open_files.items) }
+        ensures cause { IsErrOf result OpenFault.Device →
+            Rose self.old.trouble.failures self.new.trouble.failures }
+        ensures faults { self.old.trouble.failures ≤ self.new.trouble.failures }
+        ensures given { self.new.given ≡ self.old.given }
+    {
         self.open_files.reserve(1)?;
-        match open_file(self.system, name) {
-            Ok(file) => Ok(self.open_files.push(file)?),
-            Err(error) => match error.kind() {
-                // No file has this name, or none can have it.
-                ErrorKind::NotFound
-                | ErrorKind::NotADirectory
-                | ErrorKind::InvalidInput
-                | ErrorKind::InvalidFilename => Err(OpenFault::Absent),
-                ErrorKind::OutOfMemory => Err(OpenFault::Memory),
-                _ => {
-                    self.failures.add();
-                    Err(OpenFault::Device)
+        match fs::open(self.system, name) {
+            Ok(file) => {
+                self.trouble.reason = None;
+                Ok(self.open_files.push(file)?)
+            }
+            Err(error) => {
+                let fault = open_fault(error.kind());
+                if fault == OpenFault::Device {
+                    self.trouble.failures.add();
                 }
-            },
+                self.trouble.reason = Some(error.kind());
+                Err(fault)
+            }
         }
     }
 
-    fn read(&mut self, to: &mut [u8]) -> Result<usize, ReadFault> {
+    fn read(&mut self, to: &mut [u8]) -> Result<usize, ReadFault>
+        requires is_open { 0 < length self.old.open_files.items }
+        ensures bytes { ReadsLast (R.File.remaining) self.old.open_files.items
+            self.new.open_files.items result to.new }
+        ensures count { IfOk result (λ n. n ≤ length to.new) }
+        ensures given { IfOk result (λ n. self.new.given ≡ min (self.old.given + n) last_count) }
+        ensures depth { length self.new.open_files.items ≡ length self.old.open_files.items }
+        ensures same { OnErr result (self.new.given ≡ self.old.given) }
+        ensures cause { IsErr result → Rose self.old.trouble.failures self.new.trouble.failures }
+        ensures reason { IsErr result → IsSome self.new.trouble.reason }
+        ensures faults { self.old.trouble.failures ≤ self.new.trouble.failures }
+    {
         let last = self.open_files.len() - 1;
-        match read_some(&mut self.open_files[last], to) {
-            Ok(count) => {
-                self.given.add(count);
-                Ok(count)
-            }
-            Err(_) => {
-                self.failures.add();
-                Err(ReadFault::Device)
-            }
-        }
+        let count = read_some(&mut self.open_files[last], to, &mut self.trouble)?;
+        self.given.add(count);
+        Ok(count)
     }
 
-    fn close(&mut self) {
+    fn close(&mut self)
+        requires is_open { 0 < length self.old.open_files.items }
+        ensures files { (file : _) ×
+            (self.old.open_files.items ≡ self.new.open_files.items ++ file ∷ []) }
+        ensures depth { length self.new.open_files.items + 1 ≡ length self.old.open_files.items }
+        ensures faults { self.new.trouble.failures ≡ self.old.trouble.failures }
+        ensures given { self.new.given ≡ self.old.given }
+    {
         let _ = self.open_files.pop();
     }
 }
 
-/// Writes once, and again for as long as a signal comes first.
-fn write_some<W: Write>(to: &mut W, bytes: &[u8]) -> io::Result<usize>
-    ensures { IfOk result (λ n. n ≤ length bytes.now) }
+/// Writes once, and again for as long as a signal comes first. A failure, and a write of nothing,
+/// is counted.
+fn write_some<W: Write>(to: &mut W, bytes: &[u8], trouble: &mut Trouble) -> Result<usize, SinkFault>
+    requires { 0 < length bytes.now }
+    ensures bytes { WriteAppends (W.contents to.old) (W.contents to.new) result bytes.now }
+    ensures count { IfOk result (λ n. n ≤ length bytes.now) }
+    ensures failed { IsErr result → Rose trouble.old.failures trouble.new.failures }
+    ensures reason { IsErr result → IsSome trouble.new.reason }
+    ensures nothing { result ≡ Ok 0 → Rose trouble.old.failures trouble.new.failures }
+    ensures empty { result ≡ Ok 0 → trouble.new.reason ≡ Some ErrorKind.WriteZero }
+    ensures later { trouble.old.failures ≤ trouble.new.failures }
 {
     for _ in 0..u64::MAX {
         match to.write(bytes) {
+            Ok(0) => {
+                trouble.add(ErrorKind::WriteZero);
+                return Ok(0);
+            }
+            Ok(count) => return Ok(count),
             Err(error) if error.kind() == ErrorKind::Interrupted => {}
-            answer => return answer,
+            Err(error) => {
+                trouble.add(error.kind());
+                return Err(SinkFault::Device);
+            }
         }
     }
-    Err(io::Error::from(ErrorKind::Interrupted))
+    trouble.add(ErrorKind::Interrupted);
+    Err(SinkFault::Device)
 }
 
-/// The standard output. What it took is not stated.
+/// An open output. What it took is not stated.
 #[derive(Drop)]
-pub struct StandardSink<'r, P: Print> {
-    output: &'r P,
-    failures: Failures,
+pub struct OutputSink<W: Write> {
+    output: W,
+    /// What went wrong so far.
+    pub trouble: Trouble,
 }
 
-impl<'r, P: Print> StandardSink<'r, P> {
-    /// The output that `output` prints to.
-    pub fn new(output: &'r P) -> StandardSink<'r, P>
-        ensures { ⟦<StandardSink<'r, P> as Sink>⟧.failures result ≡ 0 }
+impl<W: Write> OutputSink<W> {
+    /// The output that `output` writes to.
+    pub fn new(output: W) -> OutputSink<W>
+        ensures output { result.output ≡ output }
+        ensures failures { result.trouble.failures ≡ 0 }
     {
-        StandardSink {
+        OutputSink {
             output,
-            failures: Failures::none(),
+            trouble: Trouble::none(),
         }
     }
 }
 
-impl<P: Print> Sink for StandardSink<'_, P> {
+impl<W: Write> Sink for OutputSink<W> {
     ghost use Rattle.std.specs.Prelude.{None};
 
     ghost taken = { λ _. None };
 
-    ghost failures = { λ s. s.failures };
+    ghost failures = { λ s. s.trouble.failures };
 
-    fn write(&mut self, bytes: &[u8]) -> Result<usize, SinkFault> {
-        told(
-            &mut self.failures,
-            write_some(&mut io::writer(self.output), bytes),
-        )
+    fn write(&mut self, bytes: &[u8]) -> Result<usize, SinkFault>
+        requires { 0 < length bytes.now }
+        ensures bytes { WriteAppends (W.contents self.old.output) (W.contents self.new.output)
+            result bytes.now }
+        ensures count { IfOk result (λ n. n ≤ length bytes.now) }
+        ensures failed { IsErr result → Rose self.old.trouble.failures self.new.trouble.failures }
+        ensures nothing { result ≡ Ok 0 →
+            Rose self.old.trouble.failures self.new.trouble.failures }
+        ensures failures { self.old.trouble.failures ≤ self.new.trouble.failures }
+    {
+        write_some(&mut self.output, bytes, &mut self.trouble)
     }
 }
 
@@ -164,38 +262,24 @@ pub struct StorySink<'r, R: rt::Files> {
     system: &'r R,
     name: &'r str,
     file: Option<R::File>,
-    failures: Failures,
+    /// What went wrong so far.
+    pub trouble: Trouble,
 }
 
 impl<'r, R: rt::Files> StorySink<'r, R> {
     /// The file of this name, which is not made yet.
     pub fn new(system: &'r R, name: &'r str) -> StorySink<'r, R>
-        ensures { ⟦<StorySink<'r, R> as Sink>⟧.failures result ≡ 0 }
+        ensures name { result.name.now ≡ name.now }
+        ensures file { result.file ≡ None }
+        ensures failures { result.trouble.failures ≡ 0 }
+        ensures reason { result.trouble.reason ≡ None }
     {
         StorySink {
             system,
             name,
             file: None,
-            failures: Failures::none(),
+            trouble: Trouble::none(),
         }
-    }
-}
-
-/// Makes the file where it is not there yet, and writes to it once.
-fn write_file<R: rt::Files>(
-    system: &R,
-    name: &str,
-    file: &mut Option<R::File>,
-    bytes: &[u8],
-) -> io::Result<usize>
-    ensures { IfOk result (λ n. n ≤ length bytes.now) }
-{
-    if file.is_none() {
-        *file = Some(fs::create(system, name)?);
-    }
-    match file {
-        Some(open) => write_some(open, bytes),
-        None => Ok(0),
     }
 }
 
@@ -204,30 +288,32 @@ impl<R: rt::Files> Sink for StorySink<'_, R> {
 
     ghost taken = { λ _. None };
 
-    ghost failures = { λ s. s.failures };
+    ghost failures = { λ s. s.trouble.failures };
 
-    fn write(&mut self, bytes: &[u8]) -> Result<usize, SinkFault> {
-        let answer = write_file(self.system, self.name, &mut self.file, bytes);
-        told(&mut self.failures, answer)
-    }
-}
-
-/// What a sink tells of a write, whose failure or emptiness is counted.
-fn told(failures: &mut Failures, answer: io::Result<usize>) -> Result<usize, SinkFault>
-    ensures count { result ≡ counted answer }
-    ensures failed { IsErr result → Rose failures.old failures.new }
-    ensures nothing { result ≡ Ok 0 → Rose failures.old failures.new }
-    ensures later { failures.old ≤ failures.new }
-{
-    match answer {
-        Ok(0) => {
-            failures.add();
-            Ok(0)
+    fn write(&mut self, bytes: &[u8]) -> Result<usize, SinkFault>
+        requires { 0 < length bytes.now }
+        ensures bytes { WritesMade (R.File.contents) self.old.file self.new.file result bytes.now }
+        ensures count { IfOk result (λ n. n ≤ length bytes.now) }
+        ensures failed { IsErr result → Rose self.old.trouble.failures self.new.trouble.failures }
+        ensures reason { IsErr result → IsSome self.new.trouble.reason }
+        ensures nothing { result ≡ Ok 0 →
+            Rose self.old.trouble.failures self.new.trouble.failures }
+        ensures empty { result ≡ Ok 0 → self.new.trouble.reason ≡ Some ErrorKind.WriteZero }
+        ensures failures { self.old.trouble.failures ≤ self.new.trouble.failures }
+    {
+        if let Some(file) = &mut self.file {
+            return write_some(file, bytes, &mut self.trouble);
         }
-        Ok(count) => Ok(count),
-        Err(_) => {
-            failures.add();
-            Err(SinkFault::Device)
+        match fs::create(self.system, self.name) {
+            Ok(mut file) => {
+                let answer = write_some(&mut file, bytes, &mut self.trouble);
+                self.file = Some(file);
+                answer
+            }
+            Err(error) => {
+                self.trouble.add(error.kind());
+                Err(SinkFault::Device)
+            }
         }
     }
 }

@@ -25,7 +25,8 @@ mod spelling;
 mod tokens;
 
 use command_line::{CommandLine, Options, WordFault};
-use disk::{DiskFiles, StandardSink, StorySink};
+use compile::Fault;
+use disk::{DiskFiles, OutputSink, StorySink, Trouble};
 use jiff::Timestamp;
 use jiff::tz::Offset;
 use outcome::Status;
@@ -57,8 +58,8 @@ impl From<jiff::Error> for DeviceOrMemory {
     }
 }
 
-impl From<compile::Fault> for DeviceOrMemory {
-    fn from(_error: compile::Fault) -> DeviceOrMemory {
+impl From<Fault> for DeviceOrMemory {
+    fn from(_error: Fault) -> DeviceOrMemory {
         DeviceOrMemory
     }
 }
@@ -75,7 +76,9 @@ fn main(rt: HostRuntime) -> ExitCode {
     }
 }
 
-fn run<R: Env + Clock + Files + Print + AllocGlobal>(rt: &R) -> Result<ExitCode, DeviceOrMemory> {
+fn run<R: Env + Clock + Files + Print + Eprint + AllocGlobal>(
+    rt: &R,
+) -> Result<ExitCode, DeviceOrMemory> {
     let args = match env::args(rt) {
         Ok(args) => args,
         // An argument is no text.
@@ -99,27 +102,39 @@ fn run<R: Env + Clock + Files + Print + AllocGlobal>(rt: &R) -> Result<ExitCode,
 
 /// Compiles the source that the options name, with the date of the clock in UTC, and writes the
 /// messages to the standard output.
-fn compile_files<R: Clock + Files + Print + AllocGlobal>(
+fn compile_files<R: Clock + Files + Print + Eprint + AllocGlobal>(
     rt: &R,
     options: &Options<'_>,
 ) -> Result<ExitCode, DeviceOrMemory> {
     let date = dates::serial(Offset::UTC.to_datetime(Timestamp::now(rt)?).date());
     let story_name = command_line::story_name(rt.alloc(), options)?;
     let mut files = DiskFiles::new(rt.alloc(), rt);
-    let mut messages = StandardSink::new(rt);
+    let mut messages = OutputSink::new(io::writer(rt));
     let mut story = StorySink::new(rt, story_name.as_str());
-    let status = compile::compile(
+    let answer = compile::compile(
         rt.alloc(),
         options,
         date,
         &mut files,
         &mut messages,
         &mut story,
-    )?;
-    Ok(match status {
+    );
+    match &answer {
+        Err(Fault::Read(name)) => explain(rt, name.as_str(), &files.trouble),
+        Err(Fault::Story(_)) => explain(rt, story_name.as_str(), &story.trouble),
+        _ => {}
+    }
+    Ok(match answer? {
         Status::Success => ExitCode::SUCCESS,
         Status::Errors => ExitCode::from(1),
     })
+}
+
+/// Says on standard error why the system failed at a file, where it gave a reason.
+fn explain(rt: &impl Eprint, name: &str, trouble: &Trouble) {
+    if let Some(reason) = trouble.reason {
+        let _ = rt.eprintln(format_args!("{name}: {reason}"));
+    }
 }
 
 /// Prints why the words were refused.
