@@ -22,6 +22,3 @@ pub use laws::{decoding, filling, placing};
 pub use opcodes::{Opcode, OpcodeRow, OperandCount};
 pub use references::{AreaName, GrowFault, Hole, Reference, ReferenceKind, Refs};
 pub use routines::{CloseFault, Closed, Mark, Routine, RoutineKind};
-
-#[cfg(test)]
-mod tests;

@@ -12,7 +12,7 @@ use Rattle.inf_text.specs.declared.texts.TextItem.{TextItem}
 use Rattle.inf_text.specs.declared.texts.TextItem.TheVariants.{Character, Variable}
 
 -- a test that holds of two items shows that they are equal
-same_item-true : (x y : TextItem) → same_item x y ≡ true → x ≡ y
+pub same_item-true : (x y : TextItem) → same_item x y ≡ true → x ≡ y
 same_item-true (Character c) (Character d) h = let e : c ≡ d = grind (arith, nat_tests) in ap Character e
 same_item-true (Character c) (Variable n) h = cc
 same_item-true (Variable n) (Character c) h = cc

@@ -1,16 +1,9 @@
 -- The search for the longest abbreviation.
-use Rattle.std.proofs.Common.{◌≡◌, ◌<◌, ◌≤◌, ◌+◌, ℕ, Bool, true, false, Option, None, Some, List, [], ◌∷◌, length, drop, get_or, sym, refl, ◌∙◌, arith, IfSome, cond, ltb}
+use Rattle.std.proofs.Common.{◌≡◌, ◌<◌, ◌≤◌, ◌+◌, ℕ, Bool, true, false, Option, None, Some, List, [], ◌∷◌, length, refl, arith, IfSome, cond, ltb}
 use Rattle.std.specs.Prelude.{◌&&◌}
-use Rattle.std.proofs.lemmas.List.{at_drop_more}
 use Rattle.inf_text.specs.Items.{same_item}
 use Rattle.inf_text.specs.Packing.{begins_with, better, longer, longest, longest_from}
 use Rattle.inf_text.specs.declared.texts.TextItem.{TextItem}
-
--- one abbreviation was looked at
-pub longest_from-more : (best next : Option (ℕ × ℕ)) (i : ℕ) (texts : List (List TextItem)) (items t : List TextItem) (r : Option (ℕ × ℕ)) → i < length texts → t ≡ get_or texts i t → next ≡ better best i t items → longest_from best i (drop i texts) items ≡ r → longest_from next (i + 1) (drop (i + 1) texts) items ≡ r
-longest_from-more best next i texts items t r lt is isnext h =
-    let e = at_drop_more (λ (xs : List (List TextItem)). longest_from best i xs items) texts i t lt in
-    rw (isnext, is) (sym e ∙ h)
 
 and_right : (a b : Bool) → (a && b) ≡ true → b ≡ true
 and_right true b h = h
@@ -49,3 +42,11 @@ longest_from-fits best n (a ∷ texts) m items e h =
 pub longest-fits : (texts : List (List TextItem)) (items : List TextItem) → IfSome (longest texts items) (Fits (length texts) items)
 unfolding longest
 longest-fits texts items = longest_from-fits None 0 texts (length texts) items (omega arith) tt
+
+-- the number of the longest is that of a declared one
+pub longest-few : (texts : List (List TextItem)) (items : List TextItem) → length texts ≤ 64 → IfSome (longest texts items) (λ found. (found.0 < 64) × (found.1 ≤ length items))
+longest-few texts items le = go (longest texts items) (longest-fits texts items)
+  where
+    go : (found : Option (ℕ × ℕ)) → IfSome found (Fits (length texts) items) → IfSome found (λ found. (found.0 < 64) × (found.1 ≤ length items))
+    go None h = tt
+    go (Some found) h = let lt : found.0 < length texts = h.0 in (omega arith, h.1)

@@ -1,12 +1,13 @@
 -- Unpacking gives back what was packed.
 use Rattle.std.proofs.Common.{◌≡◌, ◌<◌, ◌≤◌, ◌+◌, ◌-◌, ◌*◌, ◌/◌, ◌%◌, ℕ, zero, suc, Bool, true, false, ◌&&◌, cond, ltb, leb, eqb, Option, None, Some, List, [], ◌∷◌, ◌++◌, length, map, replicate, get_or, append_assoc, refl, ap, ◌∙◌, arith, lit<}
-use Rattle.std.specs.Prelude.{slice_get}
+use Rattle.std.specs.Prelude.{IsTrue, slice_get}
 use Rattle.std.specs.List.{flat_map, position_from}
 use Rattle.std.proofs.lemmas.Bool.Decides.{nat_tests}
 use Rattle.std.proofs.lemmas.List.{append-nil, get_or-map, length-map}
 use Rattle.std.proofs.lemmas.Option.{get_or_from_slice_get, slice_get_within}
 use Rattle.inf_text.proofs.Cutting.{AreLongTexts-at, is_cut}
 use Rattle.inf_text.specs.Parts.{AreAbbreviations, AreLongTexts, Cuts, Part, Plain, Short, part_zs}
+use Rattle.inf_text.specs.Characters.{is_code}
 use Rattle.inf_text.specs.Items.{IsItem, IsText}
 use Rattle.inf_text.specs.Packing.{AreZs, abbreviation_zs, character_zs, item_zs, other_zs, packed, punctuation, word, words, zs_from}
 use Rattle.inf_text.specs.Unpacking.{Letter, abbreviation_text, letters, printed, string_zs, strings, unpacked, UnpacksTo}
@@ -239,8 +240,12 @@ AreZs-character c lt =
     (AreZs-chosen (eqb c 13) _ _ (λ _. (lit< tt, (lit< tt, tt)))
     (AreZs-other c (position_from (λ x. eqb x c) 0 punctuation) lt refl))))
 
+-- a code is a byte
+code_small : (c : ℕ) → IsTrue (is_code c) → c < 256
+code_small c h = grind (arith, nat_tests)
+
 AreZs-item : (x : TextItem) → IsItem x → AreZs (item_zs x)
-AreZs-item (Character c) h = AreZs-character c h
+AreZs-item (Character c) h = AreZs-character c (code_small c h)
 AreZs-item (Variable n) h = (lit< tt, (h, tt))
 
 AreZs-abbreviation : (n : ℕ) → n < 64 → AreZs (abbreviation_zs n)

@@ -5,6 +5,10 @@ use Rattle.std.specs.Option.{option_map}
 use Rattle.inf_text.specs.declared.characters.CharSet.{CharSet}
 use Rattle.inf_text.specs.declared.characters.CharSet.TheVariants.{Ascii, Latin1}
 
+-- the codes that a text may have: the new line, ASCII and the accented letters (section 3.8)
+abbrev pub is_code : ℕ → Bool
+is_code n = (n == 13) || (nat_le 32 n && nat_le n 126) || (nat_le 155 n && nat_le n 223)
+
 -- the Unicode numbers of ZSCII 155 to 223, in their order (section 3.8.5, table 1)
 unfoldable pub accented : List ℕ
 accented =

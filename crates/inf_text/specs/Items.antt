@@ -1,11 +1,12 @@
 -- The items of a text.
-use Rattle.std.specs.Prelude.{◌<◌, ◌==◌, Bool, false, List, [], ◌∷◌}
+use Rattle.std.specs.Prelude.{◌<◌, ◌==◌, Bool, false, IsTrue, List, [], ◌∷◌}
+use Rattle.inf_text.specs.Characters.{is_code}
 use Rattle.inf_text.specs.declared.texts.TextItem.{TextItem}
 use Rattle.inf_text.specs.declared.texts.TextItem.TheVariants.{Character, Variable}
 
--- a code is a byte, and there are 32 string variables (Z-Machine Standard 1.1, sections 3.8 and 3.3)
+-- a character is 13, 32 to 126 or 155 to 223, and there are 32 string variables (Z-Machine Standard 1.1, sections 3.8 and 3.3)
 abbrev pub IsItem : TextItem → Type 0
-IsItem (Character c) = c < 256
+IsItem (Character c) = IsTrue (is_code c)
 IsItem (Variable n) = n < 32
 
 -- the items are those of a text

@@ -1,13 +1,12 @@
 pub mod Characters
 pub mod Declaring
-pub mod Entries
 pub mod Items
 pub mod Numbers
 pub mod Packer
 pub mod Packing
 pub mod Parts
-pub mod Plain
 pub mod Reading
+pub mod Searching
 pub mod Step
 pub mod Unpacking
 pub mod Words

@@ -1,7 +1,7 @@
 -- How the bytes of a source are read as a text (Inform Designer's Manual, section 1.11 and table 2).
 use Rattle.std.specs.Prelude.{◌≡◌, ℕ, zero, suc, ◌+◌, ◌-◌, ◌*◌, ◌==◌, nat_lt, nat_le, Bool, false, not, ◌&&◌, ◌||◌, Option, Some, None, Result, Ok, Err, List, [], ◌∷◌, ◌++◌, length, take, drop, replicate, codes, if◌then◌else◌}
 use Rattle.std.specs.List.{list_any, prefix_len}
-use Rattle.inf_text.specs.Characters.{is_white, is_line_end, zscii_of, zscii_of_unicode}
+use Rattle.inf_text.specs.Characters.{is_code, is_white, is_line_end, zscii_of, zscii_of_unicode}
 use Rattle.inf_text.specs.declared.characters.CharSet.{CharSet}
 use Rattle.inf_text.specs.declared.reading.Mode.{Mode}
 use Rattle.inf_text.specs.declared.reading.Mode.TheVariants as mode
@@ -28,10 +28,6 @@ abbrev pub number_from : ℕ → ℕ → ℕ → List ℕ → ℕ × ℕ
 number_from base count high [] = (count, high)
 number_from base count high (b ∷ bs) =
     elim (digit_of base b) [ None ↦ (count, high) | Some d ↦ number_from base (count + 1) (base * high + d) bs ]
-
--- the codes that may be given by number: the new line, ASCII and the accented letters (Z-Machine Standard 1.1, section 3.8)
-abbrev pub is_code : ℕ → Bool
-is_code n = (n == 13) || (nat_le 32 n && nat_le n 126) || (nat_le 155 n && nat_le n 223)
 
 -- @@ and a decimal number: the character of that code
 abbrev pub code_piece : ℕ × ℕ → Result Piece TextFault
@@ -153,10 +149,19 @@ text_from set mode after_mark zero (b ∷ bytes) =
 unfoldable pub text_of : CharSet → Mode → List ℕ → Result (List TextItem) TextFault
 text_of set mode bytes = text_from set mode false 0 bytes
 
--- A call gave what reading gives, or there was too little memory.
-abbrev pub Reads : Result (List TextItem) TextFault → Result (List TextItem) TextFault → Type 0
-Reads (Ok items) reading = reading ≡ Ok items
-Reads (Err UnknownEscape) reading = reading ≡ Err UnknownEscape
-Reads (Err NoZscii) reading = reading ≡ Err NoZscii
-Reads (Err BadCode) reading = reading ≡ Err BadCode
-Reads (Err Memory) reading = Unit {0}
+-- some front of the bytes is a text that is not empty
+pub record HoldsItems (set : CharSet) (mode : Mode) (bytes : List ℕ) : Type 0 where
+  pub front : List ℕ
+  pub rest : List ℕ
+  pub bytes_are : bytes ≡ front ++ rest
+  pub item : TextItem
+  pub items : List TextItem
+  pub reads : text_of set mode front ≡ Ok (item ∷ items)
+
+-- A call gave what reading gives; or there was too little memory, which only a text that has items takes.
+abbrev pub Reads : CharSet → Mode → List ℕ → Result (List TextItem) TextFault → Type 0
+Reads set mode bytes (Ok items) = text_of set mode bytes ≡ Ok items
+Reads set mode bytes (Err UnknownEscape) = text_of set mode bytes ≡ Err UnknownEscape
+Reads set mode bytes (Err NoZscii) = text_of set mode bytes ≡ Err NoZscii
+Reads set mode bytes (Err BadCode) = text_of set mode bytes ≡ Err BadCode
+Reads set mode bytes (Err Memory) = HoldsItems set mode bytes

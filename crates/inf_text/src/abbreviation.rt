@@ -1,17 +1,15 @@
 //! The abbreviations that a source declares.
-ghost use Rattle.std.specs.Prelude.{◌≡◌, []};
+ghost use Rattle.std.specs.Prelude.{◌≡◌, ◌<◌, ◌≤◌, ◌↔◌, IfSome, IsTrue, [], length};
 ghost use Rattle.std.specs.List.{list_any};
 ghost use Rattle.inf_text.specs.Declaring.{Declares, same_text};
+ghost use Rattle.inf_text.specs.Packing.{longest};
 ghost use Rattle.inf_text.specs.Parts.{AreAbbreviations};
 
-use crate::entries::{Entry, begins_with};
+use crate::index::{Index, MOST, begins_with};
 use crate::texts::{Text, TextItem};
 use std::alloc::{AllocError, AllocFailed, Global};
 use std::marker::Model;
 use thiserror::Error;
-
-/// How many abbreviations there may be.
-const MOST: usize = 64;
 
 /// How many items an abbreviation has at least.
 const SHORTEST: usize = 2;
@@ -58,7 +56,8 @@ impl<T: Drop> From<AllocFailed<T>> for AbbrevFault {
 /// The abbreviations declared so far, at most 64, in the order of their declaration.
 #[derive(Debug, Drop)]
 pub struct Abbreviations {
-    entries: Vec<Entry>,
+    texts: Vec<Text>,
+    index: Index,
 }
 
 impl Model for Abbreviations {
@@ -67,11 +66,11 @@ impl Model for Abbreviations {
 
     ghost Value = { List (List TextItem) };
 
-    ghost view = { λ a. a.entries.items };
+    ghost view = { λ a. a.texts.items };
 
-    ghost use Rattle.inf_text.specs.Parts.{AreAbbreviations};
+    ghost use Rattle.inf_text.specs.Searching.{AreIndexed};
 
-    ghost invariant = { λ a. AreAbbreviations a.entries.items };
+    ghost invariant = { λ a. AreIndexed a.texts.items a.index };
 }
 
 impl Abbreviations {
@@ -80,7 +79,8 @@ impl Abbreviations {
         ensures { result ≡ [] }
     {
         Abbreviations {
-            entries: Vec::new(alloc),
+            texts: Vec::new(alloc),
+            index: Index::new(),
         }
     }
 
@@ -91,35 +91,60 @@ impl Abbreviations {
     pub fn declare(&mut self, text: &Text) -> Result<u8, AbbrevFault>
         ensures { Declares self.old text.now self.new result }
     {
-        let number = self.entries.len();
+        let number = self.texts.len();
         if number >= MOST {
             return Err(AbbrevFault::Full);
         }
-        if is_among(self.entries.as_slice(), text.as_slice()) {
+        if is_among(self.as_slice(), text.as_slice()) {
             return Err(AbbrevFault::Repeated);
         }
         if text.len() < SHORTEST {
             return Err(AbbrevFault::TooShort);
         }
-        let copy = text.copied(*self.entries.allocator())?;
-        self.entries.push(Entry::new(copy))?;
+        let copy = text.copied(*self.texts.allocator())?;
+        self.texts.push(copy)?;
+        self.index.add(&self.texts);
         Ok(number as u8)
     }
 
     /// Their texts, in the order of their declaration.
-    pub(crate) fn as_slice(&self) -> &[Entry]
+    pub fn as_slice(&self) -> &[Text]
         ensures value { result.now ≡ self.now }
         ensures declared { AreAbbreviations self.now }
     {
-        self.entries.as_slice()
+        self.texts.as_slice()
+    }
+
+    /// How many are declared.
+    pub fn len(&self) -> usize
+        ensures { result ≡ length self.now }
+    {
+        self.as_slice().len()
+    }
+
+    /// Whether none is declared.
+    pub fn is_empty(&self) -> bool
+        ensures { IsTrue result ↔ (self.now ≡ []) }
+    {
+        self.texts.is_empty()
+    }
+
+    /// The number and the length of the longest with which the items begin.
+    #[inline]
+    pub(crate) fn longest(&self, items: &[TextItem]) -> Option<(usize, usize)>
+        ensures declared { AreAbbreviations self.now }
+        ensures value { result ≡ longest self.now items.now }
+        ensures fits { IfSome result (λ found. (found.0 < 64) × (found.1 ≤ length items.now)) }
+    {
+        self.index.longest(&self.texts, items)
     }
 }
 
 /// Whether a text is among others.
-fn is_among(entries: &[Entry], text: &[TextItem]) -> bool
-    ensures { result ≡ list_any (λ a. same_text a text.now) entries.now }
+fn is_among(texts: &[Text], text: &[TextItem]) -> bool
+    ensures { result ≡ list_any (λ a. same_text a text.now) texts.now }
 {
-    entries.iter().any(|a| same_text(a.as_slice(), text))
+    texts.iter().any(|a| same_text(a.as_slice(), text))
 }
 
 /// Whether two texts have the same items.

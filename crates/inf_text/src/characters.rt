@@ -1,10 +1,58 @@
 //! ZSCII and the character sets of a source.
-ghost use Rattle.std.specs.Prelude.{◌≡◌, ◌==◌, ◌<◌, IfSome, length};
+ghost use Rattle.std.specs.Prelude.{◌≡◌, ◌==◌, ◌<◌, IfSome, IsTrue, length, if◌then◌else◌};
 ghost use Rattle.std.specs.List.{position_from};
-ghost use Rattle.inf_text.specs.Characters.{is_line_end, is_white, zscii_of, zscii_of_unicode};
+ghost use Rattle.inf_text.specs.Characters.{is_code, is_line_end, is_white, zscii_of, zscii_of_unicode};
 
-/// A character code of the Z-machine (Z-Machine Standard 1.1, section 3.8).
-pub type Zscii = u8;
+use std::marker::Model;
+
+/// A character code of the Z-machine that a text may have: 13 (the new line), 32 to 126 (ASCII) and
+/// 155 to 223 (Z-Machine Standard 1.1, section 3.8). Contracts see the number.
+#[derive(Clone, Copy, Debug, PartialEq, Eq)]
+pub struct Zscii {
+    code: u8,
+}
+
+impl Model for Zscii {
+    ghost use Rattle.std.specs.Prelude.{ℕ, IsTrue};
+
+    ghost Value = { ℕ };
+
+    ghost use Rattle.inf_text.specs.Characters.{is_code};
+
+    ghost view = { λ z. z.code };
+
+    ghost invariant = { λ z. IsTrue (is_code z.code) };
+
+    ghost inverse = { λ n. record { code = n } };
+}
+
+impl Zscii {
+    /// The character of a number: none but for 13, 32 to 126 and 155 to 223.
+    pub fn new(number: u32) -> Option<Zscii>
+        ensures { result ≡ (if is_code number then Some number else None) }
+    {
+        match number {
+            13 | 32..=126 | 155..=223 => Some(Zscii { code: number as u8 }),
+            _ => None,
+        }
+    }
+
+    /// The character of a code that a text may have.
+    pub(crate) fn from_code(code: u8) -> Zscii
+        requires { IsTrue (is_code code) }
+        ensures { result ≡ code }
+    {
+        Zscii { code }
+    }
+
+    /// Its number.
+    pub fn code(self) -> u8
+        ensures value { result ≡ self }
+        ensures is_code { IsTrue (is_code self) }
+    {
+        self.code
+    }
+}
 
 /// How the bytes of a source stand for characters.
 #[derive(Clone, Copy, Debug, PartialEq, Eq)]
@@ -16,7 +64,7 @@ pub enum CharSet {
 }
 
 /// The code of the first accented letter.
-pub(crate) const FIRST_ACCENTED: Zscii = 155;
+pub(crate) const FIRST_ACCENTED: u8 = 155;
 
 /// The letters and marks with the codes 155 to 223 (Z-Machine Standard 1.1, section 3.8.5, table 1).
 const ACCENTED: [char; 69] = [
@@ -34,7 +82,7 @@ pub fn source_char(byte: u8, set: CharSet) -> Option<Zscii>
     ensures { result ≡ zscii_of set byte }
 {
     if is_white(set, byte) {
-        return Some(b' ');
+        return Some(Zscii::from_code(b' '));
     }
     match set {
         CharSet::Ascii if byte > 127 => None,
@@ -48,10 +96,10 @@ pub(crate) fn unicode_char(character: u32) -> Option<Zscii>
     ensures { result ≡ zscii_of_unicode character }
 {
     if 32 <= character && character <= 126 {
-        return Some(character as u8);
+        return Some(Zscii::from_code(character as u8));
     }
     match accent_place(&ACCENTED, character) {
-        Some(place) => Some(FIRST_ACCENTED + place as u8),
+        Some(place) => Some(Zscii::from_code(FIRST_ACCENTED + place as u8)),
         None => None,
     }
 }

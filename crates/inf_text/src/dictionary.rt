@@ -3,6 +3,7 @@ ghost use Rattle.std.specs.Prelude.{◌≡◌, ◌<◌, ◌++◌, ◌∷◌, [],
 ghost use Rattle.inf_text.specs.Items.{IsItem};
 ghost use Rattle.inf_text.specs.Packing.{AreZs, dictionary_bytes, lowered, words, zs_list};
 
+use crate::characters::Zscii;
 use crate::texts::{Text, TextItem};
 use crate::zchars::{ZChars, item_zs, word};
 use std::marker::Model;
@@ -31,8 +32,11 @@ fn lowered(item: TextItem) -> TextItem
     ensures value { result ≡ lowered item }
     ensures item { IsItem result }
 {
-    match item {
-        TextItem::Character(code @ b'A'..=b'Z') => TextItem::Character(code + 32),
+    let TextItem::Character(character) = item else {
+        return item;
+    };
+    match character.code() {
+        capital @ b'A'..=b'Z' => TextItem::Character(Zscii::from_code(capital + 32)),
         _ => item,
     }
 }

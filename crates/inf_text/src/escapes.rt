@@ -2,7 +2,7 @@
 ghost use Rattle.std.specs.Prelude.{◌≡◌, ◌<◌, ◌≤◌, ◌+◌, IfOk, IsTrue, length};
 ghost use Rattle.inf_text.specs.Items.{IsItem};
 ghost use Rattle.inf_text.specs.Numbers.{IsPieceOf};
-ghost use Rattle.inf_text.specs.Reading.{accent_piece, closes, code_piece, escape_piece, is_code, number_from, one, pair_from, spelled, stroke, unicode_piece, variable_piece};
+ghost use Rattle.inf_text.specs.Reading.{accent_piece, closes, code_piece, escape_piece, number_from, one, pair_from, spelled, stroke, unicode_piece, variable_piece};
 
 use crate::characters::{FIRST_ACCENTED, Zscii, unicode_char};
 use crate::numbers::{digit_of, number_at};
@@ -59,19 +59,12 @@ fn code_piece(bytes: &[u8]) -> Result<Piece, TextFault>
 {
     let (count, code) = number_at(10, bytes);
     if count == 0 {
-        Err(TextFault::UnknownEscape)
-    } else if is_code(code) {
-        Ok(one(TextItem::Character(code as u8), 1 + count))
-    } else {
-        Err(TextFault::BadCode)
+        return Err(TextFault::UnknownEscape);
     }
-}
-
-/// Whether a code may be given by number.
-fn is_code(code: u32) -> bool
-    ensures { result ≡ is_code code }
-{
-    matches!(code, 13 | 32..=126 | 155..=223)
+    match Zscii::new(code) {
+        Some(character) => Ok(one(TextItem::Character(character), 1 + count)),
+        None => Err(TextFault::BadCode),
+    }
 }
 
 /// `@{`, a hexadecimal number and `}`: the character of that number in Unicode.
@@ -151,7 +144,7 @@ fn accent_code(mark: u8, letter: u8) -> Option<Zscii>
 
 /// The place of two bytes among pairs, counted from 155 on.
 fn pair_code(table: &[u8], a: u8, b: u8) -> Option<Zscii>
-    requires { length table.now ≤ 200 }
+    requires { length table.now ≤ 138 }
     ensures { result ≡ pair_from a b 155 table.now }
 {
     let mut code = FIRST_ACCENTED;
@@ -161,7 +154,7 @@ fn pair_code(table: &[u8], a: u8, b: u8) -> Option<Zscii>
             return None;
         };
         if *x == a && *y == b {
-            return Some(code);
+            return Some(Zscii::from_code(code));
         }
         code += 1;
         pairs = rest;

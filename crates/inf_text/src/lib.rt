@@ -5,22 +5,18 @@
 mod abbreviation;
 mod characters;
 mod dictionary;
-mod entries;
 mod escapes;
-mod laws;
+mod index;
 mod numbers;
 mod packer;
 mod packing;
 mod reading;
-#[cfg(test)]
-mod tests;
 mod texts;
 mod zchars;
 
 pub use abbreviation::{AbbrevFault, Abbreviations};
 pub use characters::{CharSet, Zscii, source_char};
 pub use dictionary::dict_word;
-pub use laws::{abbreviations_cut_texts, packed_texts_unpack, plain_texts_are_their_bytes};
 pub use packing::{pack, packed_len};
 pub use reading::{Mode, TextFault, read_text};
 pub use texts::{Text, TextItem};

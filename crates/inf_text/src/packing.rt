@@ -1,15 +1,14 @@
 //! Texts packed as a story has them.
-ghost use Rattle.std.specs.Prelude.{◌≡◌, ◌≤◌, IfOk, IsTrue, MatchOption, length, []};
+ghost use Rattle.std.specs.Prelude.{◌≡◌, ◌<◌, ◌≤◌, IfOk, IfSome, IsTrue, MatchOption, length, []};
 ghost use Rattle.std.specs.Option.{option_copied};
 ghost use Rattle.inf_text.specs.Items.{IsText};
-ghost use Rattle.inf_text.specs.Packing.{in_use, packed, zs_list};
+ghost use Rattle.inf_text.specs.Packing.{in_use, longest, packed, zs_list};
 ghost use Rattle.inf_text.specs.Parts.{AreAbbreviations};
 ghost use Rattle.inf_text.specs.Step.{Steps};
 ghost use Rattle.inf_text.specs.Unpacking.{UnpacksTo};
 ghost use Rattle.inf_text.specs.Words.{are_words};
 
 use crate::abbreviation::Abbreviations;
-use crate::entries::{Entry, longest};
 use crate::packer::Packer;
 use crate::texts::{Text, TextItem};
 use crate::zchars::{ZChars, abbreviation_zs, item_zs};
@@ -29,10 +28,9 @@ pub fn pack(
     // They are whole words, of which only the last is marked as the end.
     ensures words { IfOk result (λ bytes. IsTrue (are_words bytes.items)) }
 {
-    let entries = entries_of(abbreviations);
     let mut items = text.as_slice();
     let mut packer = Packer::new(alloc);
-    while let Some((zs, rest)) = next_zs(entries, items) {
+    while let Some((zs, rest)) = next_zs(abbreviations, items) {
         packer.push_all(zs)?;
         items = rest;
     }
@@ -43,36 +41,42 @@ pub fn pack(
 pub fn packed_len(text: &Text, abbreviations: Option<&Abbreviations>) -> usize
     ensures { result ≡ length (packed text.now (in_use (option_copied abbreviations.entry))) }
 {
-    let entries = entries_of(abbreviations);
     let mut items = text.as_slice();
     let mut count: usize = 0;
-    while let Some((zs, rest)) = next_zs(entries, items) {
+    while let Some((zs, rest)) = next_zs(abbreviations, items) {
         count += zs.len();
         items = rest;
     }
     if count == 0 { 2 } else { (count + 2) / 3 * 2 }
 }
 
-/// The abbreviations in use.
-fn entries_of(abbreviations: Option<&Abbreviations>) -> &[Entry]
-    ensures value { result.now ≡ in_use (option_copied abbreviations.entry) }
-    ensures declared { AreAbbreviations result.now }
+/// The number and the length of the longest abbreviation that stands at the front of a text.
+#[tactic(auto, unfolding(crate::specs::Packing::longest))]
+#[inline]
+fn longest(abbreviations: Option<&Abbreviations>, items: &[TextItem]) -> Option<(usize, usize)>
+    ensures declared { AreAbbreviations (in_use (option_copied abbreviations.entry)) }
+    ensures value { result ≡ longest (in_use (option_copied abbreviations.entry)) items.now }
+    ensures fits { IfSome result (λ found. (found.0 < 64) × (found.1 ≤ length items.now)) }
 {
     match abbreviations {
-        Some(abbreviations) => abbreviations.as_slice(),
-        None => &[],
+        Some(abbreviations) => abbreviations.longest(items),
+        None => None,
     }
 }
 
 /// The Z-characters at the front of a text, and the items behind those that they stand for.
 #[inline]
-fn next_zs<'a>(entries: &[Entry], items: &'a [TextItem]) -> Option<(ZChars, &'a [TextItem])>
-    requires few { length entries.now ≤ 64 }
-    requires text { IsText items.now }
-    ensures { MatchOption result (items.now ≡ []) (λ found. Steps entries.now items.now (zs_list found.0) found.1.now) }
+fn next_zs<'a>(
+    abbreviations: Option<&Abbreviations>,
+    items: &'a [TextItem],
+) -> Option<(ZChars, &'a [TextItem])>
+    requires { IsText items.now }
+    ensures declared { AreAbbreviations (in_use (option_copied abbreviations.entry)) }
+    ensures steps { MatchOption result (items.now ≡ []) (λ found. Steps (in_use (option_copied abbreviations.entry)) items.now (zs_list found.0) found.1.now) }
 {
+    let found = longest(abbreviations, items);
     let (first, rest) = items.split_first()?;
-    match longest(entries, items) {
+    match found {
         Some((number, len)) => Some((abbreviation_zs(number), &rest[len.saturating_sub(1)..])),
         None => Some((item_zs(*first), rest)),
     }

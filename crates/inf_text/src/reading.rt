@@ -3,7 +3,7 @@ ghost use Rattle.std.specs.Prelude.{◌≡◌, ◌<◌, ◌≤◌, ◌^◌, ◌�
 ghost use Rattle.std.specs.List.{list_any};
 ghost use Rattle.inf_text.specs.Characters.{is_line_end};
 ghost use Rattle.inf_text.specs.Numbers.{IsPieceOf};
-ghost use Rattle.inf_text.specs.Reading.{Reads, is_new_line_mark, meaning, piece_at, spaces, text_of, white_len};
+ghost use Rattle.inf_text.specs.Reading.{Reads, is_new_line_mark, meaning, piece_at, spaces, white_len};
 
 use crate::characters::{CharSet, Zscii, is_line_end, is_white, source_char};
 use crate::escapes::escape_piece;
@@ -82,16 +82,16 @@ pub(crate) struct Piece {
 /// The faults: `UnknownEscape` for what is no escape (a string variable in `Quote` and `Abbreviation`
 /// too), `NoZscii` for a byte or a Unicode number without ZSCII code, `BadCode` for a code other than
 /// 13, 32 to 126 and 155 to 223 and for a string variable over 31, and `Memory` where there is too
-/// little memory for the text.
+/// little memory for the text of some front of the bytes, which is not empty then.
 pub fn read_text(alloc: Global, bytes: &[u8], set: CharSet, mode: Mode) -> Result<Text, TextFault>
-    ensures { Reads result (text_of set mode bytes.now) }
+    ensures { Reads set mode bytes.now result }
 {
     let mut items = Vec::new(alloc);
     let mut rest = bytes;
     let mut after_mark = false;
     while let Some((first, tail)) = rest.split_first() {
         let piece = piece_at(set, mode, after_mark, *first, tail)?;
-        push_times(&mut items, piece.item, piece.count)?;
+        push_times(&mut items, &piece.item, piece.count)?;
         rest = &tail[piece.behind..];
         after_mark = piece.is_mark;
     }
@@ -137,7 +137,7 @@ fn spaces(count: usize, behind: usize) -> Piece
     ensures { result ≡ record { item = TextItem.Character 32; count = count; behind = behind; is_mark = false } }
 {
     Piece {
-        item: TextItem::Character(b' '),
+        item: TextItem::Character(Zscii::from_code(b' ')),
         count,
         behind,
         is_mark: false,
@@ -183,10 +183,10 @@ fn white_len(set: CharSet, bytes: &[u8]) -> usize
 fn meaning(mode: Mode, code: Zscii) -> Zscii
     ensures { result ≡ meaning mode code }
 {
-    match (mode, code) {
-        (Mode::Quote, b'^') => b'\'',
-        (Mode::Text | Mode::Abbreviation, b'^') => 13,
-        (Mode::Text | Mode::Abbreviation, b'~') => b'"',
+    match (mode, code.code()) {
+        (Mode::Quote, b'^') => Zscii::from_code(b'\''),
+        (Mode::Text | Mode::Abbreviation, b'^') => Zscii::from_code(13),
+        (Mode::Text | Mode::Abbreviation, b'~') => Zscii::from_code(b'"'),
         _ => code,
     }
 }
@@ -199,12 +199,12 @@ fn is_new_line_mark(mode: Mode, byte: u8) -> bool
 }
 
 /// Puts an item at the end of others, so many times.
-fn push_times(items: &mut Vec<TextItem>, item: TextItem, count: usize) -> Result<(), TextFault>
-    ensures ok { OnOk result (items.new.items ≡ items.old.items ++ replicate count item) }
-    ensures err { IfErr result (λ fault. fault ≡ TextFault.Memory) }
+fn push_times(items: &mut Vec<TextItem>, item: &TextItem, count: usize) -> Result<(), TextFault>
+    ensures ok { OnOk result (items.new.items ≡ items.old.items ++ replicate count item.now) }
+    ensures err { IfErr result (λ fault. (fault ≡ TextFault.Memory) × (0 < count)) }
 {
     for _done in 0..count {
-        items.push(item)?;
+        items.push(*item)?;
     }
     Ok(())
 }

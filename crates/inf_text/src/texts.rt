@@ -1,14 +1,15 @@
 //! A text as the story has it: characters and string variables.
 ghost use Rattle.std.specs.Prelude.{◌≡◌, length, [], IfOk, IsTrue, ◌↔◌};
 
+use crate::characters::Zscii;
 use std::alloc::{AllocError, Global};
 use std::marker::Model;
 
 /// One item of a text.
 #[derive(Clone, Copy, Debug, PartialEq, Eq)]
 pub enum TextItem {
-    /// A character, by its ZSCII code.
-    Character(u8),
+    /// A character.
+    Character(Zscii),
     /// The string variable of this number, 0 to 31 (Z-Machine Standard 1.1, section 3.3).
     Variable(u8),
 }

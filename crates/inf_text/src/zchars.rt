@@ -52,6 +52,7 @@ fn character_zs(code: Zscii) -> ZChars
     ensures value { zs_list result ≡ character_zs code }
     ensures small { AreZs (zs_list result) }
 {
+    let code = code.code();
     match code {
         b' ' => ZChars::One(0),
         b'a'..=b'z' => ZChars::One(code - 91),
@@ -65,7 +66,7 @@ fn character_zs(code: Zscii) -> ZChars
 }
 
 /// The place of a code among others.
-fn punctuation_place(table: &[u8], code: Zscii) -> Option<usize>
+fn punctuation_place(table: &[u8], code: u8) -> Option<usize>
     ensures place { result ≡ position_from (λ x. x == code) 0 table.now }
     ensures within { IfSome result (λ place. place < length table.now) }
 {

@@ -1,66 +1,56 @@
 #![tactic(auto)]
 
-mod code;
-mod command_line;
-mod compile;
-mod control;
-mod dates;
-mod disk;
-mod failures;
-mod files;
-mod given_bytes;
-mod laws;
-mod layout;
-mod locals;
-mod memory_files;
-mod memory_sink;
-mod messages;
-mod names;
-mod operands;
-mod outcome;
-mod report;
-mod session;
-mod sinks;
-mod spelling;
-mod tokens;
-
-use command_line::{CommandLine, Options, WordFault};
-use compile::Fault;
-use disk::{DiskFiles, OutputSink, StorySink, Trouble};
+use inf_compile::command_line::{self, CommandLine, Options, WordFault};
+use inf_compile::compile::{self, Fault};
+use inf_compile::dates;
+use inf_disk::disk::{DiskFiles, OutputSink, StoryPlace, StorySink, Trouble};
+use inf_reader::outcome::Status;
 use jiff::Timestamp;
 use jiff::tz::Offset;
-use outcome::Status;
 use std::alloc::AllocError;
+use std::env;
 use std::fmt::Display;
+use std::io::{self, ErrorKind};
 use std::process::ExitCode;
 use std::rt::{Clock, Env, Files};
-use std::{env, io};
 
-/// A device or the memory failed, so that the run could not go on.
+/// Why a run could not go on.
 #[derive(Clone, Copy)]
-struct DeviceOrMemory;
+enum Failure {
+    /// No memory was left.
+    Memory,
+    /// The words of the command could not be had.
+    Words(ErrorKind),
+    /// The standard output failed.
+    Output(ErrorKind),
+    /// The clock gave no date.
+    Clock,
+    /// A compilation was given up, which is told already.
+    Told,
+}
 
-impl From<AllocError> for DeviceOrMemory {
-    fn from(_error: AllocError) -> DeviceOrMemory {
-        DeviceOrMemory
+impl Failure {
+    /// Says on standard error what failed, and why.
+    fn tell(self, rt: &impl Eprint) {
+        let _ = match self {
+            Failure::Memory => rt.eprintln("no memory was left"),
+            Failure::Words(reason) => rt.eprintln(format_args!("words of the command: {reason}")),
+            Failure::Output(reason) => rt.eprintln(format_args!("standard output: {reason}")),
+            Failure::Clock => rt.eprintln("the clock: no date"),
+            Failure::Told => Ok(()),
+        };
     }
 }
 
-impl From<io::Error> for DeviceOrMemory {
-    fn from(_error: io::Error) -> DeviceOrMemory {
-        DeviceOrMemory
+impl From<AllocError> for Failure {
+    fn from(_error: AllocError) -> Failure {
+        Failure::Memory
     }
 }
 
-impl From<jiff::Error> for DeviceOrMemory {
-    fn from(_error: jiff::Error) -> DeviceOrMemory {
-        DeviceOrMemory
-    }
-}
-
-impl From<Fault> for DeviceOrMemory {
-    fn from(_error: Fault) -> DeviceOrMemory {
-        DeviceOrMemory
+impl From<jiff::Error> for Failure {
+    fn from(_error: jiff::Error) -> Failure {
+        Failure::Clock
     }
 }
 
@@ -69,23 +59,23 @@ impl From<Fault> for DeviceOrMemory {
 fn main(rt: HostRuntime) -> ExitCode {
     match run(&rt) {
         Ok(code) => code,
-        Err(DeviceOrMemory) => {
+        Err(failure) => {
+            failure.tell(&rt);
             let _ = rt.println("Device or memory fault");
             ExitCode::from(3)
         }
     }
 }
 
-fn run<R: Env + Clock + Files + Print + Eprint + AllocGlobal>(
-    rt: &R,
-) -> Result<ExitCode, DeviceOrMemory> {
+fn run<R: Env + Clock + Files + Print + Eprint + AllocGlobal>(rt: &R) -> Result<ExitCode, Failure> {
     let args = match env::args(rt) {
         Ok(args) => args,
         // An argument is no text.
-        Err(error) if error.kind() == io::ErrorKind::InvalidData => {
+        Err(error) if error.kind() == ErrorKind::InvalidData => {
             return refused(rt, "Bad word: ?");
         }
-        Err(error) => return Err(DeviceOrMemory::from(error)),
+        Err(error) if error.kind() == ErrorKind::OutOfMemory => return Err(Failure::Memory),
+        Err(error) => return Err(Failure::Words(error.kind())),
     };
     let words: Vec<String> = args.skip(1).collect(rt.alloc())?;
     let words: Vec<&str> = words.iter().map(|word| word.as_str()).collect(rt.alloc())?;
@@ -105,12 +95,13 @@ fn run<R: Env + Clock + Files + Print + Eprint + AllocGlobal>(
 fn compile_files<R: Clock + Files + Print + Eprint + AllocGlobal>(
     rt: &R,
     options: &Options<'_>,
-) -> Result<ExitCode, DeviceOrMemory> {
+) -> Result<ExitCode, Failure> {
     let date = dates::serial(Offset::UTC.to_datetime(Timestamp::now(rt)?).date());
     let story_name = command_line::story_name(rt.alloc(), options)?;
-    let mut files = DiskFiles::new(rt.alloc(), rt);
+    let place = StoryPlace::new(story_name.as_str());
+    let mut files = DiskFiles::new(rt.alloc(), rt, &place);
     let mut messages = OutputSink::new(io::writer(rt));
-    let mut story = StorySink::new(rt, story_name.as_str());
+    let mut story = StorySink::new(rt, &place);
     let answer = compile::compile(
         rt.alloc(),
         options,
@@ -119,26 +110,55 @@ fn compile_files<R: Clock + Files + Print + Eprint + AllocGlobal>(
         &mut messages,
         &mut story,
     );
-    match &answer {
-        Err(Fault::Read(name)) => explain(rt, name.as_str(), &files.trouble),
-        Err(Fault::Story(_)) => explain(rt, story_name.as_str(), &story.trouble),
-        _ => {}
+    match answer {
+        Ok(Status::Success) => Ok(ExitCode::SUCCESS),
+        Ok(Status::Errors) => Ok(ExitCode::from(1)),
+        Err(Fault::Memory) => Err(Failure::Memory),
+        Err(Fault::Read(name)) => {
+            tell_source(rt, name.as_str(), &files.trouble);
+            Err(Failure::Told)
+        }
+        Err(Fault::Messages) => Err(Failure::Output(reason_of(&messages.trouble))),
+        Err(Fault::Story(count)) => {
+            tell_story(
+                rt,
+                story_name.as_str(),
+                count,
+                place.is_source(),
+                &story.trouble,
+            );
+            Err(Failure::Told)
+        }
     }
-    Ok(match answer? {
-        Status::Success => ExitCode::SUCCESS,
-        Status::Errors => ExitCode::from(1),
-    })
 }
 
-/// Says on standard error why the system failed at a file, where it gave a reason.
-fn explain(rt: &impl Eprint, name: &str, trouble: &Trouble) {
-    if let Some(reason) = trouble.reason {
-        let _ = rt.eprintln(format_args!("{name}: {reason}"));
-    }
+/// Why a device failed last.
+fn reason_of(trouble: &Trouble) -> ErrorKind {
+    trouble.reason.unwrap_or(ErrorKind::Other)
+}
+
+/// Says on standard error why a source was not read. Where the system gave no reason, it is too long.
+fn tell_source(rt: &impl Eprint, name: &str, trouble: &Trouble) {
+    let _ = match trouble.reason {
+        Some(reason) => rt.eprintln(format_args!("{name}: {reason}")),
+        None => rt.eprintln(format_args!("{name}: over 16777216 bytes")),
+    };
+}
+
+/// Says on standard error why a story was not written whole, and how many of its bytes were.
+fn tell_story(rt: &impl Eprint, name: &str, count: usize, is_source: bool, trouble: &Trouble) {
+    let _ = if is_source {
+        rt.eprintln(format_args!("{name}: is a source of this story; nothing was written"))
+    } else {
+        let reason = reason_of(trouble);
+        rt.eprintln(format_args!("{name}: {reason}; {count} bytes were written"))
+    };
 }
 
 /// Prints why the words were refused.
-fn refused(rt: &impl Print, line: impl Display + Drop) -> Result<ExitCode, DeviceOrMemory> {
-    rt.println(line)?;
-    Ok(ExitCode::from(2))
+fn refused(rt: &impl Print, line: impl Display + Drop) -> Result<ExitCode, Failure> {
+    match rt.println(line) {
+        Ok(()) => Ok(ExitCode::from(2)),
+        Err(error) => Err(Failure::Output(error.kind())),
+    }
 }

@@ -2,7 +2,8 @@ use Rattle.std.proofs.Common.{◌≡◌, length, ℕ, List}
 use Rattle.inf_text.specs.declared.texts.TextItem.{TextItem}
 use Rattle.inf_text.specs.Items.{IsText}
 use Rattle.inf_text.specs.Packer.{completed}
-use Rattle.inf_text.specs.Packing.{words, zs_from}
+use Rattle.std.specs.Option.{option_copied}
+use Rattle.inf_text.specs.Packing.{in_use, words, zs_from}
 use Rattle.inf_text.proofs.packing.pack.Given as goal
 
 -- what is written and what is left give the whole text
@@ -11,7 +12,7 @@ pub record Packs (packer : List ℕ × List ℕ) (texts : List (List TextItem)) 
   pub text : IsText items
 
 abbrev pub invariant-loop-zs : goal.invariant-loop-zs
-invariant-loop-zs l = Packs l.packer l.entries l.items l.initial.items
+invariant-loop-zs l = Packs l.packer (in_use (option_copied l.abbreviations)) l.items l.initial.items
 
 abbrev pub decreases-loop-zs : goal.decreases-loop-zs
 decreases-loop-zs l = length l.items

@@ -1,6 +1,7 @@
 use Rattle.std.proofs.Common.{◌≡◌, ◌≤◌, ◌+◌, ◌*◌, length, ℕ, List}
 use Rattle.inf_text.specs.Items.{IsText}
-use Rattle.inf_text.specs.Packing.{zs_from}
+use Rattle.std.specs.Option.{option_copied}
+use Rattle.inf_text.specs.Packing.{in_use, zs_from}
 use Rattle.inf_text.specs.declared.texts.TextItem.{TextItem}
 use Rattle.inf_text.proofs.packing.packed_len.Given as goal
 
@@ -11,7 +12,7 @@ pub record Counts (count : ℕ) (texts : List (List TextItem)) (items whole : Li
   pub few : count + 4 * length items ≤ 4 * length whole
 
 abbrev pub invariant-loop-zs : goal.invariant-loop-zs
-invariant-loop-zs l = Counts l.count l.entries l.items l.initial.items
+invariant-loop-zs l = Counts l.count (in_use (option_copied l.abbreviations)) l.items l.initial.items
 
 abbrev pub decreases-loop-zs : goal.decreases-loop-zs
 decreases-loop-zs l = length l.items

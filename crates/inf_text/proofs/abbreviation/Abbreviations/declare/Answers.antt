@@ -1,4 +1,4 @@
-use Rattle.std.proofs.Common.{◌≡◌, ◌∙◌, arith}
+use Rattle.std.proofs.Common.{arith}
 use Rattle.std.proofs.lemmas.Grind.{common_steps}
 use Rattle.std.proofs.lemmas.Result.{err_from_is_err_and}
 use Rattle.inf_text.proofs.Cutting.{AreAbbreviations-push}
@@ -13,7 +13,8 @@ returns-in_err-push c =
     let p = err_from_is_err_and c.from_residual-in_err-push.result c.from_residual-in_err-push.ensures.1 in rw (p.1, p.2) (grind (arith, common_steps))
 
 pub invariant_of-self-2 : goal.invariant_of-self-2
-invariant_of-self-2 c =
-    let is : c.new.result ≡ c.args.text.now = c.new.ensures ∙ c.in_ok-copy.ensures in
-    rw (c.in_ok-push.ensures.items, is)
-    (AreAbbreviations-push c.self.inside.entries.items c.args.text.now c.self.invariant (omega arith) (omega arith) c.as_slice-2.ensures.text)
+invariant_of-self-2 c = record {
+  declared = rw (c.in_ok-push.ensures.items, c.in_ok-copy.ensures)
+      (AreAbbreviations-push c.self.inside.texts.items c.args.text.now c.self.invariant.declared (omega arith) (omega arith) c.as_slice-2.ensures.text);
+  indexed = rw c.deref.ensures.value at c.add.ensures;
+}

@@ -1,0 +1,5 @@
+//! Tests of the assembler.
+#![tactic(auto)]
+
+#[cfg(test)]
+mod cases;

@@ -1,0 +1,4 @@
+pub mod Loading
+pub mod WordSteps
+pub mod Stems
+pub mod Outcomes

@@ -1,0 +1,4 @@
+pub mod Words
+pub mod Dates
+pub mod Compiling
+pub mod Loading

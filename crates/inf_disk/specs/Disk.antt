@@ -1,0 +1,39 @@
+-- Devices of the system: what their calls answer, by what the system answered.
+use Rattle.std.specs.Prelude.{◌≡◌, ⊤, ℕ, ◌-◌, length, slice_get, slice_set, List, [], ◌∷◌, ◌++◌, Option, Some, None, Result, Ok, Err}
+use Rattle.std.specs.Io.KnownBytes.{ReadConsumes, WriteAppends}
+use Rattle.std.specs.declared.io.ErrorKind.{ErrorKind}
+use Rattle.std.specs.declared.io.ErrorKind.TheVariants as kind
+use Rattle.inf_token.specs.declared.files.OpenFault.{OpenFault}
+use Rattle.inf_token.specs.declared.files.OpenFault.TheVariants as fault
+
+-- what it means that a file cannot be opened: it is absent where none has the name, or none can have it
+abbrev pub fault_of_kind : ErrorKind → OpenFault
+fault_of_kind kind.NotFound = fault.Absent
+fault_of_kind kind.NotADirectory = fault.Absent
+fault_of_kind kind.InvalidInput = fault.Absent
+fault_of_kind kind.InvalidFilename = fault.Absent
+fault_of_kind kind.OutOfMemory = fault.Memory
+fault_of_kind _ = fault.Device
+
+-- An opening that succeeds adds a file behind the open ones. Any other leaves them as they were, and has its fault by
+-- the system's reason, which is kept; but for want of memory it may fail before the system is asked.
+abbrev pub OpensFile : {F : Type 0} → List F → List F → Option ErrorKind → Result Unit OpenFault → Type 0
+OpensFile {F} old new reason (Ok _) = (reason ≡ None) × (file : F) × (new ≡ old ++ file ∷ [])
+OpensFile old new reason (Err fault.Memory) = new ≡ old
+OpensFile old new reason (Err refused) =
+    (new ≡ old) × (kind : ErrorKind) × (reason ≡ Some kind) × (refused ≡ fault_of_kind kind)
+
+-- a read of the last of the open files, and no other changed
+abbrev pub ReadsLast : {F E : Type 0} → (F → Option (List ℕ)) → List F → List F → Result ℕ E → List ℕ → Type 0
+ReadsLast {F} remaining old new answer buffer =
+    (before : F) × (after : F) × (slice_get old (length old - 1) ≡ Some before)
+    × (new ≡ slice_set old (length old - 1) after) × ReadConsumes (remaining before) (remaining after) answer buffer
+
+-- A write to a file that is made first where there is none yet. Where it cannot be made, nothing is written.
+abbrev pub WritesMade : {F E : Type 0} → (F → Option (List ℕ)) → Option F → Option F → Result ℕ E → List ℕ → Type 0
+WritesMade {F} contents (Some before) new answer bytes =
+    (after : F) × (new ≡ Some after) × WriteAppends (contents before) (contents after) answer bytes
+WritesMade {F} contents None (Some after) answer bytes =
+    (made : F) × WriteAppends (contents made) (contents after) answer bytes
+WritesMade contents None None (Ok _) bytes = ⊥
+WritesMade contents None None (Err _) bytes = ⊤

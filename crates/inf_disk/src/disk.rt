@@ -1,0 +1,386 @@
+ghost use Rattle.std.specs.Prelude.{◌≡◌, ◌+◌, ◌<◌, ◌≤◌, [], ◌∷◌, ◌++◌, None, Some, Ok, true, IsErr, IsSome, IsErrOf, IfOk, OnOk, OnErr, is_ok, length, min, if◌then◌else◌};
+ghost use Rattle.std.specs.Fs.{new_options, with_write, with_create, with_truncate};
+ghost use Rattle.std.specs.Io.KnownBytes.{ReadConsumes, WriteAppends};
+ghost use Rattle.inf_token.specs.Files.{Rose, last_count};
+ghost use Rattle.inf_disk.specs.Disk.{fault_of_kind, OpensFile, ReadsLast, WritesMade};
+
+use inf_symbol::sinks::{Sink, SinkFault};
+use inf_token::failures::Failures;
+use inf_token::files::{Files, OpenFault, ReadFault};
+use inf_token::given_bytes::GivenBytes;
+use std::alloc::Global;
+use std::cell::Cell;
+use std::fs::{OpenFile, OpenOptions};
+use std::io::{ErrorKind, Read, Write};
+use std::os::unix::fs::MetadataExt;
+use std::{fs, rt};
+
+/// What went wrong at a device of the system.
+#[derive(Drop)]
+pub struct Trouble {
+    /// How often it failed.
+    pub failures: Failures,
+    /// Why its last call that failed did so, where one did. A file that is opened leaves none.
+    pub reason: Option<ErrorKind>,
+}
+
+impl Trouble {
+    /// Nothing yet.
+    pub fn none() -> Trouble
+        ensures failures { result.failures ≡ 0 }
+        ensures reason { result.reason ≡ None }
+    {
+        Trouble {
+            failures: Failures::none(),
+            reason: None,
+        }
+    }
+
+    /// Counts a failure, and keeps its reason.
+    pub fn add(&mut self, reason: ErrorKind)
+        ensures rose { Rose self.old.failures self.new.failures }
+        ensures later { self.old.failures ≤ self.new.failures }
+        ensures reason { self.new.reason ≡ Some reason }
+    {
+        self.failures.add();
+        self.reason = Some(reason);
+    }
+}
+
+/// Where the story of a run is to be written: a name, and whether a source of the run is the file of
+/// this name. The devices of a run share it, so that no source is overwritten.
+#[derive(Drop)]
+pub struct StoryPlace<'r> {
+    name: &'r str,
+    is_source: Cell<bool>,
+}
+
+impl<'r> StoryPlace<'r> {
+    /// The file of this name, which is no source yet.
+    pub fn new(name: &'r str) -> StoryPlace<'r>
+        ensures { result.name.now ≡ name.now }
+    {
+        StoryPlace {
+            name,
+            is_source: Cell::new(false),
+        }
+    }
+
+    /// Whether a source that was opened is the file of this name. What a cell holds is not stated.
+    pub fn is_source(&self) -> bool {
+        self.is_source.get()
+    }
+
+    /// Notes whether a file that was opened as a source is the file of this name, also where it was
+    /// opened by another name.
+    fn look_at<R: rt::Files>(&self, system: &R, source: &R::File) {
+        let (Ok(source), Ok(story)) = (source.metadata(), fs::metadata(system, self.name)) else {
+            return;
+        };
+        if source.dev() == story.dev() && source.ino() == story.ino() {
+            self.is_source.set(true);
+        }
+    }
+}
+
+/// How the story's file is opened: it is made where there is none, and no byte of an older one stays.
+fn story_options() -> OpenOptions
+    ensures { result ≡ with_truncate (with_create (with_write new_options true) true) true }
+{
+    let mut options = OpenOptions::new();
+    options.write(true).create(true).truncate(true);
+    options
+}
+
+/// Files of the system, by their paths. What they hold is not stated.
+#[derive(Drop)]
+pub struct DiskFiles<'r, R: rt::Files> {
+    system: &'r R,
+    story: &'r StoryPlace<'r>,
+    open_files: Vec<R::File>,
+    /// What went wrong so far.
+    pub trouble: Trouble,
+    given: GivenBytes,
+}
+
+impl<'r, R: rt::Files> DiskFiles<'r, R> {
+    /// The files that `system` has, none of them open yet. Where one that is opened is the story's, its
+    /// place notes it.
+    pub fn new(alloc: Global, system: &'r R, story: &'r StoryPlace<'r>) -> DiskFiles<'r, R>
+        ensures files { result.open_files.items ≡ [] }
+        ensures faults { result.trouble.failures ≡ 0 }
+        ensures reason { result.trouble.reason ≡ None }
+        ensures given { result.given ≡ 0 }
+    {
+        DiskFiles {
+            system,
+            story,
+            open_files: Vec::new(alloc),
+            trouble: Trouble::none(),
+            given: GivenBytes::none(),
+        }
+    }
+}
+
+/// What it means that a file cannot be opened. It is absent where no file has this name, or none
+/// can have it.
+fn open_fault(kind: ErrorKind) -> OpenFault
+    ensures { result ≡ fault_of_kind kind }
+{
+    match kind {
+        ErrorKind::NotFound
+        | ErrorKind::NotADirectory
+        | ErrorKind::InvalidInput
+        | ErrorKind::InvalidFilename => OpenFault::Absent,
+        ErrorKind::OutOfMemory => OpenFault::Memory,
+        _ => OpenFault::Device,
+    }
+}
+
+/// Reads once, and again for as long as a signal comes first. A failure is counted.
+fn read_some<F: Read>(
+    file: &mut F,
+    to: &mut [u8],
+    trouble: &mut Trouble,
+) -> Result<usize, ReadFault>
+    ensures bytes { ReadConsumes (F.remaining file.old) (F.remaining file.new) result to.new }
+    ensures count { IfOk result (λ n. n ≤ length to.new) }
+    ensures failed { IsErr result → Rose trouble.old.failures trouble.new.failures }
+    ensures reason { IsErr result → IsSome trouble.new.reason }
+    ensures kept { OnOk result (trouble.new.reason ≡ trouble.old.reason) }
+    ensures later { trouble.old.failures ≤ trouble.new.failures }
+{
+    for _ in 0..u64::MAX {
+        match file.read(to) {
+            Ok(count) => return Ok(count),
+            Err(error) if error.kind() == ErrorKind::Interrupted => {}
+            Err(error) => {
+                trouble.add(error.kind());
+                return Err(ReadFault::Device);
+            }
+        }
+    }
+    trouble.add(ErrorKind::Interrupted);
+    Err(ReadFault::Device)
+}
+
+impl<R: rt::Files> Files for DiskFiles<'_, R> {
+    ghost use Rattle.std.specs.Prelude.{length, false, None, []};
+
+    ghost faults = { λ f. f.trouble.failures };
+
+    ghost given = { λ f. f.given };
+
+    ghost is_honest = { λ _. false };
+
+    ghost sources = { λ _ _. None };
+
+    ghost openings = { λ _. record { all = []; open_places = [] } };
+
+    ghost depth = { λ f. length f.open_files.items };
+
+    fn open(&mut self, name: &str) -> Result<(), OpenFault>
+        ensures opens { OpensFile self.old.open_files.items self.new.open_files.items
+            self.new.trouble.reason result }
+        ensures depth { length self.new.open_files.items ≡ (if is_ok result
+            then length self.old.open_files.items + 1 else length self.old.open_files.items) }
+        ensures cause { IsErrOf result OpenFault.Device →
+            Rose self.old.trouble.failures self.new.trouble.failures }
+        ensures faults { self.old.trouble.failures ≤ self.new.trouble.failures }
+        ensures given { self.new.given ≡ self.old.given }
+    {
+        self.open_files.reserve(1)?;
+        match fs::open(self.system, name) {
+            Ok(file) => {
+                self.trouble.reason = None;
+                self.story.look_at(self.system, &file);
+                Ok(self.open_files.push(file)?)
+            }
+            Err(error) => {
+                let fault = open_fault(error.kind());
+                if fault == OpenFault::Device {
+                    self.trouble.add(error.kind());
+                } else {
+                    self.trouble.reason = Some(error.kind());
+                }
+                Err(fault)
+            }
+        }
+    }
+
+    fn read(&mut self, to: &mut [u8]) -> Result<usize, ReadFault>
+        requires is_open { 0 < length self.old.open_files.items }
+        ensures bytes { ReadsLast (R.File.remaining) self.old.open_files.items
+            self.new.open_files.items result to.new }
+        ensures count { IfOk result (λ n. n ≤ length to.new) }
+        ensures given { IfOk result (λ n. self.new.given ≡ min (self.old.given + n) last_count) }
+        ensures depth { length self.new.open_files.items ≡ length self.old.open_files.items }
+        ensures same { OnErr result (self.new.given ≡ self.old.given) }
+        ensures cause { IsErr result → Rose self.old.trouble.failures self.new.trouble.failures }
+        ensures reason { IsErr result → IsSome self.new.trouble.reason }
+        ensures kept { OnOk result (self.new.trouble.reason ≡ self.old.trouble.reason) }
+        ensures faults { self.old.trouble.failures ≤ self.new.trouble.failures }
+    {
+        let last = self.open_files.len() - 1;
+        let count = read_some(&mut self.open_files[last], to, &mut self.trouble)?;
+        self.given.add(count);
+        Ok(count)
+    }
+
+    fn close(&mut self)
+        requires is_open { 0 < length self.old.open_files.items }
+        ensures files { (file : _) ×
+            (self.old.open_files.items ≡ self.new.open_files.items ++ file ∷ []) }
+        ensures depth { length self.new.open_files.items + 1 ≡ length self.old.open_files.items }
+        ensures faults { self.new.trouble.failures ≡ self.old.trouble.failures }
+        ensures reason { self.new.trouble.reason ≡ self.old.trouble.reason }
+        ensures given { self.new.given ≡ self.old.given }
+    {
+        let _ = self.open_files.pop();
+    }
+}
+
+/// Writes once, and again for as long as a signal comes first. A failure, and a write of nothing,
+/// is counted.
+fn write_some<W: Write>(to: &mut W, bytes: &[u8], trouble: &mut Trouble) -> Result<usize, SinkFault>
+    requires { 0 < length bytes.now }
+    ensures bytes { WriteAppends (W.contents to.old) (W.contents to.new) result bytes.now }
+    ensures count { IfOk result (λ n. n ≤ length bytes.now) }
+    ensures failed { IsErr result → Rose trouble.old.failures trouble.new.failures }
+    ensures reason { IsErr result → IsSome trouble.new.reason }
+    ensures nothing { result ≡ Ok 0 → Rose trouble.old.failures trouble.new.failures }
+    ensures empty { result ≡ Ok 0 → trouble.new.reason ≡ Some ErrorKind.WriteZero }
+    ensures kept { IfOk result (λ n. 0 < n → trouble.new.reason ≡ trouble.old.reason) }
+    ensures later { trouble.old.failures ≤ trouble.new.failures }
+{
+    for _ in 0..u64::MAX {
+        match to.write(bytes) {
+            Ok(0) => {
+                trouble.add(ErrorKind::WriteZero);
+                return Ok(0);
+            }
+            Ok(count) => return Ok(count),
+            Err(error) if error.kind() == ErrorKind::Interrupted => {}
+            Err(error) => {
+                trouble.add(error.kind());
+                return Err(SinkFault::Device);
+            }
+        }
+    }
+    trouble.add(ErrorKind::Interrupted);
+    Err(SinkFault::Device)
+}
+
+/// An open output. What it took is not stated.
+#[derive(Drop)]
+pub struct OutputSink<W: Write> {
+    output: W,
+    /// What went wrong so far.
+    pub trouble: Trouble,
+}
+
+impl<W: Write> OutputSink<W> {
+    /// The output that `output` writes to.
+    pub fn new(output: W) -> OutputSink<W>
+        ensures output { result.output ≡ output }
+        ensures failures { result.trouble.failures ≡ 0 }
+        ensures reason { result.trouble.reason ≡ None }
+    {
+        OutputSink {
+            output,
+            trouble: Trouble::none(),
+        }
+    }
+}
+
+impl<W: Write> Sink for OutputSink<W> {
+    ghost use Rattle.std.specs.Prelude.{None};
+
+    ghost taken = { λ _. None };
+
+    ghost failures = { λ s. s.trouble.failures };
+
+    fn write(&mut self, bytes: &[u8]) -> Result<usize, SinkFault>
+        requires { 0 < length bytes.now }
+        ensures bytes { WriteAppends (W.contents self.old.output) (W.contents self.new.output)
+            result bytes.now }
+        ensures count { IfOk result (λ n. n ≤ length bytes.now) }
+        ensures failed { IsErr result → Rose self.old.trouble.failures self.new.trouble.failures }
+        ensures reason { IsErr result → IsSome self.new.trouble.reason }
+        ensures nothing { result ≡ Ok 0 →
+            Rose self.old.trouble.failures self.new.trouble.failures }
+        ensures empty { result ≡ Ok 0 → self.new.trouble.reason ≡ Some ErrorKind.WriteZero }
+        ensures kept { IfOk result (λ n. 0 < n → self.new.trouble.reason ≡ self.old.trouble.reason) }
+        ensures failures { self.old.trouble.failures ≤ self.new.trouble.failures }
+    {
+        write_some(&mut self.output, bytes, &mut self.trouble)
+    }
+}
+
+/// A file for a story, which is made when its first byte comes: a file that stood there before
+/// stays as it was until then, and a source of the run for ever. What it took is not stated.
+#[derive(Drop)]
+pub struct StorySink<'r, R: rt::Files> {
+    system: &'r R,
+    place: &'r StoryPlace<'r>,
+    file: Option<R::File>,
+    /// What went wrong so far.
+    pub trouble: Trouble,
+}
+
+impl<'r, R: rt::Files> StorySink<'r, R> {
+    /// The file at this place, which is not made yet.
+    pub fn new(system: &'r R, place: &'r StoryPlace<'r>) -> StorySink<'r, R>
+        ensures name { result.place.now.name.now ≡ place.now.name.now }
+        ensures file { result.file ≡ None }
+        ensures failures { result.trouble.failures ≡ 0 }
+        ensures reason { result.trouble.reason ≡ None }
+    {
+        StorySink {
+            system,
+            place,
+            file: None,
+            trouble: Trouble::none(),
+        }
+    }
+}
+
+impl<R: rt::Files> Sink for StorySink<'_, R> {
+    ghost use Rattle.std.specs.Prelude.{None};
+
+    ghost taken = { λ _. None };
+
+    ghost failures = { λ s. s.trouble.failures };
+
+    fn write(&mut self, bytes: &[u8]) -> Result<usize, SinkFault>
+        requires { 0 < length bytes.now }
+        ensures bytes { WritesMade (R.File.contents) self.old.file self.new.file result bytes.now }
+        ensures count { IfOk result (λ n. n ≤ length bytes.now) }
+        ensures failed { IsErr result → Rose self.old.trouble.failures self.new.trouble.failures }
+        ensures reason { IsErr result → IsSome self.new.trouble.reason }
+        ensures nothing { result ≡ Ok 0 →
+            Rose self.old.trouble.failures self.new.trouble.failures }
+        ensures empty { result ≡ Ok 0 → self.new.trouble.reason ≡ Some ErrorKind.WriteZero }
+        ensures kept { IfOk result (λ n. 0 < n → self.new.trouble.reason ≡ self.old.trouble.reason) }
+        ensures failures { self.old.trouble.failures ≤ self.new.trouble.failures }
+    {
+        if let Some(file) = &mut self.file {
+            return write_some(file, bytes, &mut self.trouble);
+        }
+        if self.place.is_source() {
+            self.trouble.add(ErrorKind::ResourceBusy);
+            return Err(SinkFault::Device);
+        }
+        match story_options().open(self.system, self.place.name) {
+            Ok(mut file) => {
+                let answer = write_some(&mut file, bytes, &mut self.trouble);
+                self.file = Some(file);
+                answer
+            }
+            Err(error) => {
+                self.trouble.add(error.kind());
+                Err(SinkFault::Device)
+            }
+        }
+    }
+}

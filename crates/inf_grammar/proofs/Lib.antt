@@ -1,0 +1,10 @@
+pub mod Sets
+pub mod Rows
+pub mod Deciding
+pub mod Taking
+pub mod TokenLaws
+pub mod Evaluated
+pub mod Bits
+pub mod CodeTables
+pub mod Passing
+pub mod Ending

@@ -1,0 +1,114 @@
+-- Atoms: what the grammar can tell of a token. They are numbered: the marks, the words, another name, each of these names
+-- again as that of a class, a number, a character, a word in quotes, a text, a bad token, the end.
+use Rattle.std.specs.Prelude.{ℕ, ◌+◌, ◌-◌, ◌*◌, ◌^◌, List, [], ◌∷◌, bit_or, bit_and, if◌then◌else◌}
+use Rattle.std.specs.Str.{str_eq_ignore_ascii_case}
+use Rattle.inf_grammar.specs.Words.{words}
+use Rattle.inf_grammar.specs.declared.atoms.Token.{Token as Seen}
+use Rattle.inf_grammar.specs.declared.atoms.Token.TheVariants as seen
+use Rattle.inf_grammar.specs.declared.marks.Mark.{Mark}
+use Rattle.inf_grammar.specs.declared.marks.Mark.TheVariants as mark
+
+abbrev pub mark_atom : Mark → ℕ
+mark_atom mark.Arrow = 0
+mark_atom mark.LongArrow = 1
+mark_atom mark.Minus = 2
+mark_atom mark.Decrement = 3
+mark_atom mark.Plus = 4
+mark_atom mark.Increment = 5
+mark_atom mark.Star = 6
+mark_atom mark.Slash = 7
+mark_atom mark.Percent = 8
+mark_atom mark.And = 9
+mark_atom mark.LogicalAnd = 10
+mark_atom mark.Or = 11
+mark_atom mark.LogicalOr = 12
+mark_atom mark.Tilde = 13
+mark_atom mark.LogicalNot = 14
+mark_atom mark.NotEqual = 15
+mark_atom mark.Assign = 16
+mark_atom mark.Equal = 17
+mark_atom mark.Greater = 18
+mark_atom mark.GreaterOrEqual = 19
+mark_atom mark.Less = 20
+mark_atom mark.LessOrEqual = 21
+mark_atom mark.OpenAngles = 22
+mark_atom mark.CloseAngles = 23
+mark_atom mark.Comma = 24
+mark_atom mark.Semicolon = 25
+mark_atom mark.Colon = 26
+mark_atom mark.OpenParenthesis = 27
+mark_atom mark.CloseParenthesis = 28
+mark_atom mark.OpenBracket = 29
+mark_atom mark.CloseBracket = 30
+mark_atom mark.OpenBrace = 31
+mark_atom mark.CloseBrace = 32
+mark_atom mark.Dot = 33
+mark_atom mark.DotAddress = 34
+mark_atom mark.DotLength = 35
+mark_atom mark.Hash = 36
+mark_atom mark.DoubleHash = 37
+mark_atom mark.Question = 38
+mark_atom mark.At = 39
+
+-- how many words stand before a name, in any case: all of them, if it is none
+abbrev pub place_in : List ℕ → List (List ℕ) → ℕ
+place_in spelling [] = 0
+place_in spelling (word ∷ rest) = if str_eq_ignore_ascii_case spelling word then 0 else 1 + place_in spelling rest
+
+abbrev pub first_word : ℕ
+first_word = 40
+
+-- how many names there are: the words, and another name
+abbrev pub names : ℕ
+names = 73
+
+abbrev pub first_literal : ℕ
+first_literal = 186
+
+-- The atom of a token
+
+abbrev pub atom_of : Seen → ℕ
+atom_of (seen.Mark m) = mark_atom m
+atom_of (seen.Name spelling is_class) = first_word + (if is_class then names else 0) + place_in spelling.now words
+atom_of seen.Number = first_literal
+atom_of seen.Char = first_literal + 1
+atom_of seen.Word = first_literal + 2
+atom_of seen.Text = first_literal + 3
+atom_of seen.Bad = first_literal + 4
+atom_of seen.End = first_literal + 5
+
+-- Sets of atoms
+
+abbrev pub of_mark : Mark → ℕ
+of_mark m = 2 ^ mark_atom m
+
+-- a word, be it the name of a class or not
+abbrev pub of_word : List ℕ → ℕ
+of_word spelling = let place = first_word + place_in spelling words in 2 ^ place + 2 ^ (place + names)
+
+-- every name, and every name of a class
+abbrev pub name : ℕ
+name = (2 ^ (2 * names) - 1) * 2 ^ first_word
+
+abbrev pub classname : ℕ
+classname = (2 ^ names - 1) * 2 ^ (first_word + names)
+
+abbrev pub number : ℕ
+number = 2 ^ first_literal
+
+abbrev pub char : ℕ
+char = 2 ^ (first_literal + 1)
+
+abbrev pub word_literal : ℕ
+word_literal = 2 ^ (first_literal + 2)
+
+abbrev pub text : ℕ
+text = 2 ^ (first_literal + 3)
+
+abbrev pub joined : List ℕ → ℕ
+joined [] = 0
+joined (set ∷ sets) = bit_or set (joined sets)
+
+-- a set without some others
+abbrev pub without : ℕ → List ℕ → ℕ
+without set others = set - bit_and set (joined others)

@@ -1,0 +1,25 @@
+-- The grammar of the language, and what the machine knows of it.
+use Rattle.std.specs.Prelude.{List, ◌++◌}
+use Rattle.inf_grammar.specs.Grammar.{Grammar, Row}
+use Rattle.inf_grammar.specs.Machine.{Known}
+use Rattle.inf_grammar.specs.At.{number_at, rows_at, test_at}
+use Rattle.inf_grammar.specs.Classes.{classes}
+use Rattle.inf_grammar.specs.Table1.{rules_1}
+use Rattle.inf_grammar.specs.Table2.{rules_2}
+use Rattle.inf_grammar.specs.Table3.{rules_3}
+use Rattle.inf_grammar.specs.Table4.{rules_4}
+use Rattle.inf_grammar.specs.Facts.{beginnings, followers, empties, step_bounds}
+
+abbrev pub rules : List (List Row)
+rules = rules_1 ++ rules_2 ++ rules_3 ++ rules_4
+
+unfoldable pub grammar : Grammar
+grammar = record { atoms_of = λ class. number_at classes class; rows_of = λ rule. rows_at rules rule }
+
+unfoldable pub known : Known
+known = record {
+  begins = λ rule. number_at beginnings rule;
+  follows = λ rule. number_at followers rule;
+  is_empty = λ rule. test_at empties rule;
+  steps = λ rule. number_at step_bounds rule;
+}

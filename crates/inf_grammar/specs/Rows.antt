@@ -1,0 +1,13 @@
+-- Rows as the tables write them.
+use Rattle.std.specs.Prelude.{ℕ, List}
+use Rattle.inf_grammar.specs.declared.symbols.Symbol.{Symbol}
+use Rattle.inf_grammar.specs.Grammar.{Row}
+use Rattle.inf_grammar.specs.Classes.{classes}
+use Rattle.inf_grammar.specs.At.{number_at}
+
+abbrev pub row : List Symbol → Row
+row parts = record { parts = parts; unless = 0 }
+
+-- a row that is not taken before a token of a class
+abbrev pub row_unless : ℕ → List Symbol → Row
+row_unless class parts = record { parts = parts; unless = number_at classes class }

@@ -1,0 +1,35 @@
+-- The rows of some rules. Made from docs/grammar.txt.
+use Rattle.std.specs.Prelude.{List, [], ◌∷◌}
+use Rattle.inf_grammar.specs.Grammar.{Row}
+use Rattle.inf_grammar.specs.Rows.{row}
+use Rattle.inf_grammar.specs.Parts.{ !comma, !negate, 'comma', 'minus', after_unary, case_end, end, inner_operator, minus_following, neg, outer_following, outer_following_1, outer_operator, prim, range, statement_end, step_prefix, switch_next, switch_next_2, values}
+
+abbrev pub rules_4 : List (List Row)
+rules_4 =
+    -- switch_next_1
+    (row (prim ∷ minus_following ∷ [])
+    ∷ row (switch_next_2 ∷ !negate ∷ after_unary ∷ !comma ∷ statement_end ∷ [])
+    ∷ [])
+    -- switch_next_2
+    ∷ (row ('minus' ∷ neg ∷ !negate ∷ [])
+    ∷ row (step_prefix ∷ [])
+    ∷ [])
+    -- minus_following
+    ∷ (row (inner_operator ∷ !negate ∷ after_unary ∷ !comma ∷ statement_end ∷ [])
+    ∷ row (!negate ∷ outer_following ∷ [])
+    ∷ [])
+    -- switch_following
+    ∷ (row (inner_operator ∷ after_unary ∷ !comma ∷ statement_end ∷ [])
+    ∷ row (outer_following ∷ [])
+    ∷ [])
+    -- outer_following
+    ∷ (row (outer_operator ∷ !comma ∷ statement_end ∷ [])
+    ∷ row (range ∷ !comma ∷ values ∷ [])
+    ∷ row (!comma ∷ outer_following_1 ∷ [])
+    ∷ [])
+    -- outer_following_1
+    ∷ (row (case_end ∷ [])
+    ∷ row ('comma' ∷ switch_next ∷ [])
+    ∷ row (end ∷ [])
+    ∷ [])
+    ∷ []

@@ -1,0 +1,86 @@
+-- The grammar as the program has it: flat tables of numbers.
+use Rattle.std.specs.Prelude.{ℕ, ◌+◌, ◌*◌, ◌/◌, ◌%◌, ◌^◌, List, [], ◌∷◌, ◌++◌, Bool, map, reverse, length, take, drop, if◌then◌else◌, nat_le, ◌-◌, ◌&&◌}
+use Rattle.inf_grammar.specs.declared.symbols.Symbol.{Symbol}
+use Rattle.inf_grammar.specs.declared.rules.Set.{Set}
+use Rattle.inf_grammar.specs.declared.rules.Span.{Span}
+use Rattle.inf_grammar.specs.declared.rules.Row.{Row as CodeRow}
+use Rattle.inf_grammar.specs.declared.rules.Rule.{Rule as CodeRule}
+use Rattle.inf_grammar.specs.Grammar.{Row, has}
+use Rattle.inf_grammar.specs.Machine.{can_end}
+use Rattle.inf_grammar.specs.Decided.{beginning}
+use Rattle.inf_grammar.specs.Language.{grammar, known, rules}
+use Rattle.inf_grammar.specs.Classes.{classes}
+use Rattle.inf_grammar.specs.Facts.{beginnings, empties}
+
+-- a set as four numbers of 64 bits, the lowest first
+abbrev pub set_of : ℕ → Set
+set_of n = record { 0 = n % 2 ^ 64 ∷ n / 2 ^ 64 % 2 ^ 64 ∷ n / 2 ^ 128 % 2 ^ 64 ∷ n / 2 ^ 192 % 2 ^ 64 ∷ [] }
+
+abbrev pub span : ℕ → ℕ → Span
+span start size = record { start = start; end = start + size }
+
+unfoldable pub all_classes : List Set
+all_classes = map set_of classes
+
+-- the parts of some rows, those of a row from the last to the first
+abbrev pub parts_of : List Row → List Symbol
+parts_of [] = []
+parts_of (row ∷ rows) = reverse row.parts ++ parts_of rows
+
+abbrev pub parts_of_all : List (List Row) → List Symbol
+parts_of_all [] = []
+parts_of_all (rows ∷ rest) = parts_of rows ++ parts_of_all rest
+
+unfoldable pub all_parts : List Symbol
+all_parts = parts_of_all rules
+
+-- some rows, their parts beginning at a place
+abbrev pub rows_from : ℕ → List Row → List CodeRow
+rows_from place [] = []
+rows_from place (row ∷ rows) =
+    record { begins = set_of (beginning grammar known row.parts); parts = span place (length row.parts) } ∷ rows_from (place + length row.parts) rows
+
+abbrev pub rows_of_all : ℕ → List (List Row) → List CodeRow
+rows_of_all place [] = []
+rows_of_all place (rows ∷ rest) = rows_from place rows ++ rows_of_all (place + length (parts_of rows)) rest
+
+unfoldable pub all_rows : List CodeRow
+unfolding grammar known
+all_rows = rows_of_all 0 rules
+
+-- where the parts of the row that can be empty stand
+abbrev pub other_from : ℕ → List Row → Span
+other_from place [] = span 0 0
+other_from place (row ∷ rows) =
+    if can_end known row.parts then span place (length row.parts) else other_from (place + length row.parts) rows
+
+abbrev pub rules_from : ℕ → ℕ → List (List Row) → List ℕ → List Bool → List CodeRule
+rules_from first place [] _ _ = []
+rules_from first place (rows ∷ rest) [] _ = []
+rules_from first place (rows ∷ rest) (b ∷ bs) [] = []
+rules_from first place (rows ∷ rest) (b ∷ bs) (e ∷ es) =
+    record { begins = set_of b; is_empty = e; rows = span first (length rows); other = other_from place rows }
+    ∷ rules_from (first + length rows) (place + length (parts_of rows)) rest bs es
+
+unfoldable pub all_rules : List CodeRule
+unfolding grammar known
+all_rules = rules_from 0 0 rules beginnings empties
+
+-- Reading them
+
+-- numbers of 64 bits as one, the lowest first
+abbrev pub joined_words : List ℕ → ℕ
+joined_words [] = 0
+joined_words (w ∷ ws) = joined_words ws * 2 ^ 64 + w
+
+abbrev pub set_number : Set → ℕ
+set_number set = joined_words set.0
+
+-- the items of a span
+abbrev pub cut : {X : Type 0} → Span → List X → List X
+cut s xs = if nat_le s.start s.end && nat_le s.end (length xs) then take (s.end - s.start) (drop s.start xs) else []
+
+-- where the parts of the first row that an atom begins stand, or of another one
+abbrev pub found : ℕ → Span → List CodeRow → Span
+found atom other [] = other
+found atom other (row ∷ rows) = if has (set_number row.begins) atom then row.parts else found atom other rows

@@ -1,0 +1,71 @@
+-- Choices: tests, and the first of two things.
+use Rattle.std.proofs.Common.{◌≡◌, cond, ◌||◌, Bool, true, false, Option, None, Some, refl}
+use Rattle.std.specs.Prelude.{is_some}
+
+-- the first of two
+abbrev pub either : {A : Type 0} → Option A → Option A → Option A
+either (Some x) later = Some x
+either None later = later
+
+pub either-none : {A : Type 0} (o : Option A) → either o None ≡ o
+either-none None = refl
+either-none (Some x) = refl
+
+pub either-some : {A : Type 0} (o later other : Option A) → is_some o ≡ true → either o later ≡ either o other
+either-some None later other is = cc
+either-some (Some x) later other is = refl
+
+pub is_none : {A : Type 0} (o : Option A) → is_some o ≡ false → o ≡ None
+is_none None is = refl
+is_none (Some x) is = cc
+
+pub cond-again : {A : Type 0} (b : Bool) (x other more : A) → cond b x more ≡ cond b x (cond b other more)
+cond-again true x other more = refl
+cond-again false x other more = refl
+
+pub cond-swap : {A : Type 0} (a b : Bool) (x y z : A) → (a ≡ true → b ≡ true → ⊥) → cond a x (cond b y z) ≡ cond b y (cond a x z)
+cond-swap true true x y z apart = absurd (apart refl refl)
+cond-swap true false x y z apart = refl
+cond-swap false true x y z apart = refl
+cond-swap false false x y z apart = refl
+
+pub or-false : (b : Bool) → (b || false) ≡ b
+or-false true = refl
+or-false false = refl
+
+pub or-assoc : (a b c : Bool) → (a || (b || c)) ≡ ((a || b) || c)
+or-assoc true b c = refl
+or-assoc false b c = refl
+
+-- what is said already
+pub or-known : (a b : Bool) → (b ≡ true → a ≡ true) → a ≡ (a || b)
+or-known true b is = refl
+or-known false true is = is refl
+or-known false false is = refl
+
+pub or-swap : (a b c : Bool) → (a || (b || c)) ≡ ((b || a) || c)
+or-swap true true c = refl
+or-swap true false c = refl
+or-swap false true c = refl
+or-swap false false c = refl
+
+pub or-between : (a b c : Bool) → ((a || b) || c) ≡ ((a || c) || b)
+or-between true b c = refl
+or-between false true true = refl
+or-between false true false = refl
+or-between false false true = refl
+or-between false false false = refl
+
+-- one more to the second of two, or to the first
+pub or-second : (a b c : Bool) → ((a || b) || c) ≡ ((a || false) || (b || (c || false)))
+or-second true b c = refl
+or-second false true c = refl
+or-second false false true = refl
+or-second false false false = refl
+
+pub or-first : (a b c : Bool) → ((a || b) || c) ≡ ((a || (c || false)) || (b || false))
+or-first true b c = refl
+or-first false true true = refl
+or-first false true false = refl
+or-first false false true = refl
+or-first false false false = refl

@@ -1,0 +1,6 @@
+pub mod Choices
+pub mod SameNames
+pub mod UnusedLocals
+pub mod Findings
+pub mod NameEvents
+pub mod Skipping

@@ -1,0 +1,4 @@
+pub mod UnusedLocals
+pub mod Findings
+pub mod NameEvents
+pub mod Skipping

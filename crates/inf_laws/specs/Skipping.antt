@@ -1,0 +1,54 @@
+-- How a bad piece is skipped, said of the tokens behind its bad token.
+use Rattle.std.specs.Prelude.{◌≡◌, ◌<◌, ◌≤◌, ℕ, List, [], ◌∷◌, ◌++◌, length, take, true, not, ◌||◌}
+use Rattle.std.specs.List.{list_all}
+use Rattle.inf_token.specs.Spelling.{Spelled, is_end, is_mark}
+use Rattle.inf_token.specs.declared.spelling.Mark.{Mark}
+use Rattle.inf_token.specs.declared.spelling.Mark.TheVariants as mark
+use Rattle.inf_reader.specs.Reading.{State, taken}
+use Rattle.inf_reader.specs.declared.control.Control.{Control}
+use Rattle.inf_reader.specs.declared.control.Control.TheVariants as control
+
+-- what is read after these tokens were taken one after the other
+abbrev pub taken_all : List ℕ → List Spelled → State → State
+taken_all file [] s = s
+taken_all file (t ∷ tokens) s = taken_all file tokens (taken file t s)
+
+-- the same, but for where reading stands
+abbrev pub at : Control → State → State
+at c s = record s { control = c }
+
+-- none of these is this mark or the end of the source
+abbrev pub Lack : Mark → List Spelled → Type 0
+Lack m tokens = list_all (λ t. not (is_mark m t.kind || is_end t.kind)) tokens ≡ true
+
+-- Outside of a routine: reading stays where it is before the semicolon, and goes on behind it.
+pub record IsSkipped (file : List ℕ) (s : State) (tokens : List Spelled) : Type 0 where
+  pub stays : (n : ℕ) → n < length tokens → taken_all file (take n tokens) s ≡ s
+  pub ends : taken_all file tokens s ≡ at control.Between s
+
+abbrev pub DirectivesAreSkipped : Type 0
+DirectivesAreSkipped = (file : List ℕ) (s : State) (tokens : List Spelled) (semicolon : Spelled)
+    → s.control ≡ control.SkipDirective → Lack mark.Semicolon tokens → is_mark mark.Semicolon semicolon.kind ≡ true
+    → IsSkipped file s (tokens ++ semicolon ∷ [])
+
+-- In a routine: reading stays where it is before the closing bracket, which is so many tokens on, then before the semicolon,
+-- and goes on behind it.
+pub record IsRoutineSkipped (file : List ℕ) (s : State) (inside : ℕ) (tokens : List Spelled) : Type 0 where
+  pub stays : (n : ℕ) → n ≤ inside → taken_all file (take n tokens) s ≡ s
+  pub closes : (n : ℕ) → inside < n → n < length tokens → taken_all file (take n tokens) s ≡ at control.SkipDirective s
+  pub ends : taken_all file tokens s ≡ at control.Between s
+
+abbrev pub RoutinesAreSkipped : Type 0
+RoutinesAreSkipped = (file : List ℕ) (s : State) (inside : List Spelled) (bracket : Spelled) (behind : List Spelled) (semicolon : Spelled)
+    → s.control ≡ control.SkipRoutine
+    → Lack mark.CloseBracket inside → is_mark mark.CloseBracket bracket.kind ≡ true
+    → Lack mark.Semicolon behind → is_mark mark.Semicolon semicolon.kind ≡ true
+    → IsRoutineSkipped file s (length inside) (inside ++ bracket ∷ (behind ++ semicolon ∷ []))
+
+-- the end of the source ends both
+pub record EndsBoth (file : List ℕ) (t : Spelled) (s : State) : Type 0 where
+  pub in_routine : s.control ≡ control.SkipRoutine → taken file t s ≡ at control.Ended s
+  pub in_directive : s.control ≡ control.SkipDirective → taken file t s ≡ at control.Ended s
+
+abbrev pub SourcesEnd : Type 0
+SourcesEnd = (file : List ℕ) (t : Spelled) (s : State) → is_end t.kind ≡ true → EndsBoth file t s

@@ -1,0 +1,55 @@
+-- The warnings about the locals of a routine, said of the tokens of its statements.
+use Rattle.std.specs.Prelude.{◌≡◌, ℕ, List, [], ◌∷◌, filter, Bool, true, false, not, ⊤}
+use Rattle.std.specs.List.{list_any, list_all}
+use Rattle.std.specs.Str.{str_eq_ignore_ascii_case}
+use Rattle.inf_token.specs.Spelling.{Spelled}
+use Rattle.inf_symbol.specs.Messages.{Reported, UnusedLocal, with_warning}
+use Rattle.inf_symbol.specs.Locals.{Local, with_all_named, with_all_unused, with_locals, no_locals}
+
+-- some local has this name, in any case
+abbrev pub is_local : List ℕ → List Local → Bool
+is_local name locals = list_any (λ l. str_eq_ignore_ascii_case l.name name) locals
+
+-- no two of them have the same name, in any case
+abbrev pub AreDifferent : List Local → Type 0
+AreDifferent [] = ⊤
+AreDifferent (l ∷ locals) = (is_local l.name locals ≡ false) × AreDifferent locals
+
+abbrev pub AreUnnamed : List Local → Type 0
+AreUnnamed locals = list_all (λ l. not l.is_named) locals ≡ true
+
+-- the locals after these units, each of which has these tokens
+abbrev pub with_units : List (List Spelled) → List Local → List Local
+with_units [] locals = locals
+with_units (tokens ∷ units) locals = with_units units (with_all_named tokens locals)
+
+-- some token of some unit is this name, in any case
+abbrev pub is_named_by : List ℕ → List Spelled → Bool
+is_named_by name tokens = list_any (λ t. str_eq_ignore_ascii_case name t.bytes) tokens
+
+abbrev pub is_named_in : List ℕ → List (List Spelled) → Bool
+is_named_in name units = list_any (λ tokens. is_named_by name tokens) units
+
+-- the locals that no token of these units names, in order
+abbrev pub unused : List (List Spelled) → List Local → List Local
+unused units locals = filter (λ l. not (is_named_in l.name units)) locals
+
+-- a warning for each
+abbrev pub with_warnings : List ℕ → ℕ → List Local → Reported → Reported
+with_warnings file line [] r = r
+with_warnings file line (l ∷ locals) r = with_warnings file line locals (with_warning file line (UnusedLocal l.name) r)
+
+-- Where the names of a routine's locals differ, and none was named yet, the warnings after some units are those about the locals
+-- that no token of any unit names.
+abbrev pub UnusedAreWarned : Type 0
+UnusedAreWarned = (file : List ℕ) (line : ℕ) (units : List (List Spelled)) (locals : List Local) (r : Reported)
+    → AreDifferent locals → AreUnnamed locals
+    → with_all_unused file line (with_units units locals) r ≡ with_warnings file line (unused units locals) r
+
+-- The locals of every header are such.
+pub record AreNew (locals : List Local) : Type 0 where
+  pub different : AreDifferent locals
+  pub unnamed : AreUnnamed locals
+
+abbrev pub HeadersMakeNew : Type 0
+HeadersMakeNew = (tokens : List Spelled) → AreNew (with_locals tokens no_locals).locals

@@ -1,0 +1,41 @@
+//! What the definitions give together.
+ghost use Rattle.inf_laws.specs.Findings.{CallsTellTheFirst, HeadersTellTheFirst, ReturnsTellTheFirst};
+ghost use Rattle.inf_laws.specs.NameEvents.{FirstDeclarationsCount, HeadersDeclare, OperandsUse, UndeclaredAreTold};
+ghost use Rattle.inf_laws.specs.Skipping.{DirectivesAreSkipped, RoutinesAreSkipped, SourcesEnd};
+ghost use Rattle.inf_laws.specs.UnusedLocals.{HeadersMakeNew, UnusedAreWarned};
+
+/// Of all errors that its rules find, a call, a return and a header of a routine tell the first by
+/// place, and of two at one place the one whose message has the lower number.
+pub fn first_errors_are_told()
+    ensures calls { CallsTellTheFirst }
+    ensures returns { ReturnsTellTheFirst }
+    ensures headers { HeadersTellTheFirst }
+{}
+
+/// A name that is used and never declared is told once, at its first use, in the order of these.
+pub fn undeclared_names_are_told_once()
+    ensures { UndeclaredAreTold }
+{}
+
+/// What a name stands for is its first declaration, whatever else is declared and used. Headers
+/// declare names and operands use them.
+pub fn first_declarations_count()
+    ensures count { FirstDeclarationsCount }
+    ensures headers { HeadersDeclare }
+    ensures operands { OperandsUse }
+{}
+
+/// The warnings at the end of a routine are about the locals that no token of a statement names, in
+/// order. The locals of each header are such that this speaks of them.
+pub fn unused_locals_are_warned()
+    ensures warned { UnusedAreWarned }
+    ensures headers { HeadersMakeNew }
+{}
+
+/// A bad piece ends behind the first semicolon, in a routine behind the first one after the next
+/// closing bracket, or with the source, and nothing else of what was read changes.
+pub fn bad_pieces_are_skipped()
+    ensures directives { DirectivesAreSkipped }
+    ensures routines { RoutinesAreSkipped }
+    ensures sources { SourcesEnd }
+{}

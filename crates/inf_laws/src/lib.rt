@@ -1,0 +1,10 @@
+//! What the definitions of the language mean, in the language's own words. Each function carries a law
+//! as its clauses, and does nothing.
+#![tactic(auto)]
+
+mod laws;
+
+pub use laws::{
+    bad_pieces_are_skipped, first_declarations_count, first_errors_are_told,
+    undeclared_names_are_told_once, unused_locals_are_warned,
+};

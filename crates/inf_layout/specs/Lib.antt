@@ -1,0 +1,5 @@
+pub mod Code
+pub mod Areas
+pub mod Story
+pub mod Fixed
+pub mod StoryLaws

@@ -1,0 +1,9 @@
+//! The story: finished routines with the places of numbers that are known later, the areas of a story,
+//! and its header (Z-Machine Standard 1.1, sections 1 and 11).
+#![tactic(auto)]
+
+pub mod code;
+mod laws;
+pub mod layout;
+
+pub use laws::stories_tell_themselves;

@@ -1,0 +1,111 @@
+ghost use Rattle.std.specs.Prelude.{◌≡◌, OnOk, IfOk, IfSome, Some, Ok, Err, is_some};
+ghost use Rattle.inf_reader.specs.Reading.{is_fit_name, is_operand, is_word, one_word, complaint_of, text_fault_of, is_fit_text_kind, characters};
+ghost use Rattle.inf_token.specs.Spelling.{is_mark, is_end};
+ghost use Rattle.inf_token.specs.Tokens.{spelled};
+ghost use Rattle.inf_symbol.specs.Reports.{meant};
+
+use crate::control::Statement;
+use inf_symbol::messages::Message;
+use inf_symbol::names::is_condition_word;
+use inf_text::{CharSet, Mode, Text, TextFault, read_text};
+use inf_token::spelling::{Mark, Token, TokenKind};
+use std::alloc::{AllocError, Global};
+
+/// The longest name that the language has.
+const LONGEST_NAME: usize = 32;
+
+pub fn is_mark(kind: TokenKind, mark: Mark) -> bool
+    ensures { result ≡ is_mark mark kind }
+{
+    match kind {
+        TokenKind::Mark(found) => found == mark,
+        _ => false,
+    }
+}
+
+pub fn is_end(kind: TokenKind) -> bool
+    ensures { result ≡ is_end kind }
+{
+    matches!(kind, TokenKind::End)
+}
+
+pub fn is_fit_name(token: Token<'_>) -> bool
+    ensures { result ≡ is_fit_name (spelled token.entry) }
+{
+    matches!(token.kind, TokenKind::Name) && token.bytes.len() <= LONGEST_NAME
+}
+
+/// Whether a token is a name that may stand for a routine or a local variable in a statement.
+pub fn is_operand(token: Token<'_>) -> bool
+    ensures { result ≡ is_operand (spelled token.entry) }
+{
+    is_fit_name(token) && !is_condition_word(token.bytes)
+}
+
+/// Whether a token is a word of the language, in any case.
+pub fn is_word(token: Token<'_>, word: &[u8]) -> bool
+    ensures { result ≡ is_word word.now (spelled token.entry) }
+{
+    matches!(token.kind, TokenKind::Name) && token.bytes.eq_ignore_ascii_case(word)
+}
+
+/// The statement that is one word.
+pub fn one_word(token: Token<'_>) -> Option<Statement>
+    ensures { result ≡ one_word (spelled token.entry) }
+{
+    if is_word(token, b"new_line") {
+        Some(Statement::NewLine)
+    } else if is_word(token, b"quit") {
+        Some(Statement::Quit)
+    } else if is_word(token, b"rtrue") {
+        Some(Statement::ReturnTrue)
+    } else if is_word(token, b"rfalse") {
+        Some(Statement::ReturnFalse)
+    } else {
+        None
+    }
+}
+
+/// The message of a fault of a text by itself, or want of memory.
+fn text_message(fault: TextFault) -> Result<Message<'static>, AllocError>
+    ensures { IfOk result (λ m. Some (meant m) ≡ text_fault_of (Err fault)) }
+{
+    match fault {
+        TextFault::UnknownEscape => Ok(Message::UnknownEscape),
+        TextFault::NoZscii => Ok(Message::NoZscii),
+        TextFault::BadCode => Ok(Message::NumberOutOfRange),
+        TextFault::Memory => Err(AllocError),
+    }
+}
+
+/// The message of the bad token of a piece: its own fault, or that it fits nowhere.
+pub fn complaint_of<'t>(alloc: Global, token: Token<'t>) -> Result<Message<'t>, AllocError>
+    ensures { IfOk result (λ m. meant m ≡ complaint_of (spelled token.entry)) }
+{
+    match token.kind {
+        TokenKind::Name if token.bytes.len() > LONGEST_NAME => Ok(Message::LongName),
+        TokenKind::Text => match read_text(alloc, token.bytes, CharSet::Latin1, Mode::Text) {
+            Ok(_) => Ok(Message::Syntax(token)),
+            Err(fault) => text_message(fault),
+        },
+        TokenKind::UnclosedText => Ok(Message::UnclosedQuote),
+        TokenKind::Unfit => Ok(Message::IllegalCharacter),
+        TokenKind::Name | TokenKind::Mark(_) | TokenKind::End => Ok(Message::Syntax(token)),
+    }
+}
+
+/// The characters of a token, where it is a text with no fault.
+pub fn text_of(alloc: Global, token: Token<'_>) -> Result<Option<Text>, AllocError>
+    ensures some { IfOk result (λ o. IfSome o (λ text. characters token.entry.bytes.now ≡ Ok text)) }
+    ensures fit { IfOk result (λ o.
+        is_some o ≡ is_fit_text_kind token.entry.kind (characters token.entry.bytes.now)) }
+{
+    if !matches!(token.kind, TokenKind::Text) {
+        return Ok(None);
+    }
+    match read_text(alloc, token.bytes, CharSet::Latin1, Mode::Text) {
+        Ok(text) => Ok(Some(text)),
+        Err(TextFault::Memory) => Err(AllocError),
+        Err(TextFault::UnknownEscape | TextFault::NoZscii | TextFault::BadCode) => Ok(None),
+    }
+}

@@ -1,0 +1,4 @@
+pub mod NameLemmas
+pub mod TakenBytes
+pub mod LocalLemmas
+pub mod Places

@@ -1,0 +1,9 @@
+pub mod Sinks
+pub mod Messages
+pub mod Reports
+pub mod Reported
+pub mod Names
+pub mod NameMap
+pub mod Locals
+pub mod LocalList
+pub mod MemorySink

@@ -1,0 +1,16 @@
+-- What the code's locals stand for.
+use Rattle.std.specs.Prelude.{List, map, option_map}
+use Rattle.inf_symbol.specs.Locals.{Local, Headed}
+use Rattle.inf_symbol.specs.declared.locals.Local.{Local as CodeLocal}
+use Rattle.inf_symbol.specs.declared.locals.Locals.{Locals}
+use Rattle.inf_symbol.specs.declared.locals.Headed.{Headed as CodeHeaded}
+use Rattle.inf_symbol.specs.Reports.{blamed}
+
+abbrev pub local : CodeLocal → Local
+local l = record { name = l.name.now; line = l.line; is_named = l.is_named }
+
+abbrev pub listed : Locals → List Local
+listed locals = map local locals.list.items
+
+abbrev pub headed : CodeHeaded → Headed
+headed h = record { locals = listed h.locals; repeated = option_map blamed h.repeated; are_too_many = h.are_too_many }

@@ -1,0 +1,29 @@
+-- What the code's messages and its report stand for.
+use Rattle.inf_symbol.specs.Messages.{Message, Syntax, IllegalCharacter, UnclosedQuote, NumberOutOfRange, UnknownEscape, LongName, NoZscii, Declared, SystemName, WrongKind, Undeclared, TooManyArguments, TooManyLocals, UnusedLocal, NoMain, TooManyErrors, StoryTooLong, NoFile, Blame}
+use Rattle.inf_token.specs.Tokens.{spelled}
+use Rattle.inf_symbol.specs.declared.messages.Message.{Message as CodeMessage}
+use Rattle.inf_symbol.specs.declared.messages.Message.TheVariants as code
+use Rattle.inf_symbol.specs.declared.messages.Blame.{Blame as CodeBlame}
+
+abbrev pub meant : CodeMessage → Message
+meant (code.Syntax t) = Syntax (spelled t)
+meant code.IllegalCharacter = IllegalCharacter
+meant code.UnclosedQuote = UnclosedQuote
+meant code.NumberOutOfRange = NumberOutOfRange
+meant code.UnknownEscape = UnknownEscape
+meant code.LongName = LongName
+meant code.NoZscii = NoZscii
+meant (code.Declared name line) = Declared name.now line
+meant (code.SystemName name) = SystemName name.now
+meant (code.WrongKind t) = WrongKind (spelled t)
+meant (code.Undeclared name) = Undeclared name.now
+meant code.TooManyArguments = TooManyArguments
+meant code.TooManyLocals = TooManyLocals
+meant (code.UnusedLocal name) = UnusedLocal name.now
+meant code.NoMain = NoMain
+meant code.TooManyErrors = TooManyErrors
+meant code.StoryTooLong = StoryTooLong
+meant code.NoFile = NoFile
+
+abbrev pub blamed : CodeBlame → Blame
+blamed b = record { line = b.line; message = meant b.message }

@@ -1,0 +1,4 @@
+pub mod Examples
+pub mod Joining
+pub mod Plainly
+pub mod Spelled

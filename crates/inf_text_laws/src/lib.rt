@@ -1,0 +1,10 @@
+//! What the definitions of texts give together. Each function carries a law as its clause, and does
+//! nothing.
+#![tactic(auto)]
+
+mod laws;
+
+pub use laws::{
+    abbreviations_cut_texts, accents_are_spelled, codes_come_back, joined_texts_are_read_joined,
+    packed_texts_unpack, plain_texts_are_their_bytes,
+};

@@ -1,0 +1,10 @@
+//! Tests of the crate of texts: worked sources, both character sets, the limits, and each call that
+//! takes memory.
+#![tactic(auto)]
+
+#[cfg(test)]
+mod abbreviations;
+#[cfg(test)]
+mod limits;
+#[cfg(test)]
+mod sources;

@@ -1,0 +1,170 @@
+//! The texts of worked sources, and a call of each public function that takes memory.
+use inf_text::{
+    AbbrevFault, Abbreviations, CharSet, Mode, TextFault, TextItem, Zscii, dict_word, pack,
+    packed_len, read_text, source_char,
+};
+use std::test::Fail;
+
+/// Texts of printed strings, and their bytes in a story that an interpreter prints.
+const PRINTED: [(&[u8], CharSet, &[u8]); 6] = [
+    (b"", CharSet::Ascii, b"\x94\xa5"),
+    (b"hello", CharSet::Ascii, b"\x35\x51\xc6\x85"),
+    (
+        b"The QUICK fox; 100% & more: it's {ok} [x] <y> |z| $5 +a=b *",
+        CharSet::Ascii,
+        b"\x13\x2d\x28\x04\x58\x9a\x11\xc4\x20\x90\x01\x74\x74\xa6\x07\x60\x15\x25\x20\xa8\x14\xc1\x14\x05\x18\x26\x02\x54\x5d\x45\x74\x0e\x64\xb8\x60\x05\x18\x7b\x52\x05\x18\x7d\x00\xa6\x0b\x7d\x14\xc2\x74\x05\x18\x3c\x78\xa6\x07\xc0\x14\xc3\x73\xe5\x18\x7c\x00\xa6\x04\x85\x34\x05\x18\x2b\x18\xa6\x07\xa7\x00\xa6\x85\x45",
+    ),
+    (
+        b"@:a@:o@:u@:A@:O@:U@:e@:i@:y@:E@:I@'a@'e@'i@'o@'u@'y@'A@'E@'I@'O@'U@'Y@`a@`e@`i@`o@`u@`A@`E@`I@`O@`U@^a@^e@^i@^o@^u@^A@^E@^I@^O@^U@~a@~n@~o@~A@~N@~O@\\o@\\O@/o@/O@oa@oA@cc@cC@ss@>>@<<@ae@AE@oe@OE@th@et@Th@Et@LL@!!@??",
+        CharSet::Ascii,
+        b"\x14\xc4\x6c\xa6\x13\x85\x18\x9d\x14\xc4\x78\xa6\x13\xe5\x18\xa0\x14\xc5\x10\xa6\x14\xa5\x18\xa6\x14\xc5\x1c\xa6\x15\x05\x18\xa9\x14\xc5\x28\xa6\x15\x65\x18\xac\x14\xc5\x34\xa6\x15\xc5\x18\xaf\x14\xc5\x40\xa6\x16\x25\x18\xb2\x14\xc5\x4c\xa6\x16\x85\x18\xb5\x14\xc5\x58\xa6\x16\xe5\x18\xb8\x14\xc5\x64\xa6\x17\x45\x18\xbb\x14\xc5\x70\xa6\x17\xa5\x18\xbe\x14\xc5\x7c\xa6\x18\x05\x18\xc1\x14\xc6\x08\xa6\x18\x65\x18\xc4\x14\xc6\x14\xa6\x18\xc5\x18\xc7\x14\xc6\x20\xa6\x19\xa5\x18\xce\x14\xc6\x3c\xa6\x1a\x05\x18\xd1\x14\xc6\x48\xa6\x19\x65\x18\xcc\x14\xc6\x2c\xa6\x19\x85\x18\xc9\x14\xc6\x28\xa6\x1a\xa5\x18\xd6\x14\xc5\x04\xa6\x14\x45\x18\xa3\x14\xc6\x4c\xa6\x1a\x85\x18\xdc\x14\xc6\x74\xa6\x1a\xe5\x18\xd8\x14\xc6\x64\xa6\x1b\x45\x18\xdb\x14\xc6\x78\xa6\x9b\xe5",
+    ),
+    (
+        b"a \t b\x0c c  \n   d^\n   e\\\n   f @@13\n g",
+        CharSet::Ascii,
+        b"\x18\x00\x00\xe0\x01\x00\x24\xa7\x29\x60\x14\xe0\xb0\xa5",
+    ),
+    (
+        b"\xe4\xf6\xfc \xdf \xa3\xff",
+        CharSet::Latin1,
+        b"\x14\xc4\x6c\xa6\x13\x85\x18\x9d\x00\xa6\x14\x20\x14\xc6\x6c\xa6\x94\xc5",
+    ),
+];
+
+/// The bytes of three times a sentence of 44 letters and spaces.
+const THRICE: &[u8; 88] =
+    b"\x65\xaa\x02\xda\x39\x10\x00\xf7\x53\x93\x01\x74\x74\x0f\x6a\x55\x60\x14\x6d\x57\x03\x2d\x28\x11\x1b\xfe\x01\x34\x30\x19\x35\x40\x5b\x4e\x22\x00\x1e\xf4\x72\x60\x2e\x9d\x01\xfa\x4a\xb8\x02\x9b\x2a\xe0\x65\xaa\x02\x26\x7f\xc0\x26\x8c\x03\x2d\x28\x16\x69\xc8\x40\x07\x5e\x9c\x4c\x0b\x53\xa0\x3f\x52\x57\x00\x53\x6a\x5c\x19\x35\x40\x44\xdf\x78\x09\x51\x80";
+
+#[test]
+fn packs_printed_texts(rt: HostRuntime) -> Result<(), Fail> {
+    for (source, set, bytes) in PRINTED {
+        let text = read_text(rt.alloc(), source, set, Mode::Text)?;
+        let packed = pack(rt.alloc(), &text, None)?;
+        assert_eq!(rt; packed.as_slice(), bytes);
+        assert_eq!(rt; packed_len(&text, None), bytes.len());
+    }
+    Ok(())
+}
+
+#[test]
+fn packs_a_long_text(rt: HostRuntime) -> Result<(), Fail> {
+    let mut source = Vec::new(rt.alloc());
+    let mut bytes = Vec::new(rt.alloc());
+    for _ in 0..20 {
+        for _ in 0..3 {
+            source.extend_from_slice(b"the quick brown fox jumps over the lazy dog ")?;
+        }
+        bytes.extend_from_slice(THRICE)?;
+    }
+    let text = read_text(rt.alloc(), source.as_slice(), CharSet::Ascii, Mode::Text)?;
+    let packed = pack(rt.alloc(), &text, None)?;
+    assert_eq!(rt; bytes.len(), 1760);
+    let last = bytes.len() - 2;
+    bytes[last] |= 0x80;
+    assert_eq!(rt; packed.as_slice(), bytes.as_slice());
+    Ok(())
+}
+
+#[test]
+fn spells_dictionary_words(rt: HostRuntime) -> Result<(), Fail> {
+    let words: [(&[u8], [u8; 6]); 3] = [
+        (b"take", [0x64, 0xd0, 0x28, 0xa5, 0x94, 0xa5]),
+        (b"t", [0x64, 0xa5, 0x14, 0xa5, 0x94, 0xa5]),
+        (b"abcdefg@ss", [0x18, 0xe8, 0x25, 0x4b, 0xb0, 0xa6]),
+    ];
+    for (source, bytes) in words {
+        let text = read_text(rt.alloc(), source, CharSet::Ascii, Mode::Quote)?;
+        assert_eq!(rt; dict_word(&text), bytes);
+    }
+    Ok(())
+}
+
+#[test]
+fn takes_the_longest_abbreviation(rt: HostRuntime) -> Result<(), Fail> {
+    let mut abbreviations = Abbreviations::new(rt.alloc());
+    for (source, number) in [(&b"the "[..], 0), (&b"the lamp"[..], 1)] {
+        let text = read_text(rt.alloc(), source, CharSet::Ascii, Mode::Abbreviation)?;
+        assert_eq!(rt; abbreviations.declare(&text)?, number);
+        assert_eq!(rt; abbreviations.declare(&text), Err(AbbrevFault::Repeated));
+    }
+    let text = read_text(rt.alloc(), b"the lamps", CharSet::Ascii, Mode::Text)?;
+    let short = pack(rt.alloc(), &text, Some(&abbreviations))?;
+    assert_eq!(rt; short.as_slice(), [0x88, 0x38].as_slice());
+    assert_eq!(rt; packed_len(&text, Some(&abbreviations)), 2);
+    let plain = pack(rt.alloc(), &text, None)?;
+    assert_eq!(rt;
+        plain.as_slice(),
+        [0x65, 0xaa, 0x02, 0x26, 0xca, 0xb8].as_slice()
+    );
+    Ok(())
+}
+
+#[test]
+fn tells_the_first_fault(rt: HostRuntime) {
+    let texts: [(&[u8], CharSet, TextFault); 7] = [
+        (b"@@154", CharSet::Ascii, TextFault::BadCode),
+        (b"@{20ac}", CharSet::Ascii, TextFault::NoZscii),
+        (b"@q", CharSet::Ascii, TextFault::UnknownEscape),
+        (b"@32", CharSet::Ascii, TextFault::BadCode),
+        (b"a@", CharSet::Ascii, TextFault::UnknownEscape),
+        (
+            b"@@65@@13@@155@@223@{e4}@{20ac",
+            CharSet::Ascii,
+            TextFault::UnknownEscape,
+        ),
+        (b"\xe4\xf6\xfc", CharSet::Ascii, TextFault::NoZscii),
+    ];
+    for (source, set, fault) in texts {
+        match read_text(rt.alloc(), source, set, Mode::Text) {
+            Ok(_) => assert!(rt; false, "read"),
+            Err(told) => assert_eq!(rt; told, fault),
+        }
+    }
+}
+
+/// The code of a character, or 256 and the number of a string variable.
+fn number_of(item: TextItem) -> u16 {
+    match item {
+        TextItem::Character(character) => u16::from(character.code()),
+        TextItem::Variable(number) => 256 + u16::from(number),
+    }
+}
+
+#[test]
+fn keeps_string_variables(rt: HostRuntime) -> Result<(), Fail> {
+    let text = read_text(rt.alloc(), b"a@31~^", CharSet::Ascii, Mode::Text)?;
+    let mut numbers = Vec::new(rt.alloc());
+    for item in text.as_slice() {
+        numbers.push(number_of(*item))?;
+    }
+    assert_eq!(rt; numbers.as_slice(), [97, 256 + 31, 34, 13].as_slice());
+    Ok(())
+}
+
+/// The code of a byte.
+fn code(byte: u8, set: CharSet) -> Option<u8> {
+    source_char(byte, set).map(Zscii::code)
+}
+
+#[test]
+fn knows_both_character_sets(rt: HostRuntime) {
+    assert_eq!(rt; code(b'\t', CharSet::Ascii), Some(b' '));
+    assert_eq!(rt; code(0xa0, CharSet::Latin1), Some(b' '));
+    assert_eq!(rt; code(0xa0, CharSet::Ascii), None);
+    assert_eq!(rt; code(0xe4, CharSet::Latin1), Some(155));
+    assert_eq!(rt; code(0xbf, CharSet::Latin1), Some(223));
+    assert_eq!(rt; code(0x7f, CharSet::Latin1), None);
+}
+
+#[test]
+fn knows_the_codes(rt: HostRuntime) {
+    for number in [13, 32, 126, 155, 223] {
+        assert_eq!(rt;
+            Zscii::new(number).map(Zscii::code).map(u32::from),
+            Some(number)
+        );
+    }
+    for number in [0, 12, 14, 31, 127, 154, 224, 256 + 65] {
+        assert_eq!(rt; Zscii::new(number).map(Zscii::code), None);
+    }
+}

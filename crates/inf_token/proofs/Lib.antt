@@ -1,0 +1,4 @@
+pub mod Progress
+pub mod OpeningLemmas
+pub mod SpellingLemmas
+pub mod SpellingLaws

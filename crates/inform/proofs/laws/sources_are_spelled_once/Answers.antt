@@ -1,5 +1,0 @@
-use Rattle.inform.proofs.SpellingLaws.{sources_are_spelled_once}
-use Rattle.inform.proofs.laws.sources_are_spelled_once.Goals as goal
-
-pub returns : goal.returns
-returns c = sources_are_spelled_once

@@ -1,0 +1,258 @@
+ghost use Rattle.std.specs.Prelude.{None, [], false, if◌then◌else◌};
+
+use inf_compile::command_line::CommandLine;
+use inf_compile::compile::{Fault, compile};
+use inf_reader::outcome::Status;
+use inf_symbol::memory_sink::MemorySink;
+use inf_symbol::sinks::{Sink, SinkFault};
+use inf_token::failures::Failures;
+use inf_token::files::{Files, OpenFault, ReadFault};
+use inf_token::given_bytes::GivenBytes;
+use inf_token::memory_files::MemoryFiles;
+use std::alloc::Global;
+use std::collections::BTreeMap;
+use std::process::Abort;
+use std::test::Fail;
+
+const DATE: [u8; 6] = *b"260307";
+
+const GREETING: &[u8] = b"[ Main; print \"hello\"; ];";
+
+const GREETING_SIZES: [u8; 4] = [0x00, 0xF4, 0x1E, 0x6D];
+
+/// The code of the greeting.
+const GREETING_CODE: &[u8] = b"\x00\x8F\x00\xF2\xBA\x00\x00\x00\x00\xB2\x35\x51\xC6\x85\xB0\x00";
+
+/// Takes at most so many bytes a write, and fails once it took so many in all.
+#[derive(Drop)]
+struct Narrow {
+    whole: MemorySink,
+    most: usize,
+    room: usize,
+    failures: Failures,
+}
+
+impl Narrow {
+    fn new(alloc: Global, most: usize, room: usize) -> Narrow {
+        Narrow {
+            whole: MemorySink::new(alloc),
+            most,
+            room,
+            failures: Failures::none(),
+        }
+    }
+}
+
+impl Sink for Narrow {
+    ghost taken = { λ _. None };
+
+    ghost failures = { λ s. s.failures };
+
+    fn write(&mut self, bytes: &[u8]) -> Result<usize, SinkFault> {
+        let count = bytes.len().min(self.most).min(self.room);
+        if count == 0 || self.whole.write(&bytes[..count]).is_err() {
+            self.failures.add();
+            return Err(SinkFault::Device);
+        }
+        self.room -= count;
+        Ok(count)
+    }
+}
+
+/// Gives these bytes one a read, and fails in place of the end. It may refuse to open.
+#[derive(Drop)]
+struct Failing {
+    opens: bool,
+    rest: &'static [u8],
+    is_open: bool,
+    failures: Failures,
+    given: GivenBytes,
+}
+
+impl Files for Failing {
+    ghost faults = { λ f. f.failures };
+
+    ghost given = { λ f. f.given };
+
+    ghost is_honest = { λ _. false };
+
+    ghost sources = { λ _ _. None };
+
+    ghost openings = { λ _. record { all = []; open_places = [] } };
+
+    ghost depth = { λ f. if f.is_open then 1 else 0 };
+
+    fn open(&mut self, _name: &str) -> Result<(), OpenFault> {
+        if self.is_open || !self.opens {
+            self.failures.add();
+            return Err(OpenFault::Device);
+        }
+        self.is_open = true;
+        Ok(())
+    }
+
+    fn read(&mut self, to: &mut [u8]) -> Result<usize, ReadFault> {
+        let Some((first, rest)) = self.rest.split_first() else {
+            self.failures.add();
+            return Err(ReadFault::Device);
+        };
+        to[0] = *first;
+        self.rest = rest;
+        self.given.add(1);
+        Ok(1)
+    }
+
+    fn close(&mut self) {
+        self.is_open = false;
+    }
+}
+
+/// A folder with the source `t.inf`.
+fn folder(alloc: Global, source: &[u8]) -> Result<MemoryFiles, Fail> {
+    let mut sources = BTreeMap::new(alloc);
+    sources.insert(
+        String::from_str(alloc, "t.inf")?,
+        Vec::from_slice(alloc, source)?,
+    )?;
+    Ok(MemoryFiles::new(alloc, sources))
+}
+
+/// Compiles `t.inf`.
+fn run<F: Files, M: Sink, S: Sink>(
+    alloc: Global,
+    files: &mut F,
+    messages: &mut M,
+    story: &mut S,
+) -> Result<Result<Status, Fault>, Fail> {
+    let options = CommandLine::read(&["t.inf"])?;
+    Ok(compile(alloc, &options, DATE, files, messages, story))
+}
+
+/// Compiles a source, asserts its status and all its messages, and that there is a story only
+/// where there is no error. Gives the story.
+fn story_of(
+    rt: &impl Abort,
+    alloc: Global,
+    source: &[u8],
+    status: Status,
+    lines: &str,
+) -> Result<MemorySink, Fail> {
+    let mut messages = MemorySink::new(alloc);
+    let mut story = MemorySink::new(alloc);
+    let mut files = folder(alloc, source)?;
+    let ended = run(alloc, &mut files, &mut messages, &mut story)??;
+    assert_eq!(rt; messages.bytes(), lines.as_bytes(), "{lines:?}");
+    assert_eq!(rt; ended, status, "{lines:?}");
+    let has_story = !story.bytes().is_empty();
+    assert_eq!(rt; has_story, status == Status::Success, "{lines:?}");
+    Ok(story)
+}
+
+/// A story with this length and checksum, and this code.
+fn story_with<'a>(alloc: Global, sizes: &'a [u8], code: &'a [u8]) -> Result<Vec<u8>, Fail> {
+    let pieces: [(&[u8], usize); 20] = [
+        (b"\x05\x00\x00\x01\x03\xC0\x03\xC1\x03\xB8", 1),
+        (b"\x01\x02\x01\xD8\x03\xB8\x00\x00260307\x00\x42", 1),
+        (sizes, 1),
+        (b"\x00", 34),
+        (b"\x80\x00", 1),
+        (b"\x00\x20", 96),
+        (b"\x00", 126 + 12),
+        (b"\x01\xB8", 1),
+        (b"\x00", 12),
+        (b"\x01\xBE", 1),
+        (b"\x00", 12),
+        (b"\x01\xC6", 1),
+        (b"\x00", 12),
+        (b"\x01\xCE\x02\x11\x11\x9B\x18\x00", 1),
+        (b"\x03\x12\x87\x3D\x48\xE4\xA5\x00", 1),
+        (b"\x03\x12\xF4\x6B\x2E\xCD\x45\x00", 1),
+        (b"\x03\x13\x19\x5D\xD3\xB0\xA5\x00", 1),
+        (b"\x00", 482),
+        (b"\x03.,\"\x09\x00\x00\x00", 1),
+        (code, 1),
+    ];
+    let mut story = Vec::new(alloc);
+    for (bytes, count) in pieces {
+        story.extend_from_slice(bytes.repeat(alloc, count)?.as_slice())?;
+    }
+    Ok(story)
+}
+
+#[test]
+fn a_story_is_given_byte_for_byte(rt: HostRuntime) -> Result<(), Fail> {
+    let lines = "Errors: 0, warnings: 0\n";
+    let story = story_of(&rt, rt.alloc(), GREETING, Status::Success, lines)?;
+    let expected = story_with(rt.alloc(), &GREETING_SIZES, GREETING_CODE)?;
+    assert_eq!(rt; expected.len(), 976);
+    assert_eq!(rt; story.bytes(), expected.as_slice());
+    Ok(())
+}
+
+#[test]
+fn a_source_that_is_not_there_is_a_fatal_error(rt: HostRuntime) -> Result<(), Fail> {
+    let mut files = MemoryFiles::new(rt.alloc(), BTreeMap::new(rt.alloc()));
+    let mut messages = MemorySink::new(rt.alloc());
+    let mut story = MemorySink::new(rt.alloc());
+    let status = run(rt.alloc(), &mut files, &mut messages, &mut story)??;
+    assert_eq!(rt; status, Status::Errors);
+    let lines = b"t.inf(1): Fatal error: No file \"t.inf\"\n".as_slice();
+    assert_eq!(rt; messages.bytes(), lines);
+    assert!(rt; story.bytes().is_empty());
+    Ok(())
+}
+
+#[test]
+fn a_story_is_whole_where_its_sink_takes_one_byte_a_write(rt: HostRuntime) -> Result<(), Fail> {
+    let mut files = folder(rt.alloc(), GREETING)?;
+    let mut messages = MemorySink::new(rt.alloc());
+    let mut story = Narrow::new(rt.alloc(), 1, usize::MAX);
+    let status = run(rt.alloc(), &mut files, &mut messages, &mut story)??;
+    assert_eq!(rt; status, Status::Success);
+    let expected = story_with(rt.alloc(), &GREETING_SIZES, GREETING_CODE)?;
+    assert_eq!(rt; story.whole.bytes(), expected.as_slice());
+    Ok(())
+}
+
+#[test]
+fn a_failed_write_ends_a_compilation(rt: HostRuntime) -> Result<(), Fail> {
+    let mut files = folder(rt.alloc(), b"")?;
+    let mut narrow = Narrow::new(rt.alloc(), 4096, 10);
+    let mut story = MemorySink::new(rt.alloc());
+    let result = run(rt.alloc(), &mut files, &mut narrow, &mut story)?;
+    assert!(rt; matches!(&result, Err(Fault::Messages)));
+    assert_eq!(rt; narrow.whole.bytes(), b"t.inf(1): ".as_slice());
+    assert!(rt; story.bytes().is_empty());
+
+    let mut files = folder(rt.alloc(), GREETING)?;
+    let mut messages = MemorySink::new(rt.alloc());
+    let mut narrow = Narrow::new(rt.alloc(), 64, 100);
+    let result = run(rt.alloc(), &mut files, &mut messages, &mut narrow)?;
+    assert!(rt; matches!(&result, Err(Fault::Story(100))));
+    assert_eq!(rt; messages.bytes(), b"Errors: 0, warnings: 0\n".as_slice());
+    let mut expected = story_with(rt.alloc(), &GREETING_SIZES, GREETING_CODE)?;
+    expected.truncate(100);
+    assert_eq!(rt; narrow.whole.bytes(), expected.as_slice());
+    Ok(())
+}
+
+#[test]
+fn a_failed_read_is_not_the_end_of_a_source(rt: HostRuntime) -> Result<(), Fail> {
+    for (opens, rest) in [(false, GREETING), (true, GREETING), (true, b"")] {
+        let mut files = Failing {
+            opens,
+            rest,
+            is_open: false,
+            failures: Failures::none(),
+            given: GivenBytes::none(),
+        };
+        let mut messages = MemorySink::new(rt.alloc());
+        let mut story = MemorySink::new(rt.alloc());
+        let result = run(rt.alloc(), &mut files, &mut messages, &mut story)?;
+        assert!(rt; matches!(&result, Err(Fault::Read(name)) if name.as_str() == "t.inf"));
+        assert!(rt; messages.bytes().is_empty());
+        assert!(rt; story.bytes().is_empty());
+        assert!(rt; !files.is_open);
+    }
+    Ok(())
+}

@@ -1,0 +1,5 @@
+//! Tests of the compiler, over files and devices in memory.
+#![tactic(auto)]
+
+#[cfg(test)]
+mod compile;

@@ -1,0 +1,479 @@
+"""Makes the tables of the grammar from its page, docs/grammar.txt.
+
+    python3 tools/grammar.py            writes the tables into crates/inf_grammar
+    python3 tools/grammar.py check      tells which of them are not what the page says
+
+The page has classes of tokens and rules (its head explains the notation). Made of it are:
+
+    specs/Words.antt     the words of the grammar
+    specs/Classes.antt   the classes, as sets of atoms
+    specs/Parts.antt     a name for each part of a row
+    specs/Table*.antt    the rows, rule by rule
+    specs/Facts.antt     what begins and follows each rule, whether it can be empty, and how many steps lead through it
+    src/words.rt, src/table.rt     the same for the program
+
+Nobody has to trust this script: that the program's tables are those of specs/, and that the facts hold of the rows, is proved.
+"""
+
+import os
+import re
+import sys
+
+HERE = os.path.dirname(os.path.dirname(os.path.abspath(__file__)))
+CRATE = os.path.join(HERE, "crates", "inf_grammar")
+
+MARKS = {
+    "->": "Arrow", "-->": "LongArrow", "-": "Minus", "--": "Decrement", "+": "Plus", "++": "Increment",
+    "*": "Star", "/": "Slash", "%": "Percent", "&": "And", "&&": "LogicalAnd", "|": "Or",
+    "||": "LogicalOr", "~": "Tilde", "~~": "LogicalNot", "~=": "NotEqual", "=": "Assign", "==": "Equal",
+    ">": "Greater", ">=": "GreaterOrEqual", "<": "Less", "<=": "LessOrEqual", "<<": "OpenAngles",
+    ">>": "CloseAngles", ",": "Comma", ";": "Semicolon", ":": "Colon", "(": "OpenParenthesis",
+    ")": "CloseParenthesis", "[": "OpenBracket", "]": "CloseBracket", "{": "OpenBrace", "}": "CloseBrace",
+    ".": "Dot", ".&": "DotAddress", ".#": "DotLength", "#": "Hash", "##": "DoubleHash",
+    "?": "Question", "@": "At",
+}
+LITERALS = ["NUMBER", "CHAR", "WORD", "TEXT"]
+
+
+# Reading the page
+
+def clauses(text):
+    """The words of each clause. A line that begins with a space continues the one before; `# ` begins a comment."""
+    lines = []
+    for line in text.split("\n"):
+        line = re.sub(r"(^|\s)#(\s.*)?$", "", line).rstrip()
+        if line.startswith(" ") and lines:
+            lines[-1] += line
+        elif line:
+            lines.append(line)
+    return [line.split() for line in lines]
+
+
+class Page:
+    """What the page says: words, classes (name -> how it is made), rules (name -> rows), preferences (rule -> class)."""
+
+    def __init__(self, text):
+        self.classes, self.rules, self.preferences = {}, {}, {}
+        found = clauses(text)
+        self.words = sorted({w[1:-1] for clause in found for w in clause if w[0] == "'"}, key=lambda w: (len(w), w))
+        for clause in found:
+            if clause[0] == "prefer":
+                self.preferences[clause[1]] = clause[3]
+            elif clause[1] == "=":
+                self.classes[clause[0]] = clause[2:]
+            else:
+                self.add_rule(clause[0], clause[2:])
+
+    def add_rule(self, name, words):
+        self.groups = 0
+        self.rules[name] = None
+        if words[0] == "{" and closing(words) == len(words) - 1:
+            rows, _ = self.rows(name, words[1:], "}")
+            self.rules[name] = [row + [name] for row in rows] + [[]]
+        else:
+            self.rules[name], _ = self.rows(name, words, None)
+
+    def rows(self, rule, words, end):
+        """The rows up to `end`, and the words behind it. A group becomes a rule of its own."""
+        found, row = [], []
+        while words:
+            word, words = words[0], words[1:]
+            if word == end:
+                return found + [row], words
+            if word == "|":
+                found.append(row)
+                row = []
+            elif word in "([{":
+                self.groups += 1
+                group = f"{rule}_{self.groups}"
+                self.rules[group] = None
+                inner, words = self.rows(rule, words, {"(": ")", "[": "]", "{": "}"}[word])
+                if word == "{":
+                    inner = [r + [group] for r in inner]
+                self.rules[group] = inner + ([[]] if word in "[{" else [])
+                row.append(group)
+            elif word != "nothing":
+                row.append(word)
+        return found + [row], words
+
+
+def closing(words):
+    depth = 0
+    for place, word in enumerate(words):
+        depth += (word in "([{") - (word in ")]}")
+        if depth == 0:
+            return place
+    raise ValueError(words)
+
+
+# Atoms: marks, words, another Name, each of these Names as that of a class, literals, a bad token, the end
+
+class Atoms:
+    def __init__(self, page):
+        self.words = page.words
+        self.first_word = len(MARKS)
+        self.names = len(page.words) + 1
+        self.first_literal = self.first_word + 2 * self.names
+        self.count = self.first_literal + len(LITERALS) + 2
+        self.sets = {}
+        for kind, made in page.classes.items():
+            self.sets[kind] = self.joined(made)
+
+    def of(self, name):
+        """The set of atoms of a mark, a word or a class, as a number of one bit an atom."""
+        if name[0] == '"':
+            return 1 << list(MARKS).index(name[1:-1])
+        if name[0] == "'":
+            place = self.first_word + self.words.index(name[1:-1])
+            return 1 << place | 1 << place + self.names
+        if name in LITERALS:
+            return 1 << self.first_literal + LITERALS.index(name)
+        if name == "NAME":
+            return (1 << 2 * self.names) - 1 << self.first_word
+        if name == "CLASSNAME":
+            return (1 << self.names) - 1 << self.first_word + self.names
+        return self.sets[name]
+
+    def joined(self, made):
+        found, sign = 0, "+"
+        for word in made:
+            if word in "+-":
+                sign = word
+            else:
+                found = found | self.of(word) if sign == "+" else found & ~self.of(word)
+        return found
+
+
+# What is computed of the rules
+
+class Facts:
+    def __init__(self, page, atoms):
+        self.rules, self.atoms = page.rules, atoms
+        self.begins = {rule: 0 for rule in page.rules}
+        self.follows = {rule: 0 for rule in page.rules}
+        self.empty = {rule: False for rule in page.rules}
+        self.until_stable(self.grow_begins)
+        self.until_stable(self.grow_follows)
+        self.steps = {}
+        for rule in page.rules:
+            self.steps_of(rule)
+
+    def until_stable(self, grow):
+        self.changed = True
+        while self.changed:
+            self.changed = False
+            grow()
+
+    def beginning(self, row):
+        """The atoms that begin a row, and whether it can be empty."""
+        found = 0
+        for part in row:
+            if part in self.rules:
+                found |= self.begins[part]
+                if not self.empty[part]:
+                    return found, False
+            elif part[0] != "@":
+                return found | self.atoms.of(part), False
+        return found, True
+
+    def grow_begins(self):
+        for rule, rows in self.rules.items():
+            for row in rows:
+                found, empty = self.beginning(row)
+                if found & ~self.begins[rule] or empty and not self.empty[rule]:
+                    self.begins[rule] |= found
+                    self.empty[rule] |= empty
+                    self.changed = True
+
+    def grow_follows(self):
+        for rule, rows in self.rules.items():
+            for row in rows:
+                for place, part in enumerate(row):
+                    if part in self.rules:
+                        found, empty = self.beginning(row[place + 1:])
+                        found |= self.follows[rule] if empty else 0
+                        if found & ~self.follows[part]:
+                            self.follows[part] |= found
+                            self.changed = True
+
+    def steps_of(self, rule):
+        """More than the steps through any of its rows to a token."""
+        if rule not in self.steps:
+            self.steps[rule] = 1 + max(self.steps_through(row) for row in self.rules[rule])
+        return self.steps[rule]
+
+    def steps_through(self, row):
+        total = 0
+        for part in row:
+            if part in self.rules:
+                total += self.steps_of(part)
+                if not self.empty[part]:
+                    return total
+            elif part[0] == "@":
+                total += 1
+            else:
+                return total + 1
+        return total
+
+
+# Names in the tables
+
+ACTIONS = {
+    "+": "Plus", "-": "Minus", "*": "Times", "/": "Divide", "%": "Remainder", "&": "BitAnd", "|": "BitOr",
+    "->": "ByteEntry", "-->": "WordEntry", ".": "Member", ".&": "MemberAddress", ".#": "MemberLength",
+    "&&": "And", "||": "Or", "=": "Assign", ",": "Comma", "neg": "Negate", "~": "BitNot", "~~": "Not",
+    "++v": "IncrementBefore", "--v": "DecrementBefore", "v++": "IncrementAfter", "v--": "DecrementAfter",
+    "==": "Equal", "~=": "Unequal", "<": "Less", ">": "Greater", "<=": "LessOrEqual",
+    ">=": "GreaterOrEqual", "hasnt": "HasNot", "notin": "NotIn", "ofclass": "OfClass",
+}
+
+
+def action(part):
+    """The name of an action: `@end:for-test` is EndForTest."""
+    name = part[1:]
+    return ACTIONS.get(name) or "".join(word.capitalize() for word in re.split("[-:]", name))
+
+
+def snake(name):
+    return re.sub(r"(?<!^)(?=[A-Z])", "_", name).lower()
+
+
+def rule_name(rule):
+    return rule.replace("-", "_")
+
+
+class Tables:
+    """The files, by their paths in the crate."""
+
+    def __init__(self, page):
+        self.page = page
+        self.atoms = Atoms(page)
+        self.facts = Facts(page, self.atoms)
+        self.rule_numbers = {rule: number for number, rule in enumerate(page.rules)}
+        parts = [part for rows in page.rules.values() for row in rows for part in row]
+        tokens = [part for part in parts if part not in page.rules and (part[0] != "@")]
+        self.tokens = list(dict.fromkeys(tokens))
+        self.actions = list(dict.fromkeys(part for part in parts if part[0] == "@"))
+
+    def files(self):
+        made = {
+            "specs/Words.antt": self.words_spec(), "specs/Classes.antt": self.classes_spec(),
+            "specs/Parts.antt": self.parts_spec(), "specs/Facts.antt": self.facts_spec(),
+            "src/words.rt": self.words_code(), "src/table.rt": self.table_code(),
+            "src/actions.rt": self.actions_code(), "src/starts.rt": self.starts_code(),
+        }
+        made.update(self.table_specs())
+        return made
+
+    # specs/
+
+    def words_spec(self):
+        listed = "\n".join(f'    {"∷ " if at else ""}codes "{word}"' for at, word in enumerate(self.page.words))
+        return ("-- The words that the grammar knows, the short ones first. Made from docs/grammar.txt.\n"
+                "use Rattle.std.specs.Prelude.{ℕ, List, [], ◌∷◌, codes}\n\n"
+                "abbrev pub words : List (List ℕ)\nwords =\n" + listed + "\n    ∷ []\n")
+
+    def set_term(self, name):
+        if name[0] == '"':
+            return "of_mark mark." + MARKS[name[1:-1]]
+        if name[0] == "'":
+            return f'of_word (codes "{name[1:-1]}")'
+        return name.lower()
+
+    def classes_spec(self):
+        out = ["-- The classes of tokens, as sets of atoms. Made from docs/grammar.txt.",
+               "use Rattle.std.specs.Prelude.{ℕ, List, [], ◌∷◌, codes}",
+               "use Rattle.inf_grammar.specs.Atoms.{of_mark, of_word, name, classname, number, char, word_literal, text, joined, without}",
+               "use Rattle.inf_grammar.specs.declared.marks.Mark.TheVariants as mark", ""]
+        for kind, made in self.page.classes.items():
+            out += [f"abbrev pub {kind.lower()} : ℕ", f"{kind.lower()} = {self.made_term(made)}", ""]
+        out += ["-- each class, in the order of its number", "abbrev pub classes : List ℕ", "classes ="]
+        for at, part in enumerate(self.tokens):
+            term = {"WORD": "word_literal"}.get(part) or self.set_term(part)
+            out.append("    " + ("∷ " if at else "") + (f"({term})" if " " in term else term))
+        return "\n".join(out + ["    ∷ []", ""])
+
+    def made_term(self, made):
+        sign, groups = "+", []
+        for word in made:
+            if word in "+-":
+                sign = word
+            elif groups and groups[-1][0] == sign:
+                groups[-1][1].append(word)
+            else:
+                groups.append((sign, [word]))
+        term = ""
+        for sign, words in groups:
+            terms = [self.set_term(word) for word in words]
+            listed = " ∷ ".join(terms) + " ∷ []"
+            if sign == "-":
+                term = f"without ({term}) ({listed})" if " " in term else f"without {term} ({listed})"
+            else:
+                term = terms[0] if len(terms) == 1 and not term else f"joined ({listed})"
+        return term
+
+    def part_term(self, part):
+        """The name of a part in the tables of specs/."""
+        if part in self.rule_numbers:
+            return rule_name(part)
+        if part[0] == "@":
+            return "!" + snake(action(part))
+        if part[0] == '"':
+            return "'" + snake(MARKS[part[1:-1]]) + "'"
+        if part[0] == "'":
+            return "'" + part[1:-1] + "'" if not self.is_mark_name(part) else "'" + part[1:-1] + "_word'"
+        return part
+
+    def is_mark_name(self, part):
+        return part[1:-1] in {snake(name) for name in MARKS.values()}
+
+    def parts_spec(self):
+        out = ["-- A name for each part of a row: a token of a class in capitals or between quotes, an action behind a `!`, a rule.",
+               "-- Made from docs/grammar.txt.",
+               "use Rattle.inf_grammar.specs.declared.symbols.Symbol.{Symbol}",
+               "use Rattle.inf_grammar.specs.declared.symbols.Symbol.TheVariants.{Token, Rule, Act}",
+               "use Rattle.inf_grammar.specs.declared.actions.Action.TheVariants as action", ""]
+        terms = [(part, f"Token {number}") for number, part in enumerate(self.tokens)]
+        terms += [(part, f"Act action.{action(part)}") for part in self.actions]
+        terms += [(rule, f"Rule {number}") for rule, number in self.rule_numbers.items()]
+        for part, term in terms:
+            out += [f"abbrev pub {self.part_term(part)} : Symbol", f"{self.part_term(part)} = {term}"]
+        return "\n".join(out + [""])
+
+    def row_term(self, rule, row):
+        listed = " ∷ ".join([self.part_term(part) for part in row] + ["[]"])
+        if not row or all(part[0] == "@" for part in row):
+            barred = self.page.preferences.get(rule)
+            if barred:
+                return f"row_unless {self.tokens.index(barred)} ({listed})" if row else f"row_unless {self.tokens.index(barred)} []"
+        return f"row ({listed})" if row else "row []"
+
+    def table_specs(self, size=80):
+        rules = list(self.page.rules)
+        chunks = [rules[at:at + size] for at in range(0, len(rules), size)]
+        made = {}
+        for number, chunk in enumerate(chunks, 1):
+            used = sorted({self.part_term(p) for r in chunk for row in self.page.rules[r] for p in row})
+            out = ["-- The rows of some rules. Made from docs/grammar.txt.",
+                   "use Rattle.std.specs.Prelude.{List, [], ◌∷◌}",
+                   "use Rattle.inf_grammar.specs.Grammar.{Row}",
+                   "use Rattle.inf_grammar.specs.Rows.{row, row_unless}" if any(r in self.page.preferences for r in chunk) else "use Rattle.inf_grammar.specs.Rows.{row}",
+                   "use Rattle.inf_grammar.specs.Parts.{" + ", ".join(used) + "}", "",
+                   f"abbrev pub rules_{number} : List (List Row)", f"rules_{number} ="]
+            for at, rule in enumerate(chunk):
+                rows = self.page.rules[rule]
+                head = "    " + ("∷ " if at else "")
+                out.append(f"    -- {rule_name(rule)}")
+                out.append(head + "(" + "\n        ∷ ".join(self.row_term(rule, row) for row in rows) + "\n        ∷ [])")
+            made[f"specs/Table{number}.antt"] = "\n".join(out + ["    ∷ []", ""])
+        return made
+
+    def facts_spec(self):
+        def listed(name, kind, values):
+            return "\n".join([f"abbrev pub {name} : List {kind}", f"{name} ="]
+                             + ["    " + ("∷ " if at else "") + " ∷ ".join(values[at:at + 4]) for at in range(0, len(values), 4)]
+                             + ["    ∷ []", ""])
+        rules = list(self.page.rules)
+        return ("-- What is computed of each rule, in the order of their numbers. Made from docs/grammar.txt; that it holds is proved.\n"
+                "use Rattle.std.specs.Prelude.{ℕ, List, [], ◌∷◌, Bool, true, false}\n\n"
+                "-- the atoms that begin it\n" + listed("beginnings", "ℕ", [hex(self.facts.begins[r]) for r in rules])
+                + "\n-- the atoms that may stand behind it\n" + listed("followers", "ℕ", [hex(self.facts.follows[r]) for r in rules])
+                + "\n-- whether it can be empty\n" + listed("empties", "Bool", ["true" if self.facts.empty[r] else "false" for r in rules])
+                + "\n-- more than the steps through it to a token\n" + listed("step_bounds", "ℕ", [str(self.facts.steps[r]) for r in rules]))
+
+    # src/
+
+    def words_code(self):
+        words = "".join(f'    b"{word}",\n' for word in self.page.words)
+        return ("//! The words that the grammar knows. Made from docs/grammar.txt.\n\n"
+                "/// The words, the short ones first.\n"
+                f"pub(crate) static WORDS: [&[u8]; {len(self.page.words)}] = [\n{words}];\n")
+
+    def part_code(self, part):
+        if part in self.rule_numbers:
+            return f"Text({self.rule_numbers[part]})"
+        if part[0] == "@":
+            return f"Act(Do::{action(part)})"
+        return f"Token({self.tokens.index(part)})"
+
+    def table_code(self):
+        parts, rows, rules = [], [], []
+        for rule, alternatives in self.page.rules.items():
+            first, other = len(rows), span_code(0, 0)
+            for row in alternatives:
+                begins, empty = self.facts.beginning(row)
+                span = span_code(len(parts), len(parts) + len(row))
+                other = span if empty else other
+                rows.append(f"Row {{ begins: {set_code(begins)}, parts: {span} }}")
+                parts += [self.part_code(part) for part in reversed(row)]
+            rules.append(f"Rule {{ begins: {set_code(self.facts.begins[rule])}, is_empty: {str(self.facts.empty[rule]).lower()}, "
+                         f"rows: {span_code(first, len(rows))}, other: {other} }}")
+        classes = [set_code(self.atoms.of(part)) for part in self.tokens]
+        head = ("//! The grammar as the machine reads it, in numbers. Made from docs/grammar.txt.\n"
+                "use crate::actions::Action as Do;\nuse crate::rules::{Row, Rule, Set, Span};\n"
+                "use crate::symbols::Symbol::{self, Act, Rule as Text, Token};\n")
+        return (head + static("CLASSES", "The atoms of each class.", "Set", classes)
+                + static("PARTS", "The parts of all rows, row by row, the last part of a row first.", "Symbol", parts, 8)
+                + static("ROWS", "All rows, rule by rule.", "Row", rows)
+                + static("RULES", "Each rule.", "Rule", rules))
+
+    def starts_code(self):
+        listed = "".join(f"\n/// {means}\npub const {rule.upper()}: u8 = {self.rule_numbers[rule]};\n" for rule, means in STARTS.items())
+        return "//! The rules that reading may start with. Made from docs/grammar.txt.\n" + listed
+
+    def actions_code(self):
+        listed = "".join(f"    {action(part)},\n" for part in self.actions)
+        return ("//! What reading does on its way. Made from docs/grammar.txt.\n\n"
+                "/// An action of the grammar. Where it speaks of the last token, that is the one taken last.\n"
+                "#[derive(Clone, Copy, Debug, PartialEq, Eq)]\npub enum Action {\n" + listed + "}\n")
+
+
+STARTS = {
+    "file": "A whole source: any number of pieces.",
+    "piece": "A piece of a source: a directive with its semicolon, or a semicolon.",
+    "expression": "An expression, with commas.",
+    "assign": "An expression without commas outside brackets.",
+    "logic": "A condition.",
+}
+
+
+def set_code(atoms):
+    """A set of atoms as four numbers of 64 bits, the lowest first."""
+    return "Set([" + ", ".join(hex(atoms >> at & (1 << 64) - 1) for at in (0, 64, 128, 192)) + "])"
+
+
+def span_code(start, end):
+    return f"Span {{ start: {start}, end: {end} }}"
+
+
+def static(name, means, kind, items, wide=1):
+    """A table of the program, so many items a line."""
+    lines = ["    " + ", ".join(items[at:at + wide]) + "," for at in range(0, len(items), wide)]
+    return (f"\n/// {means}\n#[rattlefmt::skip]\npub(crate) static {name}: [{kind}; {len(items)}] = [\n"
+            + "\n".join(lines) + "\n];\n")
+
+
+def bare(text):
+    """A text without what a formatter may change."""
+    return re.sub(r"[\s,]", "", text)
+
+
+def main(words):
+    with open(os.path.join(HERE, "docs", "grammar.txt"), encoding="ascii") as page:
+        files = Tables(Page(page.read())).files()
+    wrong = 0
+    for path, text in files.items():
+        place = os.path.join(CRATE, path)
+        if words == ["check"]:
+            with open(place, encoding="utf-8") as file:
+                if bare(file.read()) != bare(text):
+                    print(path, "is not what docs/grammar.txt says")
+                    wrong = 1
+        else:
+            with open(place, "w", encoding="utf-8") as file:
+                file.write(text)
+    return wrong
+
+
+if __name__ == "__main__":
+    sys.exit(main(sys.argv[1:]))
