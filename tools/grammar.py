@@ -11,6 +11,7 @@ The page has classes of tokens and rules (its head explains the notation). Made 
     specs/Table*.antt    the rows, rule by rule
     specs/Facts.antt     what begins and follows each rule, whether it can be empty, and how many steps lead through it
     src/words.rt, src/table.rt     the same for the program
+    src/actions.rt, src/starts.rt  the actions, and the rules that reading may start with
 
 Nobody has to trust this script: that the program's tables are those of specs/, and that the facts hold of the rows, is proved.
 """
@@ -55,7 +56,7 @@ class Page:
     def __init__(self, text):
         self.classes, self.rules, self.preferences = {}, {}, {}
         found = clauses(text)
-        self.words = sorted({w[1:-1] for clause in found for w in clause if w[0] == "'"}, key=lambda w: (len(w), w))
+        self.words = sorted({w[1:-1] for clause in found for w in clause if w[0] == "'"})
         for clause in found:
             if clause[0] == "prefer":
                 self.preferences[clause[1]] = clause[3]
@@ -269,7 +270,7 @@ class Tables:
 
     def words_spec(self):
         listed = "\n".join(f'    {"∷ " if at else ""}codes "{word}"' for at, word in enumerate(self.page.words))
-        return ("-- The words that the grammar knows, the short ones first. Made from docs/grammar.txt.\n"
+        return ("-- The words that the grammar knows, in the order of the alphabet. Made from docs/grammar.txt.\n"
                 "use Rattle.std.specs.Prelude.{ℕ, List, [], ◌∷◌, codes}\n\n"
                 "abbrev pub words : List (List ℕ)\nwords =\n" + listed + "\n    ∷ []\n")
 
@@ -330,14 +331,15 @@ class Tables:
     def parts_spec(self):
         out = ["-- A name for each part of a row: a token of a class in capitals or between quotes, an action behind a `!`, a rule.",
                "-- Made from docs/grammar.txt.",
-               "use Rattle.inf_grammar.specs.declared.symbols.Symbol.{Symbol}",
-               "use Rattle.inf_grammar.specs.declared.symbols.Symbol.TheVariants.{Token, Rule, Act}",
+               "use Rattle.inf_machine.specs.declared.symbols.Symbol.{Symbol}",
+               "use Rattle.inf_machine.specs.declared.symbols.Symbol.TheVariants.{Token, Rule, Act}",
+               "use Rattle.inf_grammar.specs.declared.actions.Action.{Action}",
                "use Rattle.inf_grammar.specs.declared.actions.Action.TheVariants as action", ""]
         terms = [(part, f"Token {number}") for number, part in enumerate(self.tokens)]
         terms += [(part, f"Act action.{action(part)}") for part in self.actions]
         terms += [(rule, f"Rule {number}") for rule, number in self.rule_numbers.items()]
         for part, term in terms:
-            out += [f"abbrev pub {self.part_term(part)} : Symbol", f"{self.part_term(part)} = {term}"]
+            out += [f"abbrev pub {self.part_term(part)} : Symbol Action", f"{self.part_term(part)} = {term}"]
         return "\n".join(out + [""])
 
     def row_term(self, rule, row):
@@ -356,10 +358,11 @@ class Tables:
             used = sorted({self.part_term(p) for r in chunk for row in self.page.rules[r] for p in row})
             out = ["-- The rows of some rules. Made from docs/grammar.txt.",
                    "use Rattle.std.specs.Prelude.{List, [], ◌∷◌}",
-                   "use Rattle.inf_grammar.specs.Grammar.{Row}",
+                   "use Rattle.inf_machine.specs.Grammar.{Row}",
+                   "use Rattle.inf_grammar.specs.declared.actions.Action.{Action}",
                    "use Rattle.inf_grammar.specs.Rows.{row, row_unless}" if any(r in self.page.preferences for r in chunk) else "use Rattle.inf_grammar.specs.Rows.{row}",
                    "use Rattle.inf_grammar.specs.Parts.{" + ", ".join(used) + "}", "",
-                   f"abbrev pub rules_{number} : List (List Row)", f"rules_{number} ="]
+                   f"abbrev pub rules_{number} : List (List (Row Action))", f"rules_{number} ="]
             for at, rule in enumerate(chunk):
                 rows = self.page.rules[rule]
                 head = "    " + ("∷ " if at else "")
@@ -385,9 +388,18 @@ class Tables:
 
     def words_code(self):
         words = "".join(f'    b"{word}",\n' for word in self.page.words)
-        return ("//! The words that the grammar knows. Made from docs/grammar.txt.\n\n"
-                "/// The words, the short ones first.\n"
-                f"pub(crate) static WORDS: [&[u8]; {len(self.page.words)}] = [\n{words}];\n")
+        return ("//! The words that the grammar knows, and where to look for one. Made from docs/grammar.txt.\n"
+                "use crate::rules::Span;\n\n"
+                "/// The words, in the order of the alphabet.\n"
+                f"pub(crate) static WORDS: [&[u8]; {len(self.page.words)}] = [\n{words}];\n"
+                + static("LETTERS", "Where the words with each first letter stand.", "Span",
+                         [self.words_from(letter) for letter in ALPHABET], 4))
+
+    def words_from(self, letter):
+        """Where the words with a first letter stand."""
+        first_letters = [word[0] for word in self.page.words]
+        before = sum(first < letter for first in first_letters)
+        return span_code(before, before + first_letters.count(letter))
 
     def part_code(self, part):
         if part in self.rule_numbers:
@@ -411,9 +423,9 @@ class Tables:
         classes = [set_code(self.atoms.of(part)) for part in self.tokens]
         head = ("//! The grammar as the machine reads it, in numbers. Made from docs/grammar.txt.\n"
                 "use crate::actions::Action as Do;\nuse crate::rules::{Row, Rule, Set, Span};\n"
-                "use crate::symbols::Symbol::{self, Act, Rule as Text, Token};\n")
+                "use inf_machine::Symbol::{self, Act, Rule as Text, Token};\n")
         return (head + static("CLASSES", "The atoms of each class.", "Set", classes)
-                + static("PARTS", "The parts of all rows, row by row, the last part of a row first.", "Symbol", parts, 8)
+                + static("PARTS", "The parts of all rows, row by row, the last part of a row first.", "Symbol<Do>", parts, 8)
                 + static("ROWS", "All rows, rule by rule.", "Row", rows)
                 + static("RULES", "Each rule.", "Rule", rules))
 
@@ -427,6 +439,8 @@ class Tables:
                 "/// An action of the grammar. Where it speaks of the last token, that is the one taken last.\n"
                 "#[derive(Clone, Copy, Debug, PartialEq, Eq)]\npub enum Action {\n" + listed + "}\n")
 
+
+ALPHABET = "abcdefghijklmnopqrstuvwxyz"
 
 STARTS = {
     "file": "A whole source: any number of pieces.",

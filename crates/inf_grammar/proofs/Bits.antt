@@ -3,7 +3,7 @@ use Rattle.std.proofs.Common.{◌≡◌, ℕ, zero, suc, ◌+◌, ◌*◌, ◌/�
 use Rattle.std.specs.Int.{bit_at}
 use Rattle.std.proofs.lemmas.Nat.Bits.{bit_at_cat_low, bit_at_cat_high, bit_at-zero, shr_and_one}
 use Rattle.std.proofs.lemmas.List.{get_or_past}
-use Rattle.inf_grammar.specs.Grammar.{has}
+use Rattle.inf_machine.specs.Grammar.{has}
 use Rattle.inf_grammar.specs.Tables.{joined_words}
 
 pub joined_bit : (ws : List ℕ) (k j : ℕ) → ((i : ℕ) → get_or ws i 0 < 2 ^ 64) → j < 64 → bit_at (joined_words ws) (64 * k + j) ≡ bit_at (get_or ws k 0) j

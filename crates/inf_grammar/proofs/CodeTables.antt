@@ -1,29 +1,30 @@
 -- What the program's tables say: by evaluation.
 use Rattle.std.proofs.Common.{◌≡◌, ℕ, ◌<◌, ◌≤◌, List, [], ◌∷◌, Bool, true, false, zero, suc, map, reverse, get_or, length, refl, sym, ◌∙◌, ap, arith, if◌then◌else◌}
-use Rattle.inf_grammar.specs.declared.symbols.Symbol.{Symbol}
+use Rattle.inf_machine.specs.declared.symbols.Symbol.{Symbol}
 use Rattle.inf_grammar.specs.declared.rules.Set.{Set}
 use Rattle.inf_grammar.specs.declared.rules.Span.{Span}
 use Rattle.inf_grammar.specs.declared.rules.Row.{Row as CodeRow}
 use Rattle.inf_grammar.specs.declared.rules.Rule.{Rule as CodeRule}
-use Rattle.inf_grammar.specs.Grammar.{Row, has}
-use Rattle.inf_grammar.specs.Machine.{empty_row, row_for, fits}
-use Rattle.inf_grammar.specs.Decided.{beginning}
+use Rattle.inf_machine.specs.Grammar.{Row, has}
+use Rattle.inf_grammar.specs.declared.actions.Action.{Action}
+use Rattle.inf_machine.specs.Machine.{empty_row, row_for, fits}
+use Rattle.inf_machine.specs.Decided.{beginning}
 use Rattle.inf_grammar.specs.Language.{grammar, known, rules}
 use Rattle.inf_grammar.specs.Classes.{classes}
 use Rattle.inf_grammar.specs.Facts.{beginnings, empties}
 use Rattle.inf_grammar.specs.Tables.{all_classes, all_parts, all_rows, all_rules, set_number, cut, found}
-use Rattle.inf_grammar.proofs.Rows.{fits_is_begun}
+use Rattle.inf_machine.proofs.Rows.{fits_is_begun}
 
 -- a row by the atoms that begin it and its parts in order
 pub record RowView : Type 0 where
   pub begins : ℕ
-  pub parts : List Symbol
+  pub parts : List (Symbol Action)
 
 pub record RuleView : Type 0 where
   pub begins : ℕ
   pub is_empty : Bool
   pub rows : List RowView
-  pub other : List Symbol
+  pub other : List (Symbol Action)
 
 abbrev pub row_view : CodeRow → RowView
 row_view row = record { begins = set_number row.begins; parts = reverse (cut row.parts all_parts) }
@@ -32,13 +33,13 @@ abbrev pub rule_view : CodeRule → RuleView
 rule_view rule =
     record { begins = set_number rule.begins; is_empty = rule.is_empty; rows = map row_view (cut rule.rows all_rows); other = reverse (cut rule.other all_parts) }
 
-abbrev pub row_of : Row → RowView
+abbrev pub row_of : Row Action → RowView
 row_of row = record { begins = beginning grammar known row.parts; parts = row.parts }
 
-abbrev pub rule_of : List Row → ℕ → Bool → RuleView
+abbrev pub rule_of : List (Row Action) → ℕ → Bool → RuleView
 rule_of rows begins is_empty = record { begins = begins; is_empty = is_empty; rows = map row_of rows; other = empty_row known rows }
 
-abbrev pub rules_of : List (List Row) → List ℕ → List Bool → List RuleView
+abbrev pub rules_of : List (List (Row Action)) → List ℕ → List Bool → List RuleView
 rules_of [] _ _ = []
 rules_of (rows ∷ rest) [] _ = []
 rules_of (rows ∷ rest) (b ∷ bs) [] = []
@@ -82,13 +83,13 @@ pub record IsRule (rule : CodeRule) (at : ℕ) : Type 0 where
   pub rows : map row_view (cut rule.rows all_rows) ≡ map row_of (grammar.rows_of at)
   pub other : reverse (cut rule.other all_parts) ≡ empty_row known (grammar.rows_of at)
 
-record IsRuleOf (rule : CodeRule) (rows : List Row) (b : ℕ) (e : Bool) : Type 0 where
+record IsRuleOf (rule : CodeRule) (rows : List (Row Action)) (b : ℕ) (e : Bool) : Type 0 where
   begins : set_number rule.begins ≡ b
   empty : rule.is_empty ≡ e
   same_rows : map row_view (cut rule.rows all_rows) ≡ map row_of rows
   other : reverse (cut rule.other all_parts) ≡ empty_row known rows
 
-rule_at : (code : List CodeRule) (rs : List (List Row)) (bs : List ℕ) (es : List Bool) → map rule_view code ≡ rules_of rs bs es → (at : ℕ) (d : CodeRule) → at < length code → IsRuleOf (get_or code at d) (get_or rs at []) (get_or bs at 0) (get_or es at false)
+rule_at : (code : List CodeRule) (rs : List (List (Row Action))) (bs : List ℕ) (es : List Bool) → map rule_view code ≡ rules_of rs bs es → (at : ℕ) (d : CodeRule) → at < length code → IsRuleOf (get_or code at d) (get_or rs at []) (get_or bs at 0) (get_or es at false)
 rule_at [] rs bs es e at d l = absurd (omega arith)
 rule_at (c ∷ code) [] bs es e at d l = cc
 rule_at (c ∷ code) (r ∷ rs) [] es e at d l = cc
@@ -115,7 +116,7 @@ rules_length = refl
 
 -- The row that the program finds is the row that is chosen
 
-pub found_is_chosen : (atom : ℕ) (other : Span) (code : List CodeRow) (rows : List Row) → map row_view code ≡ map row_of rows → reverse (cut (found atom other code) all_parts) ≡ row_for grammar known atom (reverse (cut other all_parts)) rows
+pub found_is_chosen : (atom : ℕ) (other : Span) (code : List CodeRow) (rows : List (Row Action)) → map row_view code ≡ map row_of rows → reverse (cut (found atom other code) all_parts) ≡ row_for grammar known atom (reverse (cut other all_parts)) rows
 found_is_chosen atom other [] [] e = refl
 found_is_chosen atom other [] (r ∷ rows) e = cc
 found_is_chosen atom other (c ∷ code) [] e = cc

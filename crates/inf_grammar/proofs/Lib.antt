@@ -1,10 +1,5 @@
-pub mod Sets
-pub mod Rows
-pub mod Deciding
-pub mod Taking
-pub mod TokenLaws
-pub mod Evaluated
 pub mod Bits
 pub mod CodeTables
 pub mod Passing
-pub mod Ending
+pub mod Letters
+pub mod SourceLaws

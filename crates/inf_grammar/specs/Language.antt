@@ -1,7 +1,8 @@
 -- The grammar of the language, and what the machine knows of it.
 use Rattle.std.specs.Prelude.{List, ◌++◌}
-use Rattle.inf_grammar.specs.Grammar.{Grammar, Row}
-use Rattle.inf_grammar.specs.Machine.{Known}
+use Rattle.inf_machine.specs.Grammar.{Grammar, Row}
+use Rattle.inf_grammar.specs.declared.actions.Action.{Action}
+use Rattle.inf_machine.specs.Machine.{Known}
 use Rattle.inf_grammar.specs.At.{number_at, rows_at, test_at}
 use Rattle.inf_grammar.specs.Classes.{classes}
 use Rattle.inf_grammar.specs.Table1.{rules_1}
@@ -10,10 +11,10 @@ use Rattle.inf_grammar.specs.Table3.{rules_3}
 use Rattle.inf_grammar.specs.Table4.{rules_4}
 use Rattle.inf_grammar.specs.Facts.{beginnings, followers, empties, step_bounds}
 
-abbrev pub rules : List (List Row)
+abbrev pub rules : List (List (Row Action))
 rules = rules_1 ++ rules_2 ++ rules_3 ++ rules_4
 
-unfoldable pub grammar : Grammar
+unfoldable pub grammar : Grammar Action
 grammar = record { atoms_of = λ class. number_at classes class; rows_of = λ rule. rows_at rules rule }
 
 unfoldable pub known : Known

@@ -1,13 +1,14 @@
 -- Rows as the tables write them.
 use Rattle.std.specs.Prelude.{ℕ, List}
-use Rattle.inf_grammar.specs.declared.symbols.Symbol.{Symbol}
-use Rattle.inf_grammar.specs.Grammar.{Row}
+use Rattle.inf_machine.specs.declared.symbols.Symbol.{Symbol}
+use Rattle.inf_machine.specs.Grammar.{Row}
+use Rattle.inf_grammar.specs.declared.actions.Action.{Action}
 use Rattle.inf_grammar.specs.Classes.{classes}
 use Rattle.inf_grammar.specs.At.{number_at}
 
-abbrev pub row : List Symbol → Row
+abbrev pub row : List (Symbol Action) → Row Action
 row parts = record { parts = parts; unless = 0 }
 
 -- a row that is not taken before a token of a class
-abbrev pub row_unless : ℕ → List Symbol → Row
+abbrev pub row_unless : ℕ → List (Symbol Action) → Row Action
 row_unless class parts = record { parts = parts; unless = number_at classes class }

@@ -1,16 +1,20 @@
 -- The grammar as the program has it: flat tables of numbers.
-use Rattle.std.specs.Prelude.{ℕ, ◌+◌, ◌*◌, ◌/◌, ◌%◌, ◌^◌, List, [], ◌∷◌, ◌++◌, Bool, map, reverse, length, take, drop, if◌then◌else◌, nat_le, ◌-◌, ◌&&◌}
-use Rattle.inf_grammar.specs.declared.symbols.Symbol.{Symbol}
+use Rattle.std.specs.Prelude.{ℕ, ◌+◌, ◌*◌, ◌/◌, ◌%◌, ◌^◌, List, [], ◌∷◌, ◌++◌, Bool, map, reverse, length, take, drop, if◌then◌else◌, nat_le, nat_lt, nat_eq, ◌-◌, ◌&&◌, get_or, count_by}
+use Rattle.std.specs.Char.{to_ascii_lowercase}
+use Rattle.std.specs.List.{range_with_len}
+use Rattle.inf_machine.specs.declared.symbols.Symbol.{Symbol}
 use Rattle.inf_grammar.specs.declared.rules.Set.{Set}
 use Rattle.inf_grammar.specs.declared.rules.Span.{Span}
 use Rattle.inf_grammar.specs.declared.rules.Row.{Row as CodeRow}
 use Rattle.inf_grammar.specs.declared.rules.Rule.{Rule as CodeRule}
-use Rattle.inf_grammar.specs.Grammar.{Row, has}
-use Rattle.inf_grammar.specs.Machine.{can_end}
-use Rattle.inf_grammar.specs.Decided.{beginning}
+use Rattle.inf_machine.specs.Grammar.{Row, has}
+use Rattle.inf_grammar.specs.declared.actions.Action.{Action}
+use Rattle.inf_machine.specs.Machine.{can_end}
+use Rattle.inf_machine.specs.Decided.{beginning}
 use Rattle.inf_grammar.specs.Language.{grammar, known, rules}
 use Rattle.inf_grammar.specs.Classes.{classes}
 use Rattle.inf_grammar.specs.Facts.{beginnings, empties}
+use Rattle.inf_grammar.specs.Words.{words}
 
 -- a set as four numbers of 64 bits, the lowest first
 abbrev pub set_of : ℕ → Set
@@ -23,24 +27,24 @@ unfoldable pub all_classes : List Set
 all_classes = map set_of classes
 
 -- the parts of some rows, those of a row from the last to the first
-abbrev pub parts_of : List Row → List Symbol
+abbrev pub parts_of : List (Row Action) → List (Symbol Action)
 parts_of [] = []
 parts_of (row ∷ rows) = reverse row.parts ++ parts_of rows
 
-abbrev pub parts_of_all : List (List Row) → List Symbol
+abbrev pub parts_of_all : List (List (Row Action)) → List (Symbol Action)
 parts_of_all [] = []
 parts_of_all (rows ∷ rest) = parts_of rows ++ parts_of_all rest
 
-unfoldable pub all_parts : List Symbol
+unfoldable pub all_parts : List (Symbol Action)
 all_parts = parts_of_all rules
 
 -- some rows, their parts beginning at a place
-abbrev pub rows_from : ℕ → List Row → List CodeRow
+abbrev pub rows_from : ℕ → List (Row Action) → List CodeRow
 rows_from place [] = []
 rows_from place (row ∷ rows) =
     record { begins = set_of (beginning grammar known row.parts); parts = span place (length row.parts) } ∷ rows_from (place + length row.parts) rows
 
-abbrev pub rows_of_all : ℕ → List (List Row) → List CodeRow
+abbrev pub rows_of_all : ℕ → List (List (Row Action)) → List CodeRow
 rows_of_all place [] = []
 rows_of_all place (rows ∷ rest) = rows_from place rows ++ rows_of_all (place + length (parts_of rows)) rest
 
@@ -49,12 +53,12 @@ unfolding grammar known
 all_rows = rows_of_all 0 rules
 
 -- where the parts of the row that can be empty stand
-abbrev pub other_from : ℕ → List Row → Span
+abbrev pub other_from : ℕ → List (Row Action) → Span
 other_from place [] = span 0 0
 other_from place (row ∷ rows) =
     if can_end known row.parts then span place (length row.parts) else other_from (place + length row.parts) rows
 
-abbrev pub rules_from : ℕ → ℕ → List (List Row) → List ℕ → List Bool → List CodeRule
+abbrev pub rules_from : ℕ → ℕ → List (List (Row Action)) → List ℕ → List Bool → List CodeRule
 rules_from first place [] _ _ = []
 rules_from first place (rows ∷ rest) [] _ = []
 rules_from first place (rows ∷ rest) (b ∷ bs) [] = []
@@ -84,3 +88,26 @@ cut s xs = if nat_le s.start s.end && nat_le s.end (length xs) then take (s.end 
 abbrev pub found : ℕ → Span → List CodeRow → Span
 found atom other [] = other
 found atom other (row ∷ rows) = if has (set_number row.begins) atom then row.parts else found atom other rows
+
+-- Words by their first letters
+
+-- the first letter of a name, in small letters: 0 where it has none
+abbrev pub first_letter : List ℕ → ℕ
+first_letter [] = 0
+first_letter (byte ∷ rest) = to_ascii_lowercase byte
+
+-- where the words with a first letter stand, which are in the order of the alphabet
+abbrev pub words_from : ℕ → Span
+words_from letter =
+    span (count_by (λ word. nat_lt (first_letter word) letter) words) (count_by (λ word. nat_eq (first_letter word) letter) words)
+
+-- the same for each letter
+unfoldable pub all_letters : List Span
+all_letters = map words_from (range_with_len 97 26)
+
+abbrev pub nowhere : Span
+nowhere = span 72 0
+
+-- where words with a first letter would stand
+abbrev pub letter_span : ℕ → Span
+letter_span letter = if nat_lt letter 97 then nowhere else get_or all_letters (letter - 97) nowhere

@@ -1,10 +1,12 @@
 //! Atoms: what the grammar can tell of a token.
-ghost use Rattle.std.specs.Prelude.{◌≡◌, ◌≤◌, length, map};
+ghost use Rattle.std.specs.Prelude.{◌≡◌, ◌≤◌, get_or, length, map};
 ghost use Rattle.inf_grammar.specs.Atoms.{atom_of, place_in};
+ghost use Rattle.inf_grammar.specs.Tables.{all_letters, first_letter, letter_span, nowhere};
 ghost use Rattle.inf_grammar.specs.Words.{words};
 
 use crate::marks::Mark;
-use crate::words::WORDS;
+use crate::rules::Span;
+use crate::words::{LETTERS, WORDS};
 
 /// A token, as far as the grammar looks at it.
 #[derive(Clone, Copy)]
@@ -32,6 +34,9 @@ const NAMES: u8 = 73;
 /// The number of the first atom behind the names.
 const FIRST_LITERAL: u8 = 186;
 
+/// No words.
+const NOWHERE: Span = Span { start: 72, end: 72 };
+
 /// The atom of a token, a number below 192.
 pub fn atom_of(token: Token<'_>) -> u8
     ensures { result ≡ atom_of token.entry }
@@ -49,12 +54,56 @@ pub fn atom_of(token: Token<'_>) -> u8
     }
 }
 
-/// How many words of the grammar stand before a name, in any case: all of them, if it is none.
+/// How many words of the grammar stand before a name, in any case: all of them, if it is none. Only those with its first letter
+/// are looked at.
 fn place(spelling: &[u8]) -> u8
     ensures place { result ≡ place_in spelling.now words }
     ensures within { result ≤ 72 }
 {
-    place_among(known_words(), spelling) as u8
+    let span = span_of(spelling);
+    let start = span.start as usize;
+    let alike = &known_words()[start..span.end as usize];
+    let among = place_among(alike, spelling);
+    if among < alike.len() {
+        (start + among) as u8
+    } else {
+        72
+    }
+}
+
+/// Where the words stand that begin with the letter of a name, in any case.
+fn span_of(spelling: &[u8]) -> Span
+    ensures span { result ≡ letter_span (first_letter spelling.now) }
+    ensures ordered { result.start ≤ result.end }
+    ensures within { result.end ≤ 72 }
+{
+    let letter = match spelling.first() {
+        Some(first) => first.to_ascii_lowercase(),
+        None => 0,
+    };
+    match letter.checked_sub(b'a') {
+        Some(place) => letter_at(place),
+        None => NOWHERE,
+    }
+}
+
+/// Where the words of a letter stand, by its place in the alphabet.
+fn letter_at(place: u8) -> Span
+    ensures span { result ≡ get_or all_letters place nowhere }
+    ensures ordered { result.start ≤ result.end }
+    ensures within { result.end ≤ 72 }
+{
+    match letters().get(place as usize) {
+        Some(span) => *span,
+        None => NOWHERE,
+    }
+}
+
+/// Where the words with each letter stand.
+fn letters() -> &'static [Span]
+    ensures { result.now ≡ all_letters }
+{
+    &LETTERS
 }
 
 /// How many of some words stand before a name, in any case: all of them, if it is none.

@@ -1,28 +1,27 @@
 //! The grammar of a source as a table, and the machine that reads tokens by it.
 //!
 //! A token is seen as an atom (`atom_of`). A `Machine` starts with a rule, tells of an atom whether it fits, and takes one that
-//! fits, with the actions on the way to it. It keeps a stack of symbols; one atom tells by which row a rule is replaced.
-//! `specs/` has a grammar as a table of rows and what is a text of it (`Grammar`), the machine as functions on lists (`Machine`),
-//! the property by which one token decides (`Decided`), what follows from it (`Laws`), and the grammar of the language
-//! (`Language`, from `Table1` on). The page `docs/grammar.txt` has the same grammar to be read; `tools/grammar.py` makes the tables of it.
+//! fits, with the actions on the way to it. It is the machine of `inf_machine`, which has what a grammar, its texts and reading
+//! are; here `specs/` has the grammar of the language (`Language`, from `Table1` on), the classes of tokens as sets of atoms, and
+//! what is computed of each rule (`Facts`). That one token decides, and that the program's tables are those, is proved by
+//! evaluation. The page `docs/grammar.txt` has the grammar to be read; `tools/grammar.py` makes the tables of it.
 #![tactic(auto)]
 
 mod actions;
 mod atoms;
+mod grammar_table;
 mod laws;
 mod machine;
 mod marks;
 mod rules;
-mod stack;
 mod starts;
-mod symbols;
 mod table;
 mod words;
 
 pub use actions::Action;
 pub use atoms::{Token, atom_of};
-pub use laws::{bad_tokens, language, sources, texts};
+pub use inf_machine::{Symbol, bad_tokens, pieces, sources, texts};
+pub use laws::{language, source_pieces};
 pub use machine::Machine;
 pub use marks::Mark;
 pub use starts::{ASSIGN, EXPRESSION, FILE, LOGIC, PIECE};
-pub use symbols::Symbol;

@@ -1,30 +1,28 @@
-//! The machine that reads tokens by the grammar.
-ghost use Rattle.std.specs.Prelude.{◌≡◌, [], ◌∷◌, ◌++◌, ◌↔◌, IsTrue, OnOk, OnErr, take, vec_len, true};
+//! The machine that reads tokens by the grammar of the language.
+ghost use Rattle.std.specs.Prelude.{◌≡◌, [], ◌∷◌, ◌++◌, ◌↔◌, reverse, IsTrue, OnOk, OnErr, true};
 ghost use Rattle.inf_grammar.specs.Language.{grammar, known};
-ghost use Rattle.inf_grammar.specs.Machine.{fits, can_end, is_in_routine, taken};
+ghost use Rattle.inf_grammar.specs.Routines.{is_in_routine};
+ghost use Rattle.inf_machine.specs.Machine.{fits, can_end, taken};
 
 use crate::actions::Action;
-use crate::rules::chosen;
-use crate::stack::Stack;
-use crate::symbols::Symbol;
+use inf_machine::Symbol;
 use std::alloc::{AllocError, Global};
 use std::marker::Model;
 
 /// What is still to be read: in contracts a list of symbols, the one at hand first.
 #[derive(Drop)]
 pub struct Machine {
-    stack: Stack,
+    machine: inf_machine::Machine<Action>,
 }
 
 impl Model for Machine {
-    ghost use Rattle.std.specs.Prelude.{◌≡◌, List};
-    ghost use Rattle.inf_grammar.specs.declared.symbols.Symbol.{Symbol};
+    ghost use Rattle.std.specs.Prelude.{List};
+    ghost use Rattle.inf_machine.specs.declared.symbols.Symbol.{Symbol};
+    ghost use Rattle.inf_grammar.specs.declared.actions.Action.{Action};
 
-    ghost Value = { List Symbol };
+    ghost Value = { List (Symbol Action) };
 
-    ghost view = { λ m. m.stack.settled };
-
-    ghost invariant = { λ m. m.stack.current ≡ m.stack.settled };
+    ghost view = { λ m. m.machine };
 }
 
 impl Machine {
@@ -33,7 +31,7 @@ impl Machine {
         ensures { result ≡ [] }
     {
         Machine {
-            stack: Stack::new(alloc),
+            machine: inf_machine::Machine::new(alloc),
         }
     }
 
@@ -42,42 +40,42 @@ impl Machine {
         ensures ok { OnOk result (self.new ≡ Symbol.Rule rule ∷ self.old) }
         ensures err { OnErr result (self.new ≡ self.old) }
     {
-        self.stack.push(Symbol::Rule(rule))
+        self.machine.start(rule)
     }
 
     /// Whether nothing is to be read.
     pub fn is_done(&self) -> bool
         ensures { IsTrue result ↔ (self.now ≡ []) }
     {
-        self.stack.is_empty()
+        self.machine.is_done()
     }
 
     /// Whether what is to be read can be empty: whether the source may end here.
     pub fn can_end(&self) -> bool
         ensures { result ≡ can_end known self.now }
     {
-        self.stack.can_end()
+        self.machine.can_end()
     }
 
     /// Whether the end of a routine is still to be read.
     pub fn is_in_routine(&self) -> bool
         ensures { result ≡ is_in_routine self.now }
     {
-        self.stack.is_in_routine()
+        is_in_routine(self.machine.symbols())
     }
 
     /// Gives up what is to be read.
     pub fn clear(&mut self)
         ensures { self.new ≡ [] }
     {
-        self.stack.clear();
+        self.machine.clear();
     }
 
     /// Whether a token fits: whether it begins what is to be read.
     pub fn fits(&self, atom: u8) -> bool
         ensures { result ≡ fits grammar known atom self.now }
     {
-        self.stack.fits(atom)
+        self.machine.fits(atom)
     }
 
     /// Takes a token that fits. The actions on the way to it are put behind `actions`, in order; the token is taken behind them.
@@ -90,33 +88,19 @@ impl Machine {
         ensures same { OnErr result (self.new ≡ self.old) }
         ensures same_actions { OnErr result (actions.new.items ≡ actions.old.items) }
     {
-        let before = actions.len();
-        let taken = match reach(&mut self.stack, atom, actions) {
-            Ok(()) => self.stack.settle(),
-            Err(fault) => Err(fault),
-        };
-        if taken.is_err() {
-            self.stack.back();
-            actions.truncate(before);
-        }
-        taken
+        self.machine.take(atom, actions)
     }
 }
 
-/// Goes on to behind a token that fits, with the actions on the way to it.
-fn reach(stack: &mut Stack, atom: u8, actions: &mut Vec<Action>) -> Result<(), AllocError>
-    requires { fits grammar known atom stack.old.current ≡ true }
-    ensures left { OnOk result (stack.new ≡ record stack.old { current = (taken grammar known atom stack.old.current).left }) }
-    ensures actions { OnOk result (actions.new.items ≡ actions.old.items ++ (taken grammar known atom stack.old.current).actions) }
-    ensures settled { stack.new.settled ≡ stack.old.settled }
-    ensures before { take (vec_len actions.old) actions.new.items ≡ actions.old.items }
+/// Whether the end of a routine is on a stack, the top last.
+fn is_in_routine(stack: &[Symbol<Action>]) -> bool
+    ensures { result ≡ is_in_routine (reverse stack.now) }
 {
-    while let Some(symbol) = stack.pop() {
-        match symbol {
-            Symbol::Token(_) => return Ok(()),
-            Symbol::Act(action) => actions.push(action)?,
-            Symbol::Rule(rule) => stack.add_all(chosen(rule, atom))?,
+    for symbol in stack.iter().rev() {
+        match *symbol {
+            Symbol::Act(Action::EndRoutine) => return true,
+            _ => {}
         }
     }
-    Ok(())
+    false
 }

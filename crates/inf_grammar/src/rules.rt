@@ -1,12 +1,13 @@
 //! What the machine knows of a rule.
 ghost use Rattle.std.specs.Prelude.{◌≡◌, reverse};
-ghost use Rattle.inf_grammar.specs.Grammar.{has};
+ghost use Rattle.inf_machine.specs.Grammar.{has};
 ghost use Rattle.inf_grammar.specs.Language.{grammar, known};
-ghost use Rattle.inf_grammar.specs.Machine.{chosen};
+ghost use Rattle.inf_machine.specs.Machine.{chosen};
 ghost use Rattle.inf_grammar.specs.Tables.{all_classes, all_parts, all_rows, all_rules, cut, found, joined_words};
 
-use crate::symbols::Symbol;
+use crate::actions::Action;
 use crate::table::{CLASSES, PARTS, ROWS, RULES};
+use inf_machine::Symbol;
 
 /// A set of atoms, a bit for each, the lowest first.
 #[derive(Clone, Copy)]
@@ -47,7 +48,7 @@ fn classes() -> &'static [Set]
 }
 
 /// The parts of the rows.
-fn parts() -> &'static [Symbol]
+fn parts() -> &'static [Symbol<Action>]
     ensures { result.now ≡ all_parts }
 {
     &PARTS
@@ -88,7 +89,7 @@ fn rows_at(span: Span) -> &'static [Row]
 }
 
 /// The parts of a span.
-fn parts_at(span: Span) -> &'static [Symbol]
+fn parts_at(span: Span) -> &'static [Symbol<Action>]
     ensures { result.now ≡ cut span all_parts }
 {
     match parts().get(span.start as usize..span.end as usize) {
@@ -140,7 +141,7 @@ pub(crate) fn can_be_empty(rule: u8) -> bool
 }
 
 /// The row of a rule that an atom chooses, its last part first.
-pub(crate) fn chosen(rule: u8, atom: u8) -> &'static [Symbol]
+pub(crate) fn chosen(rule: u8, atom: u8) -> &'static [Symbol<Action>]
     ensures { reverse result.now ≡ chosen grammar known atom rule }
 {
     match rules().get(rule as usize) {

@@ -1,139 +1,117 @@
-//! Pieces of source, and where their bad tokens stand.
+//! Pieces of source, and what the machine says of them.
+use inf_grammar::{Machine, Mark, PIECE, Token, atom_of};
+use std::alloc::{AllocError, Global};
+use std::fmt;
 
-/// Pieces without a bad token.
-pub(crate) static GOOD: [&[u8]; 37] = [
-    b"[ r ; ] ;",
-    b"[ r a b c ; print a , \"x\" , ( char ) b ; x = y + 3 * z ; return ; ] ;",
-    b"[ r x ; if ( x == 1 or 2 ) { print x ; } else return 5 ; ] ;",
-    b"[ r x ; while ( x ) x -- ; do x ++ ; until ( x > 9 ) ; for ( x = 0 : x < 5 : x ++ ) print x ; ] ;",
-    b"[ r ; switch ( x ) { 1 , 2 : print 1 ; 3 to 5 : rtrue ; default : rfalse ; } ] ;",
-    b"[ r ; objectloop ( x in y ) move x to z ; give o light ~ dark ; remove p ; ] ;",
-    b"[ r ; . lab ; jump lab ; @ add x 3 -> y ; @ je x 1 ? ~ no ; < take o > ; << drop >> ; ] ;",
-    b"[ r ; string 3 \"abc\" ; style bold ; spaces 5 ; new_line ; \"text\" ; print_ret x ; ] ;",
-    b"abbreviate \"a\" \"b\" ;",
-    b"array a --> 1 2 3 ;",
-    b"array b string \"abc\" ;",
-    b"array c table [ 1 ; 'x' 2 ; ] ;",
-    b"class k with p 1 2 , q , has light ~ dark ;",
-    b"object -> -> o \"name\" par with p 1 [ x ; rtrue ; ] , has light , class k ;",
-    b"nearby n ;",
-    b"extend 'take' first * noun -> take ;",
-    b"verb meta 'quit' * -> quit * 'in' / 'into' noun -> enter reverse ;",
-    b"verb 'aa' = 'take' ;",
-    b"constant x = 3 + 4 ;",
-    b"global g = 5 ;",
-    b"property additive p 5 ;",
-    b"attribute a alias b ;",
-    b"fake_action f ;",
-    b"include \"x\" ;",
-    b"lowstring l \"x\" ;",
-    b"message error \"x\" ;",
-    b"release 5 ;",
-    b"serial \"123456\" ;",
-    b"replace r ;",
-    b"stub s 3 ;",
-    b"switches abc ;",
-    b"system_file ;",
-    b"end ;",
-    b"ifdef x ;",
-    b"# iftrue 1 == 2 ;",
-    b";",
-    b"default d 4 ;",
-];
+/// What the machine says of a piece.
+#[derive(Clone, Copy)]
+pub(crate) enum Answer {
+    /// It ended with the last token, after so many actions.
+    Whole(usize),
+    /// It took all tokens, and waits for more.
+    More,
+    /// So many tokens stand before the one that does not fit.
+    Bad(usize),
+}
 
-/// Pieces with one, and how many tokens stand before it.
-pub(crate) static BAD: [(&[u8], usize); 93] = [
-    (b"[ 5 ] ;", 1),
-    (b"[ r ; if x print ; ] ;", 4),
-    (b"[ r ; print ) ; ] ;", 4),
-    (b"[ r ; return return 5 ; ] ;", 5),
-    (b"[ r ; x = ; ] ;", 5),
-    (b"[ r ; 5 6 ; ] ;", 4),
-    (b"[ r ; while ( ) x ; ] ;", 5),
-    (b"[ r ; do x ; until x ; ] ;", 7),
-    (b"[ r ; for ( x ; y ; z ) w ; ] ;", 6),
-    (b"[ r ; for ( x : y ) z ; ] ;", 8),
-    (b"[ r ; switch ( x ) { print 1 ; } ] ;", 9),
-    (b"[ r ; switch ( x ) { 1 : ; 2 3 : ; } ] ;", 12),
-    (b"[ r ; give ; ] ;", 4),
-    (b"[ r ; move x y ; ] ;", 5),
-    (b"[ r ; jump 5 ; ] ;", 4),
-    (b"[ r ; style 5 ; ] ;", 4),
-    (b"[ r ; string \"x\" ; ] ;", 5),
-    (b"[ r ; objectloop x ; ] ;", 4),
-    (b"[ r ; @ 5 x ; ] ;", 4),
-    (b"[ r ; @ add x -> ; ] ;", 7),
-    (b"[ r ; @ je x ? 5 ; ] ;", 7),
-    (b"[ r ; < 5 > ; ] ;", 4),
-    (b"[ r ; < take o p q > ; ] ;", 7),
-    (b"[ r ; . 5 ; ] ;", 4),
-    (b"[ r ; else x ; ] ;", 4),
-    (b"[ r ; spaces ; ] ;", 4),
-    (b"[ r ; x . 5 . ; ] ;", 7),
-    (b"[ r ; f ( , ) ; ] ;", 5),
-    (b"[ r ; ( x ; ] ;", 5),
-    (b"[ r ; { x ; ] ;", 6),
-    (b"[ r ; new_line 5 ; ] ;", 4),
-    (b"[ r ; \"a\" \"b\" ; ] ;", 4),
-    (b"[ r ; print_ret , ; ] ;", 5),
-    (b"[ r ; x has ; ] ;", 5),
-    (b"[ r ; - ; ] ;", 4),
-    (b"[ r ; ] ]", 4),
-    (b"abbreviate ;", 1),
-    (b"abbreviate \"x\" 5 ;", 2),
-    (b"array ;", 1),
-    (b"array a 5 ;", 2),
-    (b"array a --> ;", 3),
-    (b"array a -> [ ] ]", 5),
-    (b"class ;", 1),
-    (b"class k with 5 ;", 3),
-    (b"class k has 5 ;", 3),
-    (b"class with p ;", 1),
-    (b"object o has a , b ;", 5),
-    (b"object has 5 ;", 2),
-    (b"object o \"x\" \"y\" ;", 3),
-    (b"object o with p [ x ; rtrue ] ;", 8),
-    (b"nearby -> n ;", 1),
-    (b"extend take * -> t ;", 1),
-    (b"extend 'take' only * -> t ;", 2),
-    (b"verb take * -> t ;", 1),
-    (b"verb 'take' -> t ;", 2),
-    (b"verb 'take' * noun t ;", 5),
-    (b"verb 'take' = t ;", 3),
-    (b"verb 'x' ;", 1),
-    (b"verb 'x' * 'a' / -> t ;", 1),
-    (b"constant 7 ;", 1),
-    (b"constant x = ;", 3),
-    (b"constant x 5 6 ;", 3),
-    (b"global 5 ;", 1),
-    (b"global g , 5 ;", 2),
-    (b"property 5 ;", 1),
-    (b"property p alias 5 ;", 3),
-    (b"property additive ;", 2),
-    (b"attribute a b ;", 2),
-    (b"attribute 5 ;", 1),
-    (b"fake_action ;", 1),
-    (b"include x ;", 1),
-    (b"lowstring x ;", 2),
-    (b"lowstring x y ;", 2),
-    (b"message x ;", 1),
-    (b"message error 5 ;", 2),
-    (b"release ;", 1),
-    (b"serial 5 ;", 1),
-    (b"replace 5 ;", 1),
-    (b"stub s ;", 2),
-    (b"stub s t ;", 2),
-    (b"switches ;", 1),
-    (b"system_file x ;", 1),
-    (b"end x ;", 1),
-    (b"ifdef ;", 1),
-    (b"ifdef 5 ;", 1),
-    (b"iftrue ;", 1),
-    (b"iftrue 1 = 2 ;", 2),
-    (b"# 5 ;", 1),
-    (b"# # ;", 1),
-    (b"5 ;", 0),
-    (b"x ;", 0),
-    (b"( x ) ;", 0),
-    (b"endif x ;", 1),
+impl fmt::Display for Answer {
+    fn fmt<W: fmt::Write>(&self, f: &mut fmt::Formatter<W>) -> fmt::Result {
+        match self {
+            Answer::Whole(actions) => write!(f, "whole, with {actions} actions"),
+            Answer::More => write!(f, "more is needed"),
+            Answer::Bad(before) => write!(f, "bad behind {before}"),
+        }
+    }
+}
+
+/// Reads a piece with spaces between its tokens.
+pub(crate) fn read(alloc: Global, piece: &str) -> Result<Answer, AllocError> {
+    let mut machine = Machine::new(alloc);
+    let mut actions = Vec::new(alloc);
+    machine.start(PIECE)?;
+    let mut taken: usize = 0;
+    for spelling in piece.as_bytes().split(|byte| *byte == b' ') {
+        let atom = atom_of(token(spelling));
+        if !machine.fits(atom) {
+            return Ok(Answer::Bad(taken));
+        }
+        machine.take(atom, &mut actions)?;
+        taken = taken.saturating_add(1);
+    }
+    Ok(if machine.is_done() {
+        Answer::Whole(actions.len())
+    } else {
+        Answer::More
+    })
+}
+
+/// The token that is spelled so. A `^` stands before the name of a class, `!` is the end, and what is spelled otherwise is bad.
+pub(crate) fn token(spelling: &[u8]) -> Token<'_> {
+    if let Some(mark) = mark(spelling) {
+        return Token::Mark(mark);
+    }
+    match spelling {
+        b"!" => Token::End,
+        [b'"', ..] => Token::Text,
+        [b'\'', _, b'\''] => Token::Char,
+        [b'\'', ..] => Token::Word,
+        [b'0'..=b'9', ..] => Token::Number,
+        [b'a'..=b'z' | b'A'..=b'Z' | b'_', ..] => Token::Name(spelling, false),
+        [b'^', name @ ..] => Token::Name(name, true),
+        _ => Token::Bad,
+    }
+}
+
+/// The mark that is spelled so.
+fn mark(spelling: &[u8]) -> Option<Mark> {
+    for (mark, kind) in &MARKS {
+        if *mark == spelling {
+            return Some(*kind);
+        }
+    }
+    None
+}
+
+/// The marks by their spelling.
+const MARKS: [(&[u8], Mark); 40] = [
+    (b"->", Mark::Arrow),
+    (b"-->", Mark::LongArrow),
+    (b"-", Mark::Minus),
+    (b"--", Mark::Decrement),
+    (b"+", Mark::Plus),
+    (b"++", Mark::Increment),
+    (b"*", Mark::Star),
+    (b"/", Mark::Slash),
+    (b"%", Mark::Percent),
+    (b"&", Mark::And),
+    (b"&&", Mark::LogicalAnd),
+    (b"|", Mark::Or),
+    (b"||", Mark::LogicalOr),
+    (b"~", Mark::Tilde),
+    (b"~~", Mark::LogicalNot),
+    (b"~=", Mark::NotEqual),
+    (b"=", Mark::Assign),
+    (b"==", Mark::Equal),
+    (b">", Mark::Greater),
+    (b">=", Mark::GreaterOrEqual),
+    (b"<", Mark::Less),
+    (b"<=", Mark::LessOrEqual),
+    (b"<<", Mark::OpenAngles),
+    (b">>", Mark::CloseAngles),
+    (b",", Mark::Comma),
+    (b";", Mark::Semicolon),
+    (b":", Mark::Colon),
+    (b"(", Mark::OpenParenthesis),
+    (b")", Mark::CloseParenthesis),
+    (b"[", Mark::OpenBracket),
+    (b"]", Mark::CloseBracket),
+    (b"{", Mark::OpenBrace),
+    (b"}", Mark::CloseBrace),
+    (b".", Mark::Dot),
+    (b".&", Mark::DotAddress),
+    (b".#", Mark::DotLength),
+    (b"#", Mark::Hash),
+    (b"##", Mark::DoubleHash),
+    (b"?", Mark::Question),
+    (b"@", Mark::At),
 ];

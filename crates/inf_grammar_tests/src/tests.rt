@@ -1,107 +1,8 @@
-//! The machine at worked pieces.
-use crate::pieces::{BAD, GOOD};
-use inf_grammar::{Action, Machine, Mark, PIECE, Token, atom_of};
+//! What the lines of the program do not show: the order of actions, sources of several pieces, words in any case.
+use crate::pieces::token;
+use inf_grammar::{Action, FILE, Machine, PIECE, Token, atom_of};
 use std::alloc::Global;
 use std::test::Fail;
-
-/// The marks by their spelling.
-const MARKS: [(&[u8], Mark); 40] = [
-    (b"->", Mark::Arrow),
-    (b"-->", Mark::LongArrow),
-    (b"-", Mark::Minus),
-    (b"--", Mark::Decrement),
-    (b"+", Mark::Plus),
-    (b"++", Mark::Increment),
-    (b"*", Mark::Star),
-    (b"/", Mark::Slash),
-    (b"%", Mark::Percent),
-    (b"&", Mark::And),
-    (b"&&", Mark::LogicalAnd),
-    (b"|", Mark::Or),
-    (b"||", Mark::LogicalOr),
-    (b"~", Mark::Tilde),
-    (b"~~", Mark::LogicalNot),
-    (b"~=", Mark::NotEqual),
-    (b"=", Mark::Assign),
-    (b"==", Mark::Equal),
-    (b">", Mark::Greater),
-    (b">=", Mark::GreaterOrEqual),
-    (b"<", Mark::Less),
-    (b"<=", Mark::LessOrEqual),
-    (b"<<", Mark::OpenAngles),
-    (b">>", Mark::CloseAngles),
-    (b",", Mark::Comma),
-    (b";", Mark::Semicolon),
-    (b":", Mark::Colon),
-    (b"(", Mark::OpenParenthesis),
-    (b")", Mark::CloseParenthesis),
-    (b"[", Mark::OpenBracket),
-    (b"]", Mark::CloseBracket),
-    (b"{", Mark::OpenBrace),
-    (b"}", Mark::CloseBrace),
-    (b".", Mark::Dot),
-    (b".&", Mark::DotAddress),
-    (b".#", Mark::DotLength),
-    (b"#", Mark::Hash),
-    (b"##", Mark::DoubleHash),
-    (b"?", Mark::Question),
-    (b"@", Mark::At),
-];
-
-/// The token that is spelled so.
-fn token(spelling: &[u8]) -> Token<'_> {
-    for (mark, kind) in &MARKS {
-        if *mark == spelling {
-            return Token::Mark(*kind);
-        }
-    }
-    match spelling {
-        [b'"', ..] => Token::Text,
-        [b'\'', _, b'\''] => Token::Char,
-        [b'\'', ..] => Token::Word,
-        [b'0'..=b'9' | b'$', ..] => Token::Number,
-        [b'a'..=b'z' | b'A'..=b'Z' | b'_', ..] => Token::Name(spelling, false),
-        _ => Token::Bad,
-    }
-}
-
-/// How many tokens of a piece, with spaces between them, are taken, and whether the piece ends behind the last of these.
-fn taken(alloc: Global, piece: &[u8]) -> Result<(usize, bool), Fail> {
-    let mut machine = Machine::new(alloc);
-    let mut actions = Vec::new(alloc);
-    machine.start(PIECE)?;
-    let mut count = 0;
-    for spelling in piece.split(|byte| *byte == b' ') {
-        let atom = atom_of(token(spelling));
-        if !machine.fits(atom) {
-            break;
-        }
-        machine.take(atom, &mut actions)?;
-        count = usize::saturating_add(count, 1);
-    }
-    Ok((count, machine.is_done()))
-}
-
-/// How many tokens a piece has.
-fn length(piece: &[u8]) -> usize {
-    piece.split(|byte| *byte == b' ').count()
-}
-
-#[test]
-fn pieces_end(rt: HostRuntime) -> Result<(), Fail> {
-    for piece in &GOOD {
-        assert_eq!(rt; taken(rt.alloc(), piece)?, (length(piece), true));
-    }
-    Ok(())
-}
-
-#[test]
-fn bad_tokens_are_told(rt: HostRuntime) -> Result<(), Fail> {
-    for (piece, before) in &BAD {
-        assert_eq!(rt; taken(rt.alloc(), piece)?, (*before, false));
-    }
-    Ok(())
-}
 
 /// The actions of a sum, in the order of its tree from the leaves up, and of the statement that it belongs to.
 #[test]
@@ -146,5 +47,56 @@ fn words_have_no_case(rt: HostRuntime) -> Result<(), Fail> {
     assert!(rt; machine.fits(atom_of(Token::Name(b"Room", true))));
     assert!(rt; !machine.fits(atom_of(Token::Name(b"Room", false))));
     assert!(rt; !machine.fits(atom_of(Token::End)));
+    Ok(())
+}
+
+/// What a machine answers behind some tokens of a source: whether the source may end there, and whether a routine is open.
+fn behind(alloc: Global, tokens: &[u8]) -> Result<(bool, bool), Fail> {
+    let mut machine = Machine::new(alloc);
+    let mut actions = Vec::new(alloc);
+    machine.start(FILE)?;
+    for spelling in tokens.split(|byte| *byte == b' ') {
+        let atom = atom_of(token(spelling));
+        if machine.fits(atom) {
+            machine.take(atom, &mut actions)?;
+        }
+    }
+    Ok((machine.can_end(), machine.is_in_routine()))
+}
+
+/// A source may end behind a piece; a routine is open up to its bracket, also one that is a property's value.
+#[test]
+fn sources_end_between_pieces(rt: HostRuntime) -> Result<(), Fail> {
+    let alloc = rt.alloc();
+    assert_eq!(rt; behind(alloc, b";")?, (true, false));
+    assert_eq!(rt; behind(alloc, b"; [")?, (false, true));
+    assert_eq!(rt; behind(alloc, b"; [ R ; x ;")?, (false, true));
+    assert_eq!(rt; behind(alloc, b"; [ R ; x ; ]")?, (false, false));
+    assert_eq!(rt; behind(alloc, b"; [ R ; x ; ] ;")?, (true, false));
+    assert_eq!(rt; behind(alloc, b"constant c")?, (false, false));
+    assert_eq!(rt; behind(alloc, b"object o with p [ ; x ;")?, (false, true));
+    assert_eq!(rt;
+        behind(alloc, b"object o with p [ ; x ; ] 5")?,
+        (false, false)
+    );
+    Ok(())
+}
+
+/// What was to be read can be given up, and another piece begun.
+#[test]
+fn pieces_are_given_up(rt: HostRuntime) -> Result<(), Fail> {
+    let mut machine = Machine::new(rt.alloc());
+    let mut actions = Vec::new(rt.alloc());
+    machine.start(PIECE)?;
+    let bracket = atom_of(token(b"["));
+    if machine.fits(bracket) {
+        machine.take(bracket, &mut actions)?;
+    }
+    assert!(rt; machine.is_in_routine());
+    machine.clear();
+    assert!(rt; machine.is_done());
+    assert!(rt; !machine.fits(bracket));
+    machine.start(PIECE)?;
+    assert!(rt; machine.fits(bracket));
     Ok(())
 }

@@ -7,43 +7,43 @@ use Rattle.inf_token.specs.declared.spelling.Mark.{Mark}
 use Rattle.inf_token.specs.declared.spelling.Mark.TheVariants as mark
 use Rattle.inf_token.specs.declared.spelling.TokenKind.{TokenKind}
 use Rattle.inf_token.specs.declared.spelling.TokenKind.TheVariants as kind
-use Rattle.inf_reader.specs.Reading.{State, passed_mark, taken}
-use Rattle.inf_reader.specs.declared.control.Control.{Control}
-use Rattle.inf_reader.specs.declared.control.Control.TheVariants as control
+use Rattle.inf_reader.specs.Reading.{State, passed_mark, taken_at}
+use Rattle.inf_reader.specs.declared.mode.Mode.{Mode}
+use Rattle.inf_reader.specs.declared.mode.Mode.TheVariants as mode
 use Rattle.inf_laws.specs.Skipping.{at, taken_all, Lack, IsSkipped, IsRoutineSkipped, DirectivesAreSkipped, RoutinesAreSkipped, SourcesEnd}
 
 mark_is_no_end : (m : Mark) (k : TokenKind) → is_mark m k ≡ true → is_end k ≡ false
 mark_is_no_end m kind.End e = cc
 mark_is_no_end m _ e = refl
 
--- From this control a mark leads to the next, and every other token but the end leads nowhere.
-record Passes (m : Mark) (c next : Control) : Type 0 where
-  stays : (file : List ℕ) (t : Spelled) (s : State) → is_end t.kind ≡ false → is_mark m t.kind ≡ false → taken file t (at c s) ≡ at c s
-  leaves : (file : List ℕ) (t : Spelled) (s : State) → is_mark m t.kind ≡ true → taken file t (at c s) ≡ at next s
+-- From this mode a mark leads to the next, and every other token but the end leads nowhere.
+record Passes (m : Mark) (c next : Mode) : Type 0 where
+  stays : (file : List ℕ) (t : Spelled) (s : State) → is_end t.kind ≡ false → is_mark m t.kind ≡ false → taken_at file t (at c s) ≡ at c s
+  leaves : (file : List ℕ) (t : Spelled) (s : State) → is_mark m t.kind ≡ true → taken_at file t (at c s) ≡ at next s
 
-in_routine : Passes mark.CloseBracket control.SkipRoutine control.SkipDirective
+in_routine : Passes mark.CloseBracket mode.SkipsRoutine mode.SkipsDirective
 in_routine = record {
   stays = λ file t s going other.
-      ap (λ b. at (cond b control.Ended (passed_mark control.SkipRoutine t.kind)) s) going
-      ∙ ap (λ b. at (cond b control.SkipDirective control.SkipRoutine) s) other;
+      ap (λ b. at (cond b mode.Ended (passed_mark mode.SkipsRoutine t.kind)) s) going
+      ∙ ap (λ b. at (cond b mode.SkipsDirective mode.SkipsRoutine) s) other;
   leaves = λ file t s is.
-      ap (λ b. at (cond b control.Ended (passed_mark control.SkipRoutine t.kind)) s) (mark_is_no_end mark.CloseBracket t.kind is)
-      ∙ ap (λ b. at (cond b control.SkipDirective control.SkipRoutine) s) is;
+      ap (λ b. at (cond b mode.Ended (passed_mark mode.SkipsRoutine t.kind)) s) (mark_is_no_end mark.CloseBracket t.kind is)
+      ∙ ap (λ b. at (cond b mode.SkipsDirective mode.SkipsRoutine) s) is;
 }
 
-in_directive : Passes mark.Semicolon control.SkipDirective control.Between
+in_directive : Passes mark.Semicolon mode.SkipsDirective mode.Reads
 in_directive = record {
   stays = λ file t s going other.
-      ap (λ b. at (cond b control.Ended (passed_mark control.SkipDirective t.kind)) s) going
-      ∙ ap (λ b. at (cond b control.Between control.SkipDirective) s) other;
+      ap (λ b. at (cond b mode.Ended (passed_mark mode.SkipsDirective t.kind)) s) going
+      ∙ ap (λ b. at (cond b mode.Reads mode.SkipsDirective) s) other;
   leaves = λ file t s is.
-      ap (λ b. at (cond b control.Ended (passed_mark control.SkipDirective t.kind)) s) (mark_is_no_end mark.Semicolon t.kind is)
-      ∙ ap (λ b. at (cond b control.Between control.SkipDirective) s) is;
+      ap (λ b. at (cond b mode.Ended (passed_mark mode.SkipsDirective t.kind)) s) (mark_is_no_end mark.Semicolon t.kind is)
+      ∙ ap (λ b. at (cond b mode.Reads mode.SkipsDirective) s) is;
 }
 
-module _ (m : Mark) (c next : Control) (passes : Passes m c next) (file : List ℕ) (s : State) where
+module _ (m : Mark) (c next : Mode) (passes : Passes m c next) (file : List ℕ) (s : State) where
   -- a first token that is neither the mark nor the end
-  first_stays : (t : Spelled) (tokens : List Spelled) → Lack m (t ∷ tokens) → taken file t (at c s) ≡ at c s
+  first_stays : (t : Spelled) (tokens : List Spelled) → Lack m (t ∷ tokens) → taken_at file t (at c s) ≡ at c s
   first_stays t tokens lack =
       let parts = or_parts (is_mark m t.kind) (is_end t.kind) (not-true (is_mark m t.kind || is_end t.kind) (and_parts (not (is_mark m t.kind || is_end t.kind)) (list_all (λ t. not (is_mark m t.kind || is_end t.kind)) tokens) lack).0) in
       passes.stays file t s parts.1 parts.0
@@ -77,45 +77,45 @@ module _ (m : Mark) (c next : Control) (passes : Passes m c next) (file : List �
       ∙ front_goes_on inside t more n k (omega (arith, e)) (rest_lacks x inside lack) is
 
 -- a state stands where it stands
-stands : (s : State) (c : Control) → s.control ≡ c → at c s ≡ s
+stands : (s : State) (c : Mode) → s.reading.mode ≡ c → at c s ≡ s
 stands s c e = ap (λ x. at x s) (sym e)
 
-directive_skipped : (file : List ℕ) (s : State) (tokens : List Spelled) (semicolon : Spelled) → Lack mark.Semicolon tokens → is_mark mark.Semicolon semicolon.kind ≡ true → IsSkipped file (at control.SkipDirective s) (tokens ++ semicolon ∷ [])
+directive_skipped : (file : List ℕ) (s : State) (tokens : List Spelled) (semicolon : Spelled) → Lack mark.Semicolon tokens → is_mark mark.Semicolon semicolon.kind ≡ true → IsSkipped file (at mode.SkipsDirective s) (tokens ++ semicolon ∷ [])
 directive_skipped file s tokens semicolon lack is = record {
   stays = λ n less.
-      front_stays mark.Semicolon control.SkipDirective control.Between in_directive file s tokens (semicolon ∷ []) n lack (omega (arith, length-append tokens (semicolon ∷ [])));
-  ends = goes_on mark.Semicolon control.SkipDirective control.Between in_directive file s tokens semicolon [] lack is;
+      front_stays mark.Semicolon mode.SkipsDirective mode.Reads in_directive file s tokens (semicolon ∷ []) n lack (omega (arith, length-append tokens (semicolon ∷ [])));
+  ends = goes_on mark.Semicolon mode.SkipsDirective mode.Reads in_directive file s tokens semicolon [] lack is;
 }
 
 pub directives_are_skipped : DirectivesAreSkipped
 directives_are_skipped file s tokens semicolon stood lack is =
-    subst (λ x. IsSkipped file x (tokens ++ semicolon ∷ [])) (stands s control.SkipDirective stood) (directive_skipped file s tokens semicolon lack is)
+    subst (λ x. IsSkipped file x (tokens ++ semicolon ∷ [])) (stands s mode.SkipsDirective stood) (directive_skipped file s tokens semicolon lack is)
 
-routine_skipped : (file : List ℕ) (s : State) (inside : List Spelled) (bracket : Spelled) (behind : List Spelled) (semicolon : Spelled) → Lack mark.CloseBracket inside → is_mark mark.CloseBracket bracket.kind ≡ true → Lack mark.Semicolon behind → is_mark mark.Semicolon semicolon.kind ≡ true → IsRoutineSkipped file (at control.SkipRoutine s) (length inside) (inside ++ bracket ∷ (behind ++ semicolon ∷ []))
+routine_skipped : (file : List ℕ) (s : State) (inside : List Spelled) (bracket : Spelled) (behind : List Spelled) (semicolon : Spelled) → Lack mark.CloseBracket inside → is_mark mark.CloseBracket bracket.kind ≡ true → Lack mark.Semicolon behind → is_mark mark.Semicolon semicolon.kind ≡ true → IsRoutineSkipped file (at mode.SkipsRoutine s) (length inside) (inside ++ bracket ∷ (behind ++ semicolon ∷ []))
 routine_skipped file s inside bracket behind semicolon lack is lack_behind ends = record {
   stays = λ n le.
-      front_stays mark.CloseBracket control.SkipRoutine control.SkipDirective in_routine file s inside (bracket ∷ (behind ++ semicolon ∷ [])) n lack le;
+      front_stays mark.CloseBracket mode.SkipsRoutine mode.SkipsDirective in_routine file s inside (bracket ∷ (behind ++ semicolon ∷ [])) n lack le;
   closes = λ n more less.
       let k : ℕ = n - length inside - 1 in
       let whole : n ≡ length inside + suc k = omega arith in
-      front_goes_on mark.CloseBracket control.SkipRoutine control.SkipDirective in_routine file s inside bracket (behind ++ semicolon ∷ []) n k whole lack is
-      ∙ front_stays mark.Semicolon control.SkipDirective control.Between in_directive file s behind (semicolon ∷ []) k lack_behind
+      front_goes_on mark.CloseBracket mode.SkipsRoutine mode.SkipsDirective in_routine file s inside bracket (behind ++ semicolon ∷ []) n k whole lack is
+      ∙ front_stays mark.Semicolon mode.SkipsDirective mode.Reads in_directive file s behind (semicolon ∷ []) k lack_behind
       (omega (arith, whole, length-append inside (bracket ∷ (behind ++ semicolon ∷ [])), length-append behind (semicolon ∷ [])));
   ends =
-      goes_on mark.CloseBracket control.SkipRoutine control.SkipDirective in_routine file s inside bracket (behind ++ semicolon ∷ []) lack is
-      ∙ goes_on mark.Semicolon control.SkipDirective control.Between in_directive file s behind semicolon [] lack_behind ends;
+      goes_on mark.CloseBracket mode.SkipsRoutine mode.SkipsDirective in_routine file s inside bracket (behind ++ semicolon ∷ []) lack is
+      ∙ goes_on mark.Semicolon mode.SkipsDirective mode.Reads in_directive file s behind semicolon [] lack_behind ends;
 }
 
 pub routines_are_skipped : RoutinesAreSkipped
 routines_are_skipped file s inside bracket behind semicolon stood lack is lack_behind ends =
-    subst (λ x. IsRoutineSkipped file x (length inside) (inside ++ bracket ∷ (behind ++ semicolon ∷ []))) (stands s control.SkipRoutine stood)
+    subst (λ x. IsRoutineSkipped file x (length inside) (inside ++ bracket ∷ (behind ++ semicolon ∷ []))) (stands s mode.SkipsRoutine stood)
     (routine_skipped file s inside bracket behind semicolon lack is lack_behind ends)
 
-both_end : (file : List ℕ) (t : Spelled) (s : State) (c : Control) → is_end t.kind ≡ true → cond (is_end t.kind) control.Ended (passed_mark c t.kind) ≡ control.Ended
-both_end file t s c e = ap (λ b. cond b control.Ended (passed_mark c t.kind)) e
+both_end : (file : List ℕ) (t : Spelled) (s : State) (c : Mode) → is_end t.kind ≡ true → cond (is_end t.kind) mode.Ended (passed_mark c t.kind) ≡ mode.Ended
+both_end file t s c e = ap (λ b. cond b mode.Ended (passed_mark c t.kind)) e
 
 pub sources_end : SourcesEnd
 sources_end file t s e = record {
-  in_routine = λ stood. ap (taken file t) (sym (stands s control.SkipRoutine stood)) ∙ ap (λ c. at c s) (both_end file t s control.SkipRoutine e);
-  in_directive = λ stood. ap (taken file t) (sym (stands s control.SkipDirective stood)) ∙ ap (λ c. at c s) (both_end file t s control.SkipDirective e);
+  in_routine = λ stood. ap (taken_at file t) (sym (stands s mode.SkipsRoutine stood)) ∙ ap (λ c. at c s) (both_end file t s mode.SkipsRoutine e);
+  in_directive = λ stood. ap (taken_at file t) (sym (stands s mode.SkipsDirective stood)) ∙ ap (λ c. at c s) (both_end file t s mode.SkipsDirective e);
 }

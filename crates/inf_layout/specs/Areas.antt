@@ -5,7 +5,7 @@ use Rattle.std.specs.List.{flat_map}
 use Rattle.byteorder.specs.Endian.{big_bytes}
 use Rattle.inf_text.specs.Packing.{packed}
 use Rattle.inf_layout.specs.Code.{CodeCell, Known, Awaited}
-use Rattle.inf_text.specs.declared.texts.TextItem.TheVariants.{Character}
+use Rattle.inf_characters.specs.declared.texts.TextItem.TheVariants.{Character}
 
 -- The areas behind the header, in the order in which they lie.
 pub data AreaName : Type 0 where

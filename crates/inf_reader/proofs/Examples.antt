@@ -1,14 +1,15 @@
 -- The definitions at worked examples.
 use Rattle.std.proofs.Common.{◌≡◌, ℕ, ◌/◌, ◌%◌, List, [], ◌∷◌, length, refl, sym, ap, ◌∙◌, arith, subst}
 use Rattle.std.specs.Fmt.{digits}
-use Rattle.inf_text.specs.Characters.{accented, zscii_of, zscii_of_unicode}
+use Rattle.inf_characters.specs.Characters.{accented, zscii_of, zscii_of_unicode}
 use Rattle.inf_text.specs.Packing.{packed, longest, character_zs, punctuation}
-use Rattle.inf_text.specs.Reading.{escape_piece, piece_at, spelled, spellings, text_of}
+use Rattle.inf_characters.specs.Reading.{escape_piece, piece_at, spelled, spellings, text_of}
 use Rattle.inf_layout.specs.Code.{known}
 use Rattle.inf_layout.specs.Fixed.{repeated, fixed_bytes, body_bytes, story_bytes}
 use Rattle.inf_layout.specs.Story.{body, story}
 use Rattle.inf_layout.specs.StoryLaws.{HasWordAt, TellsItself}
 use Rattle.inf_reader.specs.Examples.{NoSource, EmptySource, TextIsMissing, SemicolonIsMissing, NameIsDeclaredTwice, LinesEndInThreeWays, HelloIsCompiled, CallsAreCompiled, NamesAreUndeclared, LocalIsNamedTwice, ArgumentsAreTooMany, HelloIsAStory}
+use Rattle.inf_grammar.specs.Language as language
 use Rattle.inf_layout.proofs.Fixed.{story_is}
 use Rattle.inf_layout.proofs.StoryLaws.{story_length, bytes_tell_themselves}
 
@@ -21,15 +22,15 @@ unfolding digits
 empty_source serial = refl
 
 pub text_is_missing : TextIsMissing
-unfolding digits
+unfolding digits language.grammar language.known
 text_is_missing serial = refl
 
 pub semicolon_is_missing : SemicolonIsMissing
-unfolding digits
+unfolding digits language.grammar language.known
 semicolon_is_missing serial = refl
 
 pub name_is_declared_twice : NameIsDeclaredTwice
-unfolding digits
+unfolding digits language.grammar language.known
 name_is_declared_twice serial = refl
 
 pub lines_end_in_three_ways : LinesEndInThreeWays
@@ -37,22 +38,23 @@ unfolding digits
 lines_end_in_three_ways serial = refl
 
 pub hello_is_compiled : HelloIsCompiled
-unfolding text_of piece_at escape_piece spelled spellings zscii_of zscii_of_unicode accented packed longest character_zs punctuation
+unfolding text_of piece_at escape_piece spelled spellings zscii_of zscii_of_unicode accented packed longest character_zs punctuation language.grammar language.known
 hello_is_compiled = refl
 
 pub calls_are_compiled : CallsAreCompiled
+unfolding language.grammar language.known
 calls_are_compiled = refl
 
 pub names_are_undeclared : NamesAreUndeclared
-unfolding digits
+unfolding digits language.grammar language.known
 names_are_undeclared serial = refl
 
 pub local_is_named_twice : LocalIsNamedTwice
-unfolding digits
+unfolding digits language.grammar language.known
 local_is_named_twice serial = refl
 
 pub arguments_are_too_many : ArgumentsAreTooMany
-unfolding digits
+unfolding digits language.grammar language.known
 arguments_are_too_many serial = refl
 
 abbrev hello_bytes : List ℕ
@@ -69,7 +71,7 @@ hello_story serial six = (
 )
 
 pub hello_is_a_story : HelloIsAStory
-unfolding digits text_of piece_at escape_piece spelled spellings zscii_of zscii_of_unicode accented packed longest character_zs punctuation body
+unfolding digits text_of piece_at escape_piece spelled spellings zscii_of zscii_of_unicode accented packed longest character_zs punctuation body language.grammar language.known
 hello_is_a_story serial six =
     let whole : story serial 0 (0 ∷ []) (known hello_bytes) ≡ story_bytes serial 0 hello_bytes = story_is serial 0 (0 ∷ []) (known hello_bytes) in
     let says = hello_story serial six in

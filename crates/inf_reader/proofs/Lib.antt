@@ -1,7 +1,7 @@
+pub mod Misfits
 pub mod Turns
+pub mod ReadOn
+pub mod PieceLaws
 pub mod ReadingLaws
 pub mod Examples
-pub mod GrammarLaws
 pub mod TextWords
-pub mod TokenClasses
-pub mod ReadingPlaces

@@ -1,7 +1,11 @@
+pub mod Tests
+pub mod Selection
+pub mod Units
+pub mod Actions
 pub mod Reading
+pub mod Pieces
 pub mod Sessions
 pub mod Outcome
 pub mod Translations
 pub mod ReadingLaws
 pub mod Examples
-pub mod Grammar

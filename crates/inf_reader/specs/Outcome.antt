@@ -30,8 +30,8 @@ is_clean r = not r.is_over && (r.errors == 0)
 -- the story of the routines, where it is not too long; messages about it stand at the first line
 abbrev pub laid : List ℕ → List ℕ → ℕ → State → Reported → Ending
 laid serial file main s r =
-    if is_too_long main (places s.names) s.code then refused (with_fatal file 1 StoryTooLong r)
-    else record { messages = (with_closing r).lines; story = Some (story serial main (places s.names) s.code); status = status.Success }
+    if is_too_long main (places s.work.names) s.work.output.code then refused (with_fatal file 1 StoryTooLong r)
+    else record { messages = (with_closing r).lines; story = Some (story serial main (places s.work.names) s.work.output.code); status = status.Success }
 
 -- the routine with which a story begins
 abbrev pub main_name : List ℕ
@@ -45,7 +45,7 @@ begun serial file s r (Some main) = if is_clean r then laid serial file main.pla
 -- at the end the names are told that were used and never declared
 abbrev pub finished : List ℕ → List ℕ → State → Ending
 finished serial file s =
-    begun serial file s (with_all_undeclared file s.names s.report) (declaration_of main_name s.names)
+    begun serial file s (with_all_undeclared file s.work.names s.work.report) (declaration_of main_name s.work.names)
 
 -- the ending of a source that is not there
 abbrev pub missing : List ℕ → Ending

@@ -1,6 +1,6 @@
 //! What the definitions give together.
 ghost use Rattle.inf_reader.specs.Examples.{NoSource, EmptySource, TextIsMissing, SemicolonIsMissing, NameIsDeclaredTwice, LinesEndInThreeWays, HelloIsCompiled, HelloIsAStory, CallsAreCompiled, NamesAreUndeclared, LocalIsNamedTwice, ArgumentsAreTooMany};
-ghost use Rattle.inf_reader.specs.Grammar.{FaultyTokensFitNothing, FrontsBegin, ItemsAreRead, PartsBegin, TextsBegin, TurnsAreRead};
+ghost use Rattle.inf_reader.specs.Pieces.{FaultyTokensFitNothing, FrontsBegin, PiecesAreRead, PiecesBegin, TurnsAreRead};
 ghost use Rattle.inf_reader.specs.ReadingLaws.{SourcesAreRead};
 
 /// Each source is read to its end or to a fatal message, and further turns change nothing.
@@ -24,13 +24,12 @@ pub fn sources_have_these_outcomes()
     ensures arguments_are_too_many { ArgumentsAreTooMany }
 {}
 
-/// Reading follows the grammar: from between the pieces it leads through an item, or to the bad
-/// token, which is the first with which the tokens begin no item.
-pub fn items_are_read()
-    ensures items_are_read { ItemsAreRead }
+/// Reading follows the grammar, as far as it has come: from between the pieces it leads through one,
+/// or to the bad token, which is the first with which the tokens begin none.
+pub fn pieces_are_read()
+    ensures pieces_are_read { PiecesAreRead }
     ensures turns_are_read { TurnsAreRead }
-    ensures texts_begin { TextsBegin }
+    ensures pieces_begin { PiecesBegin }
     ensures fronts_begin { FrontsBegin }
-    ensures parts_begin { PartsBegin }
     ensures faulty_tokens_fit_nothing { FaultyTokensFitNothing }
 {}

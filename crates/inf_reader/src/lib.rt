@@ -1,11 +1,15 @@
-//! The reader: takes the tokens of a source one by one, and makes messages and routines of them.
+//! The reader: takes the tokens of a source one by one by the grammar's table, and makes messages and routines of them.
 #![tactic(auto)]
 
-mod control;
 mod laws;
+mod mode;
 mod operands;
 pub mod outcome;
+mod output;
+mod reader;
+mod selection;
 pub mod session;
 mod tokens;
+mod work;
 
-pub use laws::{items_are_read, sources_are_read, sources_have_these_outcomes};
+pub use laws::{pieces_are_read, sources_are_read, sources_have_these_outcomes};

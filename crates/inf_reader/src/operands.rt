@@ -1,6 +1,6 @@
 ghost use Rattle.std.specs.Prelude.{◌≡◌, ◌≤◌, List, [], ◌∷◌, ◌++◌, IfOk, length, map, option_map};
 ghost use Rattle.inf_asm.specs.declared.instructions.Operand.{Operand as AsmOperand};
-ghost use Rattle.inf_reader.specs.Reading.{operand_fault, operands_fault, call_fault, call_opcode, with_operands, with_operand, Operands};
+ghost use Rattle.inf_reader.specs.Units.{operand_fault, operands_fault, call_fault, call_opcode, with_operands, with_operand, Operands};
 ghost use Rattle.inf_token.specs.Tokens.{spelled};
 ghost use Rattle.inf_symbol.specs.Reports.{blamed};
 ghost use Rattle.inf_symbol.specs.NameMap.{named};

@@ -1,32 +1,27 @@
-ghost use Rattle.std.specs.Prelude.{◌≡◌, ◌<◌, ◌^◌, ◌+◌, OnOk, IfOk, IfSome, IfNone, None, Some, Ok, [], is_none, length, option_map, map};
-ghost use Rattle.inf_reader.specs.Reading.{has_ended, turn, header_fault};
+ghost use Rattle.std.specs.Prelude.{◌≡◌, ◌<◌, ◌^◌, ◌+◌, OnOk, IfOk, IfSome, Some, is_none, length};
+ghost use Rattle.inf_reader.specs.Reading.{has_ended, turn};
 ghost use Rattle.inf_token.specs.Tokens.{spelled};
-ghost use Rattle.inf_symbol.specs.Reports.{blamed};
 ghost use Rattle.inf_symbol.specs.Reported.{reported};
-ghost use Rattle.inf_symbol.specs.LocalList.{headed as as_headed};
 ghost use Rattle.inf_reader.specs.Translations.{seen};
 ghost use Rattle.inf_symbol.specs.Names.{places};
 ghost use Rattle.inf_symbol.specs.NameMap.{named as name_list};
 ghost use Rattle.inf_layout.specs.Story.{story, is_too_long};
 ghost use Rattle.inf_reader.specs.Outcome.{outcome, missing, finished, refused};
 
-use crate::control::{Control, Statement, passed};
-use crate::operands::{call_fault, call_opcode, operand_fault, operands_of};
+use crate::mode::{Mode, passed};
 use crate::outcome::{Status, Translation};
-use crate::tokens::{
-    complaint_of, is_end, is_fit_name, is_mark, is_operand, is_word, one_word, text_of,
-};
-use inf_asm::{Instruction, Opcode, Routine, RoutineKind};
+use crate::reader::Reader;
+use crate::selection::begins_piece;
+use crate::tokens::{atom_at, complaint_of, is_end, text_of};
+use crate::work::Work;
+use inf_grammar::Action;
 use inf_layout::code::Code;
 use inf_layout::layout::story;
-use inf_symbol::locals::{Headed, Locals};
-use inf_symbol::messages::{Blame, Message};
-use inf_symbol::names::{Declaration, Names, folded, is_system_name};
+use inf_symbol::messages::Message;
+use inf_symbol::names::Names;
 use inf_symbol::report::Report;
-use inf_text::{Text, pack};
-use inf_token::spelling::{Lexer, Mark, Token};
+use inf_token::spelling::{Lexer, Token};
 use std::alloc::{AllocError, Global};
-use std::mem;
 
 /// Where the messages about a whole source stand.
 const FIRST_LINE: u32 = 1;
@@ -38,30 +33,16 @@ pub struct Session<'a> {
     file: &'a [u8],
     source: &'a [u8],
     lexer: Lexer<'a>,
-    control: Control,
-    /// The line where the unit at hand begins.
-    unit_line: u32,
-    /// The names in it so far.
-    unit_names: Vec<Token<'a>>,
-    names: Names<'a>,
-    /// The finished routines.
-    code: Code,
-    /// The open routine, or an empty one.
-    routine: Routine,
-    /// The locals of the routine that was opened last.
-    locals: Locals<'a>,
-    /// Whether that routine's header had an error.
-    is_lost: bool,
-    report: Report,
+    reader: Reader<'a>,
+    /// The actions on the way to the token at hand.
+    actions: Vec<Action>,
+    work: Work<'a>,
 }
 
 impl<'a> Session<'a> {
-    ghost use Rattle.inf_reader.specs.Reading.{start, bad, begun, named, moved, run, turns_of, taken, directive, routine_name, local_name, header, header_with, name_fault, statement_at, one_word, other_statement, print_text, print_more, print, call_bracket, first_argument, argument, argument_end, return_at, statement_end, finish, call_of, return_of, emitted, close, directive_end};
-    ghost use Rattle.inf_symbol.specs.Names.{declaration_of, folded};
+    ghost use Rattle.inf_reader.specs.Reading.{start, run, turns_of, taken_at, read_at, judged, bad, stand};
+    ghost use Rattle.inf_reader.specs.Sessions.{state, reading, unit, work};
     ghost use Rattle.inf_token.specs.Tokens.{HasRoom, cursor};
-    ghost use Rattle.inf_reader.specs.Sessions.{state};
-    ghost use Rattle.inf_asm.specs.Instructions.{IsProper};
-    ghost use Rattle.inf_asm.specs.PartsOf.{parts_of};
 
     /// At the front of a source, which has fewer than 2^32 - 1 bytes.
     pub fn new(alloc: Global, file: &'a [u8], source: &'a [u8]) -> Result<Session<'a>, AllocError>
@@ -70,22 +51,14 @@ impl<'a> Session<'a> {
         ensures room { IfOk result (λ session. HasRoom session.lexer) }
         ensures file { IfOk result (λ session. session.file.now ≡ file.now) }
     {
-        let mut code = Code::new(alloc);
-        let routine = code.open(alloc, 0)?;
         Ok(Session {
             alloc,
             file,
             source,
             lexer: Lexer::new(source),
-            control: Control::Between,
-            unit_line: FIRST_LINE,
-            unit_names: Vec::new(alloc),
-            names: Names::new(alloc),
-            code,
-            routine,
-            locals: Locals::new(),
-            is_lost: false,
-            report: Report::new(alloc),
+            reader: Reader::new(alloc),
+            actions: Vec::new(alloc),
+            work: Work::new(alloc)?,
         })
     }
 
@@ -93,7 +66,7 @@ impl<'a> Session<'a> {
     pub fn has_ended(&self) -> bool
         ensures { result ≡ has_ended (state self.now) }
     {
-        self.report.is_over || matches!(self.control, Control::Ended)
+        self.work.report.is_over || matches!(self.reader.mode, Mode::Ended)
     }
 
     /// Reads the whole source.
@@ -109,8 +82,8 @@ impl<'a> Session<'a> {
         Ok(())
     }
 
-    /// One turn takes the next token: it goes on with the unit at hand, or ends it, and then the
-    /// unit acts (a `print` adds each of its texts as it comes); or it is passed over.
+    /// One turn takes the next token: the actions of the grammar on the way to it act. Or the token
+    /// is bad, or is passed over.
     pub fn turn(&mut self) -> Result<(), AllocError>
         requires { HasRoom self.old.lexer }
         ensures state { OnOk result (state self.new ≡ turn self.old.file.now (state self.old)) }
@@ -124,413 +97,70 @@ impl<'a> Session<'a> {
     /// Takes a token, behind which the lexer stands.
     fn take(&mut self, token: Token<'a>) -> Result<(), AllocError>
         ensures state { OnOk result (state self.new
-            ≡ taken self.old.file.now (spelled token.entry) (state self.old)) }
+            ≡ taken_at self.old.file.now (spelled token.entry) (state self.old)) }
         ensures same { (self.new.lexer ≡ self.old.lexer) × (self.new.file ≡ self.old.file) }
     {
-        match self.control {
-            Control::Between => self.directive(token),
-            Control::RoutineName => self.routine_name(token),
-            Control::Locals => self.local_name(token),
-            Control::Body => self.statement(token),
-            Control::PrintText => self.print_text(token),
-            Control::PrintMore => self.print_more(token),
-            Control::CallBracket => self.call_bracket(token),
-            Control::FirstArgument => self.first_argument(token),
-            Control::Argument => self.argument(token),
-            Control::ArgumentEnd => self.argument_end(token),
-            Control::ReturnValue => self.return_value(token),
-            Control::StatementEnd(statement) => self.statement_end(statement, token),
-            Control::Closed => self.directive_end(token),
-            Control::SkipRoutine | Control::SkipDirective => {
-                self.control = passed(self.control, token.kind);
+        match self.reader.mode {
+            Mode::Reads => self.read_token(token),
+            Mode::SkipsRoutine | Mode::SkipsDirective => {
+                self.reader.mode = passed(self.reader.mode, token.kind);
                 Ok(())
             }
-            Control::Ended => Ok(()),
+            Mode::Ended => Ok(()),
         }
+    }
+
+    /// A token of a piece, or the end between the pieces.
+    fn read_token(&mut self, token: Token<'a>) -> Result<(), AllocError>
+        ensures state { let before = reading self.old.reader in
+            OnOk result (state self.new ≡ stand (state self.old)
+            (read_at self.old.file.now (spelled token.entry) before.stack before (work self.old.work))) }
+        ensures same { (self.new.lexer ≡ self.old.lexer) × (self.new.file ≡ self.old.file) }
+    {
+        if !self.reader.machine.is_done() {
+            let has_come = self.reader.unit.has_come(token);
+            return self.judge(token, has_come);
+        }
+        if is_end(token.kind) {
+            self.reader.mode = Mode::Ended;
+            return Ok(());
+        }
+        self.reader.begin()?;
+        self.judge(token, begins_piece(token))
+    }
+
+    /// Takes a token of the piece at hand if it fits and may go on with it; else it is the bad one.
+    fn judge(&mut self, token: Token<'a>, has_come: bool) -> Result<(), AllocError>
+        ensures state { let before = reading self.old.reader in
+            OnOk result (state self.new ≡ stand (state self.old)
+            (judged self.old.file.now has_come (spelled token.entry) before (work self.old.work))) }
+        ensures same { (self.new.lexer ≡ self.old.lexer) × (self.new.file ≡ self.old.file) }
+    {
+        let text = text_of(self.alloc, token)?;
+        let atom = atom_at(token, text.is_some());
+        if !(has_come && self.reader.machine.fits(atom)) {
+            return self.bad(token);
+        }
+        self.reader.take(atom, &mut self.actions)?;
+        let (file, unit) = (self.file, &self.reader.unit);
+        self.work
+            .act_all(file, unit, token.line, self.actions.as_slice())?;
+        self.work.gather(text);
+        self.reader.unit.add(token)
     }
 
     /// Tells the bad token of a piece, and passes over it.
-    fn bad(&mut self, token: Token<'_>, skip: Control) -> Result<(), AllocError>
-        ensures state { OnOk result (state self.new
-            ≡ bad self.old.file.now skip (spelled token.entry) (state self.old)) }
+    fn bad(&mut self, token: Token<'_>) -> Result<(), AllocError>
+        ensures state { let before = reading self.old.reader in
+            OnOk result (state self.new ≡ stand (state self.old)
+            (bad self.old.file.now (spelled token.entry) before (work self.old.work))) }
         ensures same { (self.new.lexer ≡ self.old.lexer) × (self.new.file ≡ self.old.file) }
     {
         let message = complaint_of(self.alloc, token)?;
-        self.control = passed(skip, token.kind);
-        self.report
+        self.reader.give_up(token.kind);
+        self.work
+            .report
             .error(self.file, token.line, token.line, message)
-    }
-
-    /// A unit begins with a token, and has no names yet.
-    fn begin(&mut self, next: Control, token: Token<'_>)
-        ensures state { state self.new ≡ begun next (spelled token.entry) [] (state self.old) }
-        ensures same { (self.new.lexer ≡ self.old.lexer) × (self.new.file ≡ self.old.file) }
-    {
-        self.control = next;
-        self.unit_line = token.line;
-        self.unit_names.clear();
-    }
-
-    /// The unit at hand has one name more.
-    fn name(&mut self, next: Control, token: Token<'a>) -> Result<(), AllocError>
-        ensures state { OnOk result (state self.new ≡ named next (spelled token.entry) (state self.old)) }
-        ensures same { (self.new.lexer ≡ self.old.lexer) × (self.new.file ≡ self.old.file) }
-    {
-        self.control = next;
-        self.unit_names.push(token)?;
-        Ok(())
-    }
-
-    /// Between directives.
-    fn directive(&mut self, token: Token<'_>) -> Result<(), AllocError>
-        ensures state { OnOk result (state self.new
-            ≡ directive self.old.file.now (spelled token.entry) (state self.old)) }
-        ensures same { (self.new.lexer ≡ self.old.lexer) × (self.new.file ≡ self.old.file) }
-    {
-        if is_end(token.kind) {
-            self.control = Control::Ended;
-            return Ok(());
-        }
-        if !is_mark(token.kind, Mark::OpenBracket) {
-            return self.bad(token, Control::SkipDirective);
-        }
-        self.begin(Control::RoutineName, token);
-        Ok(())
-    }
-
-    /// Behind the bracket of a header.
-    fn routine_name(&mut self, token: Token<'a>) -> Result<(), AllocError>
-        ensures state { OnOk result (state self.new
-            ≡ routine_name self.old.file.now (spelled token.entry) (state self.old)) }
-        ensures same { (self.new.lexer ≡ self.old.lexer) × (self.new.file ≡ self.old.file) }
-    {
-        if !is_fit_name(token) {
-            return self.bad(token, Control::SkipRoutine);
-        }
-        self.name(Control::Locals, token)
-    }
-
-    /// Behind the name of a routine or a local.
-    fn local_name(&mut self, token: Token<'a>) -> Result<(), AllocError>
-        ensures state { OnOk result (state self.new
-            ≡ local_name self.old.file.now (spelled token.entry) (state self.old)) }
-        ensures same { (self.new.lexer ≡ self.old.lexer) × (self.new.file ≡ self.old.file) }
-    {
-        if is_mark(token.kind, Mark::Semicolon) {
-            return self.header();
-        }
-        if !is_fit_name(token) {
-            return self.bad(token, Control::SkipRoutine);
-        }
-        self.name(Control::Locals, token)
-    }
-
-    /// The header of a routine, which ends here.
-    fn header(&mut self) -> Result<(), AllocError>
-        ensures state { OnOk result (state self.new ≡ header self.old.file.now (state self.old)) }
-        ensures same { (self.new.lexer ≡ self.old.lexer) × (self.new.file ≡ self.old.file) }
-    {
-        let Some((name, locals)) = self.unit_names.as_slice().split_first() else {
-            self.control = Control::Body;
-            return Ok(());
-        };
-        let (name, headed) = (*name, Headed::of(locals));
-        self.open(name, headed)
-    }
-
-    /// Opens the routine of a header. Its code begins with the number of its locals (Z-Machine
-    /// Standard 1.1, section 5.2).
-    fn open(&mut self, name: Token<'a>, headed: Headed<'a>) -> Result<(), AllocError>
-        ensures state { let key = folded name.entry.bytes.now in
-            OnOk result (state self.new ≡ header_with self.old.file.now
-            (spelled name.entry) key (as_headed headed.entry) (state self.old)) }
-        ensures same { (self.new.lexer ≡ self.old.lexer) × (self.new.file ≡ self.old.file) }
-    {
-        let key = folded(self.alloc, name.bytes)?;
-        let of_name = self.name_fault(key.as_slice(), name);
-        let fault = header_fault(self.unit_line, of_name, &headed);
-        if of_name.is_none() {
-            let declaration = Declaration {
-                line: name.line,
-                place: self.code.len(),
-            };
-            self.names.declare(key, declaration)?;
-        }
-        self.control = Control::Body;
-        self.is_lost = fault.is_some();
-        self.routine = self.code.open(self.alloc, headed.locals.count())?;
-        self.locals = headed.locals;
-        self.report.fault(self.file, self.unit_line, fault)
-    }
-
-    /// What is wrong with declaring a name, given without case too.
-    fn name_fault<'t>(&self, key: &[u8], name: Token<'t>) -> Option<Blame<'t>>
-        ensures fault { option_map blamed result
-            ≡ name_fault key.now (spelled name.entry) (name_list self.now.names) }
-        ensures undeclared { IfNone result (declaration_of key.now (name_list self.now.names) ≡ None) }
-    {
-        if is_system_name(name.bytes) {
-            return Some(Blame {
-                line: name.line,
-                message: Message::SystemName(name.bytes),
-            });
-        }
-        let first = self.names.find(key)?;
-        Some(Blame {
-            line: name.line,
-            message: Message::Declared(name.bytes, first.line),
-        })
-    }
-
-    /// Before a statement or the closing bracket of a routine.
-    fn statement(&mut self, token: Token<'a>) -> Result<(), AllocError>
-        ensures state { OnOk result (state self.new
-            ≡ statement_at self.old.file.now (spelled token.entry) (state self.old)) }
-        ensures same { (self.new.lexer ≡ self.old.lexer) × (self.new.file ≡ self.old.file) }
-    {
-        if is_mark(token.kind, Mark::CloseBracket) {
-            return self.close(token.line);
-        }
-        if is_mark(token.kind, Mark::Semicolon) {
-            return Ok(());
-        }
-        if is_word(token, b"print") {
-            self.begin(Control::PrintText, token);
-            return Ok(());
-        }
-        if is_word(token, b"return") {
-            self.begin(Control::ReturnValue, token);
-            return Ok(());
-        }
-        self.other_statement(token)
-    }
-
-    /// A statement that is one word, or a call.
-    fn other_statement(&mut self, token: Token<'a>) -> Result<(), AllocError>
-        ensures state { let what = one_word (spelled token.entry) in OnOk result (state self.new
-            ≡ other_statement what self.old.file.now (spelled token.entry) (state self.old)) }
-        ensures same { (self.new.lexer ≡ self.old.lexer) × (self.new.file ≡ self.old.file) }
-    {
-        if let Some(statement) = one_word(token) {
-            self.begin(Control::StatementEnd(statement), token);
-            return Ok(());
-        }
-        if !is_operand(token) {
-            return self.bad(token, Control::SkipRoutine);
-        }
-        self.begin(Control::CallBracket, token);
-        self.name(Control::CallBracket, token)
-    }
-
-    /// Behind `print` or a comma behind a text.
-    fn print_text(&mut self, token: Token<'_>) -> Result<(), AllocError>
-        ensures state { OnOk result (state self.new
-            ≡ print_text self.old.file.now (spelled token.entry) (state self.old)) }
-        ensures same { (self.new.lexer ≡ self.old.lexer) × (self.new.file ≡ self.old.file) }
-    {
-        let Some(text) = text_of(self.alloc, token)? else {
-            return self.bad(token, Control::SkipRoutine);
-        };
-        self.control = Control::PrintMore;
-        self.print(&text)
-    }
-
-    /// Appends the instruction that prints a text (Z-Machine Standard 1.1, section 4.8).
-    fn print(&mut self, text: &Text) -> Result<(), AllocError>
-        ensures state { OnOk result (state self.new ≡ print (Ok text.now) (state self.old)) }
-        ensures same { (self.new.lexer ≡ self.old.lexer) × (self.new.file ≡ self.old.file) }
-    {
-        let packed = pack(self.alloc, text, None)?;
-        self.emit(Instruction::with_text(Opcode::Print, packed))
-    }
-
-    /// Appends an instruction to the open routine.
-    fn emit(&mut self, instruction: Instruction) -> Result<(), AllocError>
-        requires { IsProper (parts_of instruction) }
-        ensures state { OnOk result (state self.new ≡ emitted (parts_of instruction) (state self.old)) }
-        ensures same { (self.new.lexer ≡ self.old.lexer) × (self.new.file ≡ self.old.file) }
-    {
-        self.code.emit(&mut self.routine, instruction)
-    }
-
-    /// Behind a text.
-    fn print_more(&mut self, token: Token<'_>) -> Result<(), AllocError>
-        ensures state { OnOk result (state self.new
-            ≡ print_more self.old.file.now (spelled token.entry) (state self.old)) }
-        ensures same { (self.new.lexer ≡ self.old.lexer) × (self.new.file ≡ self.old.file) }
-    {
-        if is_mark(token.kind, Mark::Comma) {
-            self.control = Control::PrintText;
-            return Ok(());
-        }
-        if !is_mark(token.kind, Mark::Semicolon) {
-            return self.bad(token, Control::SkipRoutine);
-        }
-        self.control = Control::Body;
-        Ok(())
-    }
-
-    /// Behind the name of what is called.
-    fn call_bracket(&mut self, token: Token<'_>) -> Result<(), AllocError>
-        ensures state { OnOk result (state self.new
-            ≡ call_bracket self.old.file.now (spelled token.entry) (state self.old)) }
-        ensures same { (self.new.lexer ≡ self.old.lexer) × (self.new.file ≡ self.old.file) }
-    {
-        if !is_mark(token.kind, Mark::OpenParenthesis) {
-            return self.bad(token, Control::SkipRoutine);
-        }
-        self.control = Control::FirstArgument;
-        Ok(())
-    }
-
-    /// Behind the opening parenthesis of a call.
-    fn first_argument(&mut self, token: Token<'a>) -> Result<(), AllocError>
-        ensures state { OnOk result (state self.new
-            ≡ first_argument self.old.file.now (spelled token.entry) (state self.old)) }
-        ensures same { (self.new.lexer ≡ self.old.lexer) × (self.new.file ≡ self.old.file) }
-    {
-        if is_mark(token.kind, Mark::CloseParenthesis) {
-            self.control = Control::StatementEnd(Statement::Call);
-            return Ok(());
-        }
-        self.argument(token)
-    }
-
-    /// Before an argument.
-    fn argument(&mut self, token: Token<'a>) -> Result<(), AllocError>
-        ensures state { OnOk result (state self.new
-            ≡ argument self.old.file.now (spelled token.entry) (state self.old)) }
-        ensures same { (self.new.lexer ≡ self.old.lexer) × (self.new.file ≡ self.old.file) }
-    {
-        if !is_operand(token) {
-            return self.bad(token, Control::SkipRoutine);
-        }
-        self.name(Control::ArgumentEnd, token)
-    }
-
-    /// Behind an argument.
-    fn argument_end(&mut self, token: Token<'_>) -> Result<(), AllocError>
-        ensures state { OnOk result (state self.new
-            ≡ argument_end self.old.file.now (spelled token.entry) (state self.old)) }
-        ensures same { (self.new.lexer ≡ self.old.lexer) × (self.new.file ≡ self.old.file) }
-    {
-        if is_mark(token.kind, Mark::Comma) {
-            self.control = Control::Argument;
-            return Ok(());
-        }
-        if !is_mark(token.kind, Mark::CloseParenthesis) {
-            return self.bad(token, Control::SkipRoutine);
-        }
-        self.control = Control::StatementEnd(Statement::Call);
-        Ok(())
-    }
-
-    /// Behind `return`.
-    fn return_value(&mut self, token: Token<'a>) -> Result<(), AllocError>
-        ensures state { OnOk result (state self.new
-            ≡ return_at self.old.file.now (spelled token.entry) (state self.old)) }
-        ensures same { (self.new.lexer ≡ self.old.lexer) × (self.new.file ≡ self.old.file) }
-    {
-        if is_mark(token.kind, Mark::Semicolon) {
-            self.control = Control::Body;
-            return self.emit(Instruction::bare(Opcode::Rtrue));
-        }
-        if !is_operand(token) {
-            return self.bad(token, Control::SkipRoutine);
-        }
-        self.name(Control::StatementEnd(Statement::Return), token)
-    }
-
-    /// Before the semicolon of a statement.
-    fn statement_end(&mut self, statement: Statement, token: Token<'_>) -> Result<(), AllocError>
-        ensures state { OnOk result (state self.new
-            ≡ statement_end statement self.old.file.now (spelled token.entry) (state self.old)) }
-        ensures same { (self.new.lexer ≡ self.old.lexer) × (self.new.file ≡ self.old.file) }
-    {
-        if !is_mark(token.kind, Mark::Semicolon) {
-            return self.bad(token, Control::SkipRoutine);
-        }
-        self.control = Control::Body;
-        match statement {
-            Statement::NewLine => self.emit(Instruction::bare(Opcode::NewLine)),
-            Statement::Quit => self.emit(Instruction::bare(Opcode::Quit)),
-            Statement::ReturnTrue => self.emit(Instruction::bare(Opcode::Rtrue)),
-            Statement::ReturnFalse => self.emit(Instruction::bare(Opcode::Rfalse)),
-            Statement::Call => self.call(),
-            Statement::Return => self.return_name(),
-        }
-    }
-
-    /// Calls the first name of the unit with the others.
-    fn call(&mut self) -> Result<(), AllocError>
-        ensures state { let names = (state self.old).unit_names in
-            OnOk result (state self.new ≡ call_of self.old.file.now names (state self.old)) }
-        ensures same { (self.new.lexer ≡ self.old.lexer) × (self.new.file ≡ self.old.file) }
-    {
-        let names = self.unit_names.as_slice();
-        let Some((called, arguments)) = names.split_first() else {
-            return Ok(());
-        };
-        if let Some(blame) = call_fault(self.unit_line, &self.locals, *called, arguments) {
-            self.locals.name_all(names);
-            return self
-                .report
-                .error(self.file, blame.line, self.unit_line, blame.message);
-        }
-        let operands = operands_of(self.alloc, &self.locals, &mut self.names, names)?;
-        self.locals.name_all(names);
-        let opcode = call_opcode(operands.len());
-        self.emit(Instruction::new(opcode, operands.as_slice(), None))
-    }
-
-    /// Returns the name of the unit.
-    fn return_name(&mut self) -> Result<(), AllocError>
-        ensures state { let names = (state self.old).unit_names in
-            OnOk result (state self.new ≡ return_of self.old.file.now names (state self.old)) }
-        ensures same { (self.new.lexer ≡ self.old.lexer) × (self.new.file ≡ self.old.file) }
-    {
-        let Some((name, _)) = self.unit_names.as_slice().split_first() else {
-            return Ok(());
-        };
-        let names = [*name];
-        if let Some(blame) = operand_fault(&self.locals, *name) {
-            self.locals.name_all(&names);
-            return self
-                .report
-                .error(self.file, blame.line, self.unit_line, blame.message);
-        }
-        let operands = operands_of(self.alloc, &self.locals, &mut self.names, &names)?;
-        self.locals.name_all(&names);
-        self.emit(Instruction::new(Opcode::Ret, operands.as_slice(), None))
-    }
-
-    /// Ends the open routine at a line: tells its unused locals, and keeps its code unless its
-    /// header had an error.
-    fn close(&mut self, line: u32) -> Result<(), AllocError>
-        ensures state { OnOk result (state self.new ≡ close self.old.file.now line (state self.old)) }
-        ensures same { (self.new.lexer ≡ self.old.lexer) × (self.new.file ≡ self.old.file) }
-    {
-        self.control = Control::Closed;
-        self.locals.tell_unused(self.file, line, &mut self.report)?;
-        let empty = self.code.open(self.alloc, 0)?;
-        let routine = mem::replace(&mut self.routine, empty);
-        if self.is_lost {
-            return Ok(());
-        }
-        self.code.close(routine, RoutineKind::Plain)
-    }
-
-    /// Behind a routine's closing bracket.
-    fn directive_end(&mut self, token: Token<'_>) -> Result<(), AllocError>
-        ensures state { OnOk result (state self.new
-            ≡ directive_end self.old.file.now (spelled token.entry) (state self.old)) }
-        ensures same { (self.new.lexer ≡ self.old.lexer) × (self.new.file ≡ self.old.file) }
-    {
-        if !is_mark(token.kind, Mark::Semicolon) {
-            return self.bad(token, Control::SkipDirective);
-        }
-        self.control = Control::Between;
-        Ok(())
     }
 
     /// Ends the compilation of a source that was read. A name that was used and never declared is
@@ -539,9 +169,10 @@ impl<'a> Session<'a> {
         ensures { IfOk result (λ t. seen t ≡ finished serial.now self.entry.file.now (state self.entry)) }
     {
         let file = self.file;
-        let mut report = self.report;
-        let names = self.names;
-        let code = self.code;
+        let work = self.work;
+        let mut report = work.report;
+        let names = work.names;
+        let output = work.output;
         names.tell_undeclared(file, &mut report)?;
         let Some(main) = names.find(b"main") else {
             report.error(file, FIRST_LINE, FIRST_LINE, Message::NoMain)?;
@@ -550,7 +181,7 @@ impl<'a> Session<'a> {
         if report.is_over || report.errors != 0 {
             return refused(report);
         }
-        let Some(story) = story_of(self.alloc, serial, main.place, &names, code)? else {
+        let Some(story) = story_of(self.alloc, serial, main.place, &names, output.code)? else {
             report.fatal(file, FIRST_LINE, Message::StoryTooLong)?;
             return refused(report);
         };
@@ -579,25 +210,6 @@ fn story_of(
     let addresses = names.packed_addresses(alloc)?;
     let routines = code.fill(addresses.as_slice());
     story(alloc, serial, main, routines.as_slice())
-}
-
-/// The first error of a header by its place: too many locals, which stands at its bracket, its
-/// name, a local named again.
-fn header_fault<'a>(
-    unit_line: u32,
-    of_name: Option<Blame<'a>>,
-    headed: &Headed<'a>,
-) -> Option<Blame<'a>>
-    ensures { option_map blamed result
-        ≡ header_fault unit_line (option_map blamed of_name.entry) (as_headed headed.entry.now) }
-{
-    if headed.are_too_many {
-        return Some(Blame {
-            line: unit_line,
-            message: Message::TooManyLocals,
-        });
-    }
-    of_name.or(headed.repeated)
 }
 
 /// The outcome of a compilation with an error or a fatal one.

@@ -1,10 +1,10 @@
-ghost use Rattle.std.specs.Prelude.{◌≡◌, OnOk, IfOk, IfSome, Some, Ok, Err, is_some};
-ghost use Rattle.inf_reader.specs.Reading.{is_fit_name, is_operand, is_word, one_word, complaint_of, text_fault_of, is_fit_text_kind, characters};
+ghost use Rattle.std.specs.Prelude.{◌≡◌, IfOk, Some, Ok, Err, is_some};
+ghost use Rattle.inf_reader.specs.Tests.{is_fit_name, is_operand, is_word, complaint_of, text_fault_of, read_of, grammar_mark, atom_of};
 ghost use Rattle.inf_token.specs.Spelling.{is_mark, is_end};
 ghost use Rattle.inf_token.specs.Tokens.{spelled};
 ghost use Rattle.inf_symbol.specs.Reports.{meant};
 
-use crate::control::Statement;
+use inf_grammar::{Mark as GrammarMark, Token as Seen, atom_of};
 use inf_symbol::messages::Message;
 use inf_symbol::names::is_condition_word;
 use inf_text::{CharSet, Mode, Text, TextFault, read_text};
@@ -29,7 +29,7 @@ pub fn is_end(kind: TokenKind) -> bool
     matches!(kind, TokenKind::End)
 }
 
-pub fn is_fit_name(token: Token<'_>) -> bool
+fn is_fit_name(token: Token<'_>) -> bool
     ensures { result ≡ is_fit_name (spelled token.entry) }
 {
     matches!(token.kind, TokenKind::Name) && token.bytes.len() <= LONGEST_NAME
@@ -47,23 +47,6 @@ pub fn is_word(token: Token<'_>, word: &[u8]) -> bool
     ensures { result ≡ is_word word.now (spelled token.entry) }
 {
     matches!(token.kind, TokenKind::Name) && token.bytes.eq_ignore_ascii_case(word)
-}
-
-/// The statement that is one word.
-pub fn one_word(token: Token<'_>) -> Option<Statement>
-    ensures { result ≡ one_word (spelled token.entry) }
-{
-    if is_word(token, b"new_line") {
-        Some(Statement::NewLine)
-    } else if is_word(token, b"quit") {
-        Some(Statement::Quit)
-    } else if is_word(token, b"rtrue") {
-        Some(Statement::ReturnTrue)
-    } else if is_word(token, b"rfalse") {
-        Some(Statement::ReturnFalse)
-    } else {
-        None
-    }
 }
 
 /// The message of a fault of a text by itself, or want of memory.
@@ -96,9 +79,7 @@ pub fn complaint_of<'t>(alloc: Global, token: Token<'t>) -> Result<Message<'t>, 
 
 /// The characters of a token, where it is a text with no fault.
 pub fn text_of(alloc: Global, token: Token<'_>) -> Result<Option<Text>, AllocError>
-    ensures some { IfOk result (λ o. IfSome o (λ text. characters token.entry.bytes.now ≡ Ok text)) }
-    ensures fit { IfOk result (λ o.
-        is_some o ≡ is_fit_text_kind token.entry.kind (characters token.entry.bytes.now)) }
+    ensures { IfOk result (λ o. o ≡ read_of (spelled token.entry)) }
 {
     if !matches!(token.kind, TokenKind::Text) {
         return Ok(None);
@@ -107,5 +88,38 @@ pub fn text_of(alloc: Global, token: Token<'_>) -> Result<Option<Text>, AllocErr
         Ok(text) => Ok(Some(text)),
         Err(TextFault::Memory) => Err(AllocError),
         Err(TextFault::UnknownEscape | TextFault::NoZscii | TextFault::BadCode) => Ok(None),
+    }
+}
+
+/// A mark, as the grammar has it.
+fn grammar_mark(mark: Mark) -> GrammarMark
+    ensures { result ≡ grammar_mark mark }
+{
+    match mark {
+        Mark::OpenBracket => GrammarMark::OpenBracket,
+        Mark::CloseBracket => GrammarMark::CloseBracket,
+        Mark::OpenParenthesis => GrammarMark::OpenParenthesis,
+        Mark::CloseParenthesis => GrammarMark::CloseParenthesis,
+        Mark::Semicolon => GrammarMark::Semicolon,
+        Mark::Comma => GrammarMark::Comma,
+    }
+}
+
+/// How the grammar sees a token, of which is known whether it is a text with no fault. What has a
+/// fault of its own is a bad one, which fits nowhere.
+pub fn atom_at(token: Token<'_>, is_text: bool) -> u8
+    requires { is_text ≡ is_some (read_of (spelled token)) }
+    ensures { result ≡ atom_of (spelled token.entry) }
+{
+    match token.kind {
+        TokenKind::Mark(mark) => atom_of(Seen::Mark(grammar_mark(mark))),
+        TokenKind::Name if token.bytes.len() <= LONGEST_NAME => {
+            atom_of(Seen::Name(token.bytes, false))
+        }
+        TokenKind::Text if is_text => atom_of(Seen::Text),
+        TokenKind::End => atom_of(Seen::End),
+        TokenKind::Name | TokenKind::Text | TokenKind::UnclosedText | TokenKind::Unfit => {
+            atom_of(Seen::Bad)
+        }
     }
 }

@@ -4,7 +4,7 @@ use Rattle.std.proofs.lemmas.Bool.Decides.{nat_tests}
 use Rattle.inf_text.specs.Packing.{begins_with, better, longer, longest, longest_from}
 use Rattle.inf_text.specs.Searching.{best_of, common, pick, text_at, tried}
 use Rattle.inf_text.specs.declared.index.Link.{Link}
-use Rattle.inf_text.specs.declared.texts.TextItem.{TextItem}
+use Rattle.inf_characters.specs.declared.texts.TextItem.{TextItem}
 use Rattle.inf_text.proofs.Linking.{begins_with_common}
 
 -- the best one is longer than a text of a number, or as long and its number no higher

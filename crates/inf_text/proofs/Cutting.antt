@@ -5,11 +5,11 @@ use Rattle.std.specs.List.{flat_map}
 use Rattle.std.proofs.lemmas.Bool.Decides.{nat_tests}
 use Rattle.std.proofs.Math.Seq.{append_snoc}
 use Rattle.std.proofs.lemmas.List.{append-nil}
-use Rattle.inf_text.specs.Items.{IsText, same_item}
+use Rattle.inf_characters.specs.Items.{IsText, same_item}
 use Rattle.inf_text.specs.Packing.{begins_with, better, front_behind, front_zs, longer, longest, longest_from, zs_from}
 use Rattle.inf_text.specs.Parts.{AreAbbreviations, AreLongTexts, Cuts, IsCut, NoneBegins, NoneLonger, Part, Plain, Short, part_zs}
-use Rattle.inf_text.specs.declared.texts.TextItem.{TextItem}
-use Rattle.inf_text.specs.declared.texts.TextItem.TheVariants.{Character, Variable}
+use Rattle.inf_characters.specs.declared.texts.TextItem.{TextItem}
+use Rattle.inf_characters.specs.declared.texts.TextItem.TheVariants.{Character, Variable}
 
 -- a test that holds of two items shows that they are equal
 pub same_item-true : (x y : TextItem) → same_item x y ≡ true → x ≡ y

@@ -3,9 +3,9 @@ use Rattle.std.proofs.Common.{◌≡◌, ◌<◌, ◌≤◌, ◌+◌, ◌-◌, �
 use Rattle.std.proofs.lemmas.List.{take_more_set, length-take, take-replicate}
 use Rattle.std.proofs.Math.Seq.{set-append_seam, append_snoc, take-append-add}
 use Rattle.std.specs.List.{flat_map}
-use Rattle.inf_text.specs.Items.{IsText}
-use Rattle.inf_text.specs.Packing.{AreZs, dictionary_zs, item_zs, lowered}
-use Rattle.inf_text.specs.declared.texts.TextItem.{TextItem}
+use Rattle.inf_characters.specs.Items.{IsText, lowered}
+use Rattle.inf_text.specs.Packing.{AreZs, dictionary_zs, item_zs}
+use Rattle.inf_characters.specs.declared.texts.TextItem.{TextItem}
 
 -- cut to n, continued and cut again
 pub take-take_append : (n : ℕ) (xs ys : List ℕ) → take n (take n xs ++ ys) ≡ take n (xs ++ ys)

@@ -1,14 +1,9 @@
-pub mod Capped
 pub mod Choosing
-pub mod Cuts
 pub mod Cutting
-pub mod Faults
 pub mod Fronts
 pub mod Lengths
 pub mod Linking
 pub mod Marked
-pub mod Pairs
-pub mod Pieces
 pub mod Ranging
 pub mod Searching
 pub mod Stepping

@@ -4,11 +4,11 @@ use Rattle.std.specs.Prelude.{◌⊎◌}
 use Rattle.std.proofs.lemmas.Bool.{cases_lt}
 use Rattle.std.proofs.lemmas.Bool.Decides.{eqb_tells, nat_tests}
 use Rattle.std.proofs.lemmas.List.{drop_all, get_or_read}
-use Rattle.inf_text.specs.Items.{same_item}
+use Rattle.inf_characters.specs.Items.{same_item}
 use Rattle.inf_text.specs.Packing.{begins_with}
 use Rattle.inf_text.specs.Searching.{AreBelow, AreLinked, HaveLinks, IsLink, best_of, code_of, common, first_code, linked_from, pick, text_at, tried}
 use Rattle.inf_text.specs.declared.index.Link.{Link}
-use Rattle.inf_text.specs.declared.texts.TextItem.{TextItem}
+use Rattle.inf_characters.specs.declared.texts.TextItem.{TextItem}
 use Rattle.inf_text.proofs.Cutting.{same_item-true}
 
 pub common-fits_left : (xs ys : List TextItem) → common xs ys ≤ length xs
@@ -242,15 +242,17 @@ common-end xs ys k le = go (cases_lt k (length xs))
     go (inr ge) = rw (drop_all k xs ge) (common-none (drop k ys))
 
 -- the test whether a text may go on
-pub going_on : (l : Link) (matched : ℕ) (items : List TextItem) → (eqb l.shared matched && (eqb l.len matched || eqb l.next (first_code (drop matched items)))) ≡ true → l.shared ≡ matched
-going_on l matched items h = let e : eqb l.shared matched ≡ true = left (eqb l.shared matched) _ h in grind (arith, nat_tests)
+pub going_on : (l : Link) (matched code : ℕ) → (eqb l.shared matched && (eqb l.len matched || eqb l.next code)) ≡ true → l.shared ≡ matched
+going_on l matched code h = let e : eqb l.shared matched ≡ true = left (eqb l.shared matched) _ h in grind (arith, nat_tests)
   where
     left : (a b : Bool) → (a && b) ≡ true → a ≡ true
     left true b h = refl
     left false b h = cc
 
-pub not_going_on : (texts : List (List TextItem)) (items : List TextItem) (matched : ℕ) (l : Link) (best : Option (ℕ × ℕ)) → (eqb l.shared matched && (eqb l.len matched || eqb l.next (first_code (drop matched items)))) ≡ false → matched ≤ l.shared → IsNext texts items matched l → (matched ≡ common items (text_at texts l.number)) × (best ≡ tried items best l.number (text_at texts l.number))
-not_going_on texts items matched l best fails le h = go (eqb_tells l.shared matched) (eqb_tells l.len matched) (eqb_tells l.next (first_code (drop matched items))) fails
+pub not_going_on : (texts : List (List TextItem)) (items : List TextItem) (matched code : ℕ) (l : Link) (best : Option (ℕ × ℕ)) → code ≡ first_code (drop matched items) → (eqb l.shared matched && (eqb l.len matched || eqb l.next code)) ≡ false → matched ≤ l.shared → IsNext texts items matched l → (matched ≡ common items (text_at texts l.number)) × (best ≡ tried items best l.number (text_at texts l.number))
+not_going_on texts items matched code l best is fails le h =
+    go (eqb_tells l.shared matched) (eqb_tells l.len matched) (eqb_tells l.next (first_code (drop matched items)))
+    (ap (λ (n : ℕ). eqb l.shared matched && (eqb l.len matched || eqb l.next n)) (sym is) ∙ fails)
   where
     go : ((eqb l.shared matched ≡ true) × (l.shared ≡ matched)) ⊎ ((eqb l.shared matched ≡ false) × (l.shared ≢ matched)) → ((eqb l.len matched ≡ true) × (l.len ≡ matched)) ⊎ ((eqb l.len matched ≡ false) × (l.len ≢ matched)) → ((eqb l.next (first_code (drop matched items)) ≡ true) × (l.next ≡ first_code (drop matched items))) ⊎ ((eqb l.next (first_code (drop matched items)) ≡ false) × (l.next ≢ first_code (drop matched items))) → (eqb l.shared matched && (eqb l.len matched || eqb l.next (first_code (drop matched items)))) ≡ false → (matched ≡ common items (text_at texts l.number)) × (best ≡ tried items best l.number (text_at texts l.number))
     go (inr (e, other)) b n fails = passed_over texts items matched l best (omega arith) h

@@ -8,7 +8,7 @@ use Rattle.std.proofs.lemmas.List.{get_or-drop, get_or-replicate, get_or-take, g
 use Rattle.std.proofs.Math.ListN.{length-replicate, length-set}
 use Rattle.std.proofs.lemmas.List.Edits.{get_or-insert_above, get_or-insert_at, get_or-insert_below, length-insert}
 use Rattle.std.specs.Prelude.{◌&&◌}
-use Rattle.inf_text.specs.Items.{same_item}
+use Rattle.inf_characters.specs.Items.{same_item}
 use Rattle.inf_text.specs.Packing.{begins_with, longest}
 use Rattle.inf_text.specs.Parts.{AreAbbreviations, AreLongTexts}
 use Rattle.inf_text.specs.Searching.{AreBelow, AreRanges, IsOrder, best_of, code_of, first_code, linked_from, text_at}
@@ -17,7 +17,7 @@ use Rattle.inf_text.proofs.Choosing.{Shows, best_of-among, best_of-shows, longes
 use Rattle.inf_text.proofs.Cutting.{same_item-true}
 use Rattle.inf_text.proofs.Linking.{length-linked, number_at}
 use Rattle.inf_text.specs.declared.index.Ranges.{Ranges}
-use Rattle.inf_text.specs.declared.texts.TextItem.{TextItem}
+use Rattle.inf_characters.specs.declared.texts.TextItem.{TextItem}
 
 -- the code that the text at a place begins with
 abbrev pub code_at : List (List TextItem) → List ℕ → ℕ → ℕ
@@ -109,6 +109,14 @@ AreRangesTo-more texts order place code ranges starts ends is small ends_are sta
     within c (inl (same, now)) = rw now (omega arith)
     within c (inr (other, before)) = rw before (omega (arith, h.fits c))
 
+-- the order of no numbers
+pub IsOrder-none : IsOrder 0 []
+IsOrder-none = record {
+  below = λ j lt. absurd (omega arith);
+  len = refl;
+  all = λ k lt. absurd (omega arith);
+}
+
 -- a number is put into an order
 pub IsOrder-insert : (count place : ℕ) (order : List ℕ) → place ≤ length order → IsOrder count order → IsOrder (count + 1) (insert order place count)
 IsOrder-insert count place order le h = record {
@@ -144,6 +152,16 @@ IsOrder-insert count place order le h = record {
         let at : count ≡ k = omega arith in
         let len : length (insert order place count) ≡ length order + 1 = length-insert order place count le in
         (place, (omega arith, get_or-insert_at order place count 0 le ∙ at))
+
+-- the last number is put among the sorted ones, and the links of these are put into the order of the search
+pub IsOrder-more : (texts : List (List TextItem)) (place : ℕ) (old sorted numbers order : List ℕ) (links now : List Link) → 0 < length texts → place ≤ length old → IsOrder (length texts - 1) old → sorted ≡ insert old place (length texts - 1) → numbers ≡ sorted → links ≡ linked_from texts [] numbers → now ≡ links → IsOrder (length now) order → IsOrder (length texts) sorted × IsOrder (length texts) order
+IsOrder-more texts place old sorted numbers order links now some le h put same linked seen is =
+    let count = length texts - 1 in
+    let more : count + 1 ≡ length texts = omega arith in
+    let all : IsOrder (length texts) sorted = rw put (rw more at (IsOrder-insert count place old le h)) in
+    let len : length now ≡ length texts =
+    ap length (seen ∙ linked) ∙ length-linked texts [] numbers ∙ ap length same ∙ all.len in
+    (all, rw len at is)
 
 -- an abbreviation is not empty
 long_at : (texts : List (List TextItem)) (n : ℕ) → AreLongTexts texts → n < length texts → 2 ≤ length (text_at texts n)

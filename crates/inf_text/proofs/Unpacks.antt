@@ -7,12 +7,12 @@ use Rattle.std.proofs.lemmas.List.{append-nil, get_or-map, length-map}
 use Rattle.std.proofs.lemmas.Option.{get_or_from_slice_get, slice_get_within}
 use Rattle.inf_text.proofs.Cutting.{AreLongTexts-at, is_cut}
 use Rattle.inf_text.specs.Parts.{AreAbbreviations, AreLongTexts, Cuts, Part, Plain, Short, part_zs}
-use Rattle.inf_text.specs.Characters.{is_code}
-use Rattle.inf_text.specs.Items.{IsItem, IsText}
+use Rattle.inf_characters.specs.Characters.{is_code}
+use Rattle.inf_characters.specs.Items.{IsItem, IsText}
 use Rattle.inf_text.specs.Packing.{AreZs, abbreviation_zs, character_zs, item_zs, other_zs, packed, punctuation, word, words, zs_from}
 use Rattle.inf_text.specs.Unpacking.{Letter, abbreviation_text, letters, printed, string_zs, strings, unpacked, UnpacksTo}
-use Rattle.inf_text.specs.declared.texts.TextItem.{TextItem}
-use Rattle.inf_text.specs.declared.texts.TextItem.TheVariants.{Character, Variable}
+use Rattle.inf_characters.specs.declared.texts.TextItem.{TextItem}
+use Rattle.inf_characters.specs.declared.texts.TextItem.TheVariants.{Character, Variable}
 
 -- the five bits of each Z-character of a word, whatever its top bit is
 first_bits : (t a b c v : ℕ) → b < 32 → c < 32 → a < 32 → v ≡ 32768 * t + 1024 * a + 32 * b + c → v / 1024 % 32 ≡ a

@@ -4,7 +4,7 @@ use Rattle.std.specs.List.{list_any}
 use Rattle.inf_text.specs.Packing.{begins_with}
 use Rattle.inf_text.specs.declared.abbreviation.AbbrevFault.{AbbrevFault}
 use Rattle.inf_text.specs.declared.abbreviation.AbbrevFault.TheVariants.{Full, Repeated, TooShort, Memory}
-use Rattle.inf_text.specs.declared.texts.TextItem.{TextItem}
+use Rattle.inf_characters.specs.declared.texts.TextItem.{TextItem}
 
 -- whether two texts have the same items
 abbrev pub same_text : List TextItem → List TextItem → Bool

@@ -1,11 +1,10 @@
-pub mod Characters
+pub use Rattle.inf_characters.specs.Characters
+pub use Rattle.inf_characters.specs.Items
+pub use Rattle.inf_characters.specs.Reading
 pub mod Declaring
-pub mod Items
-pub mod Numbers
 pub mod Packer
 pub mod Packing
 pub mod Parts
-pub mod Reading
 pub mod Searching
 pub mod Step
 pub mod Unpacking

@@ -1,11 +1,11 @@
 -- How a text is packed (Z-Machine Standard 1.1, sections 3.2 to 3.7).
 use Rattle.std.specs.Prelude.{ℕ, ◌<◌, zero, suc, ◌+◌, ◌-◌, ◌*◌, ◌/◌, ◌%◌, ◌==◌, nat_lt, nat_le, Bool, true, false, ◌&&◌, Option, Some, None, List, [], ◌∷◌, ◌++◌, length, take, replicate, codes, if◌then◌else◌}
 use Rattle.std.specs.List.{flat_map, position_from}
-use Rattle.inf_text.specs.Items.{same_item}
-use Rattle.inf_text.specs.declared.texts.TextItem.{TextItem}
+use Rattle.inf_characters.specs.Items.{lowered, same_item}
+use Rattle.inf_characters.specs.declared.texts.TextItem.{TextItem}
 use Rattle.inf_text.specs.declared.zchars.ZChars.{ZChars}
 use Rattle.inf_text.specs.declared.zchars.ZChars.TheVariants.{One, Two, Four}
-use Rattle.inf_text.specs.declared.texts.TextItem.TheVariants.{Character, Variable}
+use Rattle.inf_characters.specs.declared.texts.TextItem.TheVariants.{Character, Variable}
 
 -- the characters of alphabet A2 on Z-characters 8 to 31 (section 3.5.3)
 unfoldable pub punctuation : List ℕ
@@ -102,11 +102,6 @@ words (a ∷ b ∷ c ∷ d ∷ zs) = word false a b c ++ words (d ∷ zs)
 -- the bytes of a text, with the declared abbreviations, in the order of their declaration
 unfoldable pub packed : List TextItem → List (List TextItem) → List ℕ
 packed items declared = words (zs_from declared 0 items)
-
--- capital letters made small
-abbrev pub lowered : TextItem → TextItem
-lowered (Character c) = if nat_le 65 c && nat_le c 90 then Character (c + 32) else Character c
-lowered (Variable n) = Variable n
 
 -- the Z-characters of a text as the dictionary has it: of small letters, nine (section 13.3)
 abbrev pub dictionary_zs : List TextItem → List ℕ

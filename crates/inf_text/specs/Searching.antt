@@ -1,12 +1,12 @@
 -- The search for the longest abbreviation. Only the crate's private clauses cite it.
 use Rattle.std.specs.Prelude.{◌≡◌, ℕ, ◌<◌, ◌≤◌, ◌+◌, ◌==◌, nat_lt, nat_le, ◌&&◌, ◌||◌, Option, Some, None, List, [], ◌∷◌, length, drop, slice_index, slice_index_or, if◌then◌else◌}
-use Rattle.inf_text.specs.Items.{same_item}
+use Rattle.inf_characters.specs.Items.{same_item}
 use Rattle.inf_text.specs.Parts.{AreAbbreviations}
 use Rattle.inf_text.specs.declared.index.Index.{Index}
 use Rattle.inf_text.specs.declared.index.Link.{Link}
 use Rattle.inf_text.specs.declared.index.Ranges.{Ranges}
-use Rattle.inf_text.specs.declared.texts.TextItem.{TextItem}
-use Rattle.inf_text.specs.declared.texts.TextItem.TheVariants.{Character, Variable}
+use Rattle.inf_characters.specs.declared.texts.TextItem.{TextItem}
+use Rattle.inf_characters.specs.declared.texts.TextItem.TheVariants.{Character, Variable}
 
 -- the code of a character, or the number of a string variable
 abbrev pub code_of : TextItem → ℕ
@@ -87,6 +87,7 @@ pub record AreRanges (texts : List (List TextItem)) (order : List ℕ) (ranges :
 
 -- the index of some texts
 pub record IsIndex (texts : List (List TextItem)) (index : Index) : Type 0 where
+  pub sorted : IsOrder (length texts) index.sorted.items
   pub order : IsOrder (length texts) index.order.items
   pub links : index.links.items ≡ linked_from texts [] index.order.items
   pub ranges : AreRanges texts index.order.items index.ranges

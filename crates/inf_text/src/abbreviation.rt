@@ -6,7 +6,7 @@ ghost use Rattle.inf_text.specs.Packing.{longest};
 ghost use Rattle.inf_text.specs.Parts.{AreAbbreviations};
 
 use crate::index::{Index, MOST, begins_with};
-use crate::texts::{Text, TextItem};
+use inf_characters::{Text, TextItem};
 use std::alloc::{AllocError, AllocFailed, Global};
 use std::marker::Model;
 use thiserror::Error;
@@ -62,7 +62,7 @@ pub struct Abbreviations {
 
 impl Model for Abbreviations {
     ghost use Rattle.std.specs.Prelude.{List};
-    ghost use Rattle.inf_text.specs.declared.texts.TextItem.{TextItem};
+    ghost use Rattle.inf_characters.specs.declared.texts.TextItem.{TextItem};
 
     ghost Value = { List (List TextItem) };
 

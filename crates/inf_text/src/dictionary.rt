@@ -1,11 +1,9 @@
 //! Texts as the dictionary has them.
 ghost use Rattle.std.specs.Prelude.{◌≡◌, ◌<◌, ◌++◌, ◌∷◌, [], take, replicate};
-ghost use Rattle.inf_text.specs.Items.{IsItem};
-ghost use Rattle.inf_text.specs.Packing.{AreZs, dictionary_bytes, lowered, words, zs_list};
+ghost use Rattle.inf_text.specs.Packing.{AreZs, dictionary_bytes, words, zs_list};
 
-use crate::characters::Zscii;
-use crate::texts::{Text, TextItem};
 use crate::zchars::{ZChars, item_zs, word};
+use inf_characters::Text;
 use std::marker::Model;
 
 /// How many Z-characters a text has in the dictionary.
@@ -21,24 +19,9 @@ pub fn dict_word(text: &Text) -> [u8; 6]
 {
     let mut front = Front::new();
     for item in text.as_slice() {
-        front.push_all(item_zs(lowered(*item)));
+        front.push_all(item_zs(item.to_ascii_lowercase()));
     }
     front.bytes()
-}
-
-/// An item with its capital letter made small.
-fn lowered(item: TextItem) -> TextItem
-    requires { IsItem item }
-    ensures value { result ≡ lowered item }
-    ensures item { IsItem result }
-{
-    let TextItem::Character(character) = item else {
-        return item;
-    };
-    match character.code() {
-        capital @ b'A'..=b'Z' => TextItem::Character(Zscii::from_code(capital + 32)),
-        _ => item,
-    }
 }
 
 /// The first Z-characters of a text, at most nine. Contracts see those that were given.

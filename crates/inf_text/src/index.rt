@@ -2,14 +2,16 @@
 //!
 //! The texts stand in an order in which those that begin alike are neighbours, each with how many
 //! items it has in common with the one before it. So what was compared with one text need not be
-//! compared again with the next. No clause rests on the order: it only makes the search short.
+//! compared again with the next. Where texts part, the group with the most texts comes first: then few
+//! texts are begun and left again on the way to any other, since each time at least half of the
+//! group that is left lies behind. No clause rests on the order: it only makes the search short.
 ghost use Rattle.std.specs.Prelude.{◌≡◌, ◌<◌, ◌≤◌, ◌+◌, ◌-◌, ◌==◌, ◌&&◌, ◌||◌, IfSome, None, [], length, drop, replicate, if◌then◌else◌};
-ghost use Rattle.inf_text.specs.Items.{same_item};
+ghost use Rattle.inf_characters.specs.Items.{same_item};
 ghost use Rattle.inf_text.specs.Packing.{begins_with, longest};
 ghost use Rattle.inf_text.specs.Searching.{AreBelow, AreIndexed, AreRanges, HaveLinks, IsIndex, IsOrder, best_of, code_of, common, first_code, linked_from, pick};
 
-use crate::texts::{Text, TextItem};
 use arrayvec::ArrayVec;
+use inf_characters::{Text, TextItem};
 
 /// How many abbreviations there may be.
 pub(crate) const MOST: usize = 64;
@@ -32,9 +34,10 @@ pub(crate) struct Ranges {
     ends: [u8; 256],
 }
 
-/// The texts in the order of the search, by their numbers.
+/// The texts by their numbers, sorted, and in the order of the search.
 #[derive(Debug, Drop)]
 pub(crate) struct Index {
+    sorted: ArrayVec<u8, MOST>,
     order: ArrayVec<u8, MOST>,
     links: ArrayVec<Link, MOST>,
     ranges: Ranges,
@@ -46,6 +49,7 @@ impl Index {
         ensures { IsIndex [] result }
     {
         Index {
+            sorted: ArrayVec::new(),
             order: ArrayVec::new(),
             links: ArrayVec::new(),
             ranges: ranges_of(&[], &[]),
@@ -54,14 +58,16 @@ impl Index {
 
     /// Adds the last of the texts.
     pub(crate) fn add(&mut self, texts: &[Text])
-        requires order { IsOrder (length texts.now - 1) self.old.order.items }
+        requires sorted { IsOrder (length texts.now - 1) self.old.sorted.items }
         requires some { 0 < length texts.now }
         requires few { length texts.now ≤ 64 }
         ensures { IsIndex texts.now self.new }
     {
         let number = texts.len() - 1;
-        let place = place_of(texts[number].as_slice(), texts, self.order.as_slice());
-        self.order.insert(place, number as u8);
+        let place = place_of(texts[number].as_slice(), texts, self.sorted.as_slice());
+        self.sorted.insert(place, number as u8);
+        let neighbours = linked(texts, self.sorted.as_slice());
+        self.order = order_of(neighbours.as_slice());
         self.links = linked(texts, self.order.as_slice());
         self.ranges = ranges_of(texts, self.order.as_slice());
     }
@@ -87,14 +93,17 @@ fn longest_of(links: &[Link], texts: &[Text], items: &[TextItem]) -> Option<(usi
     let (first, others) = links.split_first()?;
     let text = texts[usize::from(first.number)].as_slice();
     let mut matched = common_len(items, text);
+    let mut code = code_behind(items, matched);
     let mut best = taken(None, usize::from(first.number), text.len(), matched);
     for link in others {
-        if may_go_on(*link, matched, items) {
+        if may_go_on(*link, matched, code) {
             let text = texts[usize::from(link.number)].as_slice();
             matched = common_from(matched, items, text);
+            code = code_behind(items, matched);
             best = taken(best, usize::from(link.number), link.len, matched);
         } else if link.shared < matched {
             matched = link.shared;
+            code = code_behind(items, matched);
             best = taken(best, usize::from(link.number), link.len, matched);
         }
     }
@@ -106,18 +115,28 @@ fn longest_of(links: &[Link], texts: &[Text], items: &[TextItem]) -> Option<(usi
 fn common_from(matched: usize, items: &[TextItem], text: &[TextItem]) -> usize
     requires items { matched ≤ length items.now }
     requires text { matched ≤ length text.now }
-    ensures { result ≡ matched + common (drop matched items.now) (drop matched text.now) }
+    ensures value { result ≡ matched + common (drop matched items.now) (drop matched text.now) }
+    ensures fits { result ≤ length items.now }
 {
     matched + common_len(&items[matched..], &text[matched..])
 }
 
-/// Whether a text may have more in common with some items than the text before it, which has so many.
+/// The code of the item behind so many.
 #[inline]
-fn may_go_on(link: Link, matched: usize, items: &[TextItem]) -> bool
-    requires { matched ≤ length items.now }
-    ensures { result ≡ ((link.shared == matched) && ((link.len == matched) || (link.next == first_code (drop matched items.now)))) }
+fn code_behind(items: &[TextItem], passed: usize) -> u8
+    requires { passed ≤ length items.now }
+    ensures { result ≡ first_code (drop passed items.now) }
 {
-    link.shared == matched && (link.len == matched || link.next == first_code(&items[matched..]))
+    first_code(&items[passed..])
+}
+
+/// Whether a text may have more in common with some items than the text before it, which has so many;
+/// code is that of the item behind these.
+#[inline]
+fn may_go_on(link: Link, matched: usize, code: u8) -> bool
+    ensures { result ≡ ((link.shared == matched) && ((link.len == matched) || (link.next == code))) }
+{
+    link.shared == matched && (link.len == matched || link.next == code)
 }
 
 /// A text in place of the best one so far, if it is whole among the items and longer.
@@ -193,17 +212,17 @@ fn code_of(item: TextItem) -> u8
     }
 }
 
-/// Where a text goes among others: before the first that it precedes.
-fn place_of(text: &[TextItem], texts: &[Text], order: &[u8]) -> usize
-    requires { AreBelow (length texts.now) order.now }
-    ensures { result ≤ length order.now }
+/// Where a text goes among sorted ones: before the first that it precedes.
+fn place_of(text: &[TextItem], texts: &[Text], sorted: &[u8]) -> usize
+    requires { AreBelow (length texts.now) sorted.now }
+    ensures { result ≤ length sorted.now }
 {
-    for (place, number) in order.iter().enumerate() {
+    for (place, number) in sorted.iter().enumerate() {
         if precedes(text, texts[usize::from(*number)].as_slice()) {
             return place;
         }
     }
-    order.len()
+    sorted.len()
 }
 
 /// Whether a text comes before another: at the first item that they have not in common it ends or has
@@ -215,6 +234,88 @@ fn precedes(text: &[TextItem], other: &[TextItem]) -> bool {
         (Some(_), None) => false,
         (None, _) => true,
     }
+}
+
+/// The order in which sorted texts are searched.
+fn order_of(sorted: &[Link]) -> ArrayVec<u8, MOST>
+    requires { length sorted.now ≤ 64 }
+    ensures { IsOrder (length sorted.now) result.items }
+{
+    let mut order = ArrayVec::new();
+    for number in 0..sorted.len() {
+        let turn = turn_of(number, sorted, order.as_slice());
+        order.insert(turn, number as u8);
+    }
+    order
+}
+
+/// Where the text of a number goes in the order of the search: before the first that it precedes there.
+fn turn_of(number: usize, sorted: &[Link], order: &[u8]) -> usize
+    ensures { result ≤ length order.now }
+{
+    let place = place_among(sorted, number);
+    for (turn, other) in order.iter().enumerate() {
+        if is_first(sorted, place, place_among(sorted, usize::from(*other))) {
+            return turn;
+        }
+    }
+    order.len()
+}
+
+/// The place of the text of a number.
+fn place_among(sorted: &[Link], number: usize) -> usize {
+    sorted
+        .iter()
+        .position(|link| usize::from(link.number) == number)
+        .unwrap_or(0)
+}
+
+/// Whether the text at a place is searched before the one at another: it ends where they part, or more
+/// texts go on there as it does, or as many and it stands first.
+fn is_first(sorted: &[Link], place: usize, other: usize) -> bool {
+    let shared = shared_from(sorted, place.min(other), place.max(other));
+    if ends_at(sorted, place, shared) {
+        return true;
+    }
+    if ends_at(sorted, other, shared) {
+        return false;
+    }
+    let len = group_len(sorted, place, shared);
+    let other_len = group_len(sorted, other, shared);
+    len > other_len || (len == other_len && place < other)
+}
+
+/// How many items the text at a place has in common with one behind it.
+fn shared_from(sorted: &[Link], place: usize, behind: usize) -> usize {
+    let mut least = usize::MAX;
+    for (i, link) in sorted.iter().enumerate() {
+        if place < i && i <= behind {
+            least = least.min(link.shared);
+        }
+    }
+    least
+}
+
+/// Whether the text at a place has so many items.
+fn ends_at(sorted: &[Link], place: usize, len: usize) -> bool {
+    match sorted.get(place) {
+        Some(link) => link.len == len,
+        None => false,
+    }
+}
+
+/// How many texts, with the one at a place, have more than so many items in common with it.
+fn group_len(sorted: &[Link], place: usize, shared: usize) -> usize {
+    let mut start = 0;
+    for (i, link) in sorted.iter().enumerate() {
+        if link.shared <= shared && place < i {
+            return i.saturating_sub(start);
+        }
+        if link.shared <= shared {
+            start = i;
+        }
+    }
+    sorted.len().saturating_sub(start)
 }
 
 /// The texts in their order, each with what it has in common with the one before it.

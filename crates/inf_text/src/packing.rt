@@ -1,7 +1,7 @@
 //! Texts packed as a story has them.
 ghost use Rattle.std.specs.Prelude.{◌≡◌, ◌<◌, ◌≤◌, IfOk, IfSome, IsTrue, MatchOption, length, []};
 ghost use Rattle.std.specs.Option.{option_copied};
-ghost use Rattle.inf_text.specs.Items.{IsText};
+ghost use Rattle.inf_characters.specs.Items.{IsText};
 ghost use Rattle.inf_text.specs.Packing.{in_use, longest, packed, zs_list};
 ghost use Rattle.inf_text.specs.Parts.{AreAbbreviations};
 ghost use Rattle.inf_text.specs.Step.{Steps};
@@ -10,8 +10,8 @@ ghost use Rattle.inf_text.specs.Words.{are_words};
 
 use crate::abbreviation::Abbreviations;
 use crate::packer::Packer;
-use crate::texts::{Text, TextItem};
 use crate::zchars::{ZChars, abbreviation_zs, item_zs};
+use inf_characters::{Text, TextItem};
 use std::alloc::{AllocError, Global};
 
 /// The bytes of a text, packed with the abbreviations that are given (Z-Machine Standard 1.1,

@@ -1,11 +1,10 @@
 //! Z-characters and the words that they are packed in.
 ghost use Rattle.std.specs.Prelude.{◌≡◌, ◌==◌, ◌<◌, ◌≤◌, IfSome, length, ◌∷◌, []};
 ghost use Rattle.std.specs.List.{position_from};
-ghost use Rattle.inf_text.specs.Items.{IsItem};
+ghost use Rattle.inf_characters.specs.Items.{IsItem};
 ghost use Rattle.inf_text.specs.Packing.{character_zs, item_zs, abbreviation_zs, zs_list, word, AreZs};
 
-use crate::characters::Zscii;
-use crate::texts::TextItem;
+use inf_characters::{TextItem, Zscii};
 
 /// The characters of alphabet A2 on the Z-characters 8 to 31 (Z-Machine Standard 1.1, section 3.5.3).
 const PUNCTUATION: &[u8; 24] = b"0123456789.,!?_#'\"/\\-:()";

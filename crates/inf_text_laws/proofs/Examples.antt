@@ -1,14 +1,14 @@
 -- The definitions at worked examples.
 use Rattle.std.proofs.Common.{◌≡◌, ℕ, Ok, Err, List, [], ◌∷◌, map, refl}
 use Rattle.std.specs.Prelude.{codes}
-use Rattle.inf_text.specs.Characters.{accented, zscii_of, zscii_of_unicode}
-use Rattle.inf_text.specs.Reading.{escape_piece, piece_at, spelled, spellings, text_of}
+use Rattle.inf_characters.specs.Characters.{accented, zscii_of, zscii_of_unicode}
+use Rattle.inf_characters.specs.Reading.{escape_piece, piece_at, spelled, spellings, text_of}
 use Rattle.inf_text.specs.Packing.{character_zs, dictionary_bytes, longest, packed, punctuation}
-use Rattle.inf_text.specs.declared.characters.CharSet.TheVariants.{Ascii, Latin1}
-use Rattle.inf_text.specs.declared.reading.Mode.TheVariants as mode
-use Rattle.inf_text.specs.declared.reading.TextFault.TheVariants.{UnknownEscape, NoZscii, BadCode}
-use Rattle.inf_text.specs.declared.texts.TextItem.{TextItem}
-use Rattle.inf_text.specs.declared.texts.TextItem.TheVariants.{Character, Variable}
+use Rattle.inf_characters.specs.declared.characters.CharSet.TheVariants.{Ascii, Latin1}
+use Rattle.inf_characters.specs.declared.reading.Mode.TheVariants as mode
+use Rattle.inf_characters.specs.declared.reading.TextFault.TheVariants.{UnknownEscape, NoZscii, BadCode}
+use Rattle.inf_characters.specs.declared.texts.TextItem.{TextItem}
+use Rattle.inf_characters.specs.declared.texts.TextItem.TheVariants.{Character, Variable}
 
 -- the characters of some codes
 characters : List ℕ → List TextItem

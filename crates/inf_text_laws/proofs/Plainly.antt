@@ -5,17 +5,17 @@ use Rattle.std.specs.List.{list_any, position_from}
 use Rattle.std.specs.Option.{option_map}
 use Rattle.std.proofs.lemmas.Bool.Decides.{nat_tests}
 use Rattle.std.proofs.lemmas.List.Folds.{length-prefix_len}
-use Rattle.inf_text.specs.Characters.{accented, has_byte, is_line_end, is_white, zscii_of, zscii_of_unicode}
+use Rattle.inf_characters.specs.Characters.{accented, has_byte, is_line_end, is_white, zscii_of, zscii_of_unicode}
 use Rattle.inf_text_laws.specs.Plain.{ArePlain, ReadsPlainly, byte_by_byte, is_plain}
-use Rattle.inf_text.specs.Reading.{and_then, is_new_line_mark, meaning, piece_at, spaces, text_from, text_of, white_len, with_front}
-use Rattle.inf_text.proofs.Pieces.{Found, with_front-append, with_front-none}
-use Rattle.inf_text.specs.declared.characters.CharSet.{CharSet}
-use Rattle.inf_text.specs.declared.reading.Mode.{Mode}
-use Rattle.inf_text.specs.declared.reading.Mode.TheVariants as mode
-use Rattle.inf_text.specs.declared.reading.TextFault.{TextFault}
-use Rattle.inf_text.specs.declared.reading.TextFault.TheVariants.{NoZscii}
-use Rattle.inf_text.specs.declared.texts.TextItem.{TextItem}
-use Rattle.inf_text.specs.declared.texts.TextItem.TheVariants.{Character}
+use Rattle.inf_characters.specs.Reading.{and_then, is_new_line_mark, meaning, piece_at, spaces, text_from, text_of, white_len, with_front}
+use Rattle.inf_characters.proofs.Pieces.{Found, with_front-append, with_front-none}
+use Rattle.inf_characters.specs.declared.characters.CharSet.{CharSet}
+use Rattle.inf_characters.specs.declared.reading.Mode.{Mode}
+use Rattle.inf_characters.specs.declared.reading.Mode.TheVariants as mode
+use Rattle.inf_characters.specs.declared.reading.TextFault.{TextFault}
+use Rattle.inf_characters.specs.declared.reading.TextFault.TheVariants.{NoZscii}
+use Rattle.inf_characters.specs.declared.texts.TextItem.{TextItem}
+use Rattle.inf_characters.specs.declared.texts.TextItem.TheVariants.{Character}
 
 -- a plain byte is none of the marks
 record IsPlain (b : ℕ) : Type 0 where

@@ -1,13 +1,13 @@
 -- Texts without marks, which are read byte by byte.
 use Rattle.std.specs.Prelude.{◌≡◌, ℕ, ◌==◌, Bool, true, not, ◌||◌, Some, None, Result, Ok, Err, List, [], ◌∷◌}
-use Rattle.inf_text.specs.Characters.{is_line_end, zscii_of}
-use Rattle.inf_text.specs.Reading.{text_of, with_front}
-use Rattle.inf_text.specs.declared.characters.CharSet.{CharSet}
-use Rattle.inf_text.specs.declared.reading.Mode.{Mode}
-use Rattle.inf_text.specs.declared.reading.TextFault.{TextFault}
-use Rattle.inf_text.specs.declared.reading.TextFault.TheVariants.{NoZscii}
-use Rattle.inf_text.specs.declared.texts.TextItem.{TextItem}
-use Rattle.inf_text.specs.declared.texts.TextItem.TheVariants.{Character}
+use Rattle.inf_characters.specs.Characters.{is_line_end, zscii_of}
+use Rattle.inf_characters.specs.Reading.{text_of, with_front}
+use Rattle.inf_characters.specs.declared.characters.CharSet.{CharSet}
+use Rattle.inf_characters.specs.declared.reading.Mode.{Mode}
+use Rattle.inf_characters.specs.declared.reading.TextFault.{TextFault}
+use Rattle.inf_characters.specs.declared.reading.TextFault.TheVariants.{NoZscii}
+use Rattle.inf_characters.specs.declared.texts.TextItem.{TextItem}
+use Rattle.inf_characters.specs.declared.texts.TextItem.TheVariants.{Character}
 
 -- none of the bytes is @ ~ ^ \ or a line end
 abbrev pub is_plain : ℕ → Bool

@@ -1,10 +1,10 @@
 -- What the escapes of a text say, told without reading them.
 use Rattle.std.specs.Prelude.{◌≡◌, ℕ, ◌+◌, ◌/◌, ◌%◌, nat_lt, IsTrue, Ok, List, [], ◌∷◌, map, codes, if◌then◌else◌}
-use Rattle.inf_text.specs.Characters.{is_code}
-use Rattle.inf_text.specs.Reading.{text_of}
-use Rattle.inf_text.specs.declared.characters.CharSet.{CharSet}
-use Rattle.inf_text.specs.declared.reading.Mode.{Mode}
-use Rattle.inf_text.specs.declared.texts.TextItem.TheVariants.{Character}
+use Rattle.inf_characters.specs.Characters.{is_code}
+use Rattle.inf_characters.specs.Reading.{text_of}
+use Rattle.inf_characters.specs.declared.characters.CharSet.{CharSet}
+use Rattle.inf_characters.specs.declared.reading.Mode.{Mode}
+use Rattle.inf_characters.specs.declared.texts.TextItem.TheVariants.{Character}
 
 -- a number below a thousand in decimal digits, without zeros at its front
 abbrev pub decimal : ℕ → List ℕ

@@ -1,15 +1,15 @@
 //! What the definitions give together.
 ghost use Rattle.std.specs.Prelude.{List, ℕ};
 ghost use Rattle.inf_text_laws.specs.Spelled.{AccentsRead, ComesBack};
-ghost use Rattle.inf_text.specs.Items.{IsText};
+ghost use Rattle.inf_characters.specs.Items.{IsText};
 ghost use Rattle.inf_text_laws.specs.Joining.{ReadsJoined};
 ghost use Rattle.inf_text.specs.Packing.{packed};
 ghost use Rattle.inf_text.specs.Parts.{AreAbbreviations, AreLongTexts, IsCut};
 ghost use Rattle.inf_text_laws.specs.Plain.{ReadsPlainly};
 ghost use Rattle.inf_text.specs.Unpacking.{UnpacksTo};
-ghost use Rattle.inf_text.specs.declared.characters.CharSet.{CharSet};
-ghost use Rattle.inf_text.specs.declared.reading.Mode.{Mode};
-ghost use Rattle.inf_text.specs.declared.texts.TextItem.{TextItem};
+ghost use Rattle.inf_characters.specs.declared.characters.CharSet.{CharSet};
+ghost use Rattle.inf_characters.specs.declared.reading.Mode.{Mode};
+ghost use Rattle.inf_characters.specs.declared.texts.TextItem.{TextItem};
 
 /// No abbreviation is missed, and none overlaps another: the Z-characters of a text are those of parts
 /// that follow one another and are the whole text. An item stands for itself only where no declared

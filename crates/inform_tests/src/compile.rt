@@ -256,3 +256,44 @@ fn a_failed_read_is_not_the_end_of_a_source(rt: HostRuntime) -> Result<(), Fail>
     }
     Ok(())
 }
+
+/// The words of all statements are keywords where a statement begins, also of those that the compiler does not have yet, and
+/// names elsewhere. `default` would be one only before a colon.
+#[test]
+fn words_of_statements_begin_no_calls(rt: HostRuntime) -> Result<(), Fail> {
+    let source = b"[ while; ];\n[ Main x;\nprint \"a\";\nwhile (x); ];\n";
+    let lines = "t.inf(4): Error: Syntax error at \"while\"\nErrors: 1, warnings: 0 (no output)\n";
+    story_of(&rt, rt.alloc(), source, Status::Errors, lines)?;
+    let source = b"[ while; ];\n[ Main if;\nreturn while; F(if, while); ]; [ F a; return a; ];\n";
+    let lines = "Errors: 0, warnings: 0\n";
+    story_of(&rt, rt.alloc(), source, Status::Success, lines)?;
+    let source = b"[ default; ];\n[ Main;\ndefault(); ];\n";
+    story_of(&rt, rt.alloc(), source, Status::Success, lines)?;
+    Ok(())
+}
+
+/// What a row of the grammar begins that has not come is bad at its first token, not where the grammar itself would end.
+#[test]
+fn rows_that_have_not_come_are_never_chosen(rt: HostRuntime) -> Result<(), Fail> {
+    let rows: [(&[u8], &str); 8] = [
+        (b"; [ Main; ];", "\";\""),
+        (b"[ Main; F; ];", "\";\""),
+        (b"[ Main; (F)(); ];", "\"(\""),
+        (b"[ Main; F(G()); ];", "\"(\""),
+        (b"[ Main; F()(); ];", "\"(\""),
+        (b"[ Main; return F(); ];", "\"(\""),
+        (b"[ Main; \"text\"; ];", "text"),
+        (b"[ Main; print , \"a\"; ];", "\",\""),
+    ];
+    for (source, told) in &rows {
+        let mut files = folder(rt.alloc(), *source)?;
+        let mut messages = MemorySink::new(rt.alloc());
+        let mut story = MemorySink::new(rt.alloc());
+        let _ = run(rt.alloc(), &mut files, &mut messages, &mut story)??;
+        let begins = b"t.inf(1): Error: Syntax error at ".as_slice();
+        assert!(rt; messages.bytes().starts_with(begins), "{told}");
+        let rest = &messages.bytes()[begins.len()..];
+        assert!(rt; rest.starts_with(told.as_bytes()), "{told}");
+    }
+    Ok(())
+}

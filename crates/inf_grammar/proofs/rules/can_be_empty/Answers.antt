@@ -1,6 +1,6 @@
 use Rattle.std.proofs.Common.{◌∙◌, ap, sym, arith}
 use Rattle.inf_grammar.proofs.CodeTables.{rule_is, rules_length}
-use Rattle.inf_grammar.proofs.Evaluated.{empty_past}
+use Rattle.inf_grammar.specs.Evaluated.{empty_past}
 use Rattle.inf_grammar.proofs.rules.can_be_empty.Goals as goal
 
 pub returns-in-Some : goal.returns-in-Some

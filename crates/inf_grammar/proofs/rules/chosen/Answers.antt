@@ -1,9 +1,9 @@
 use Rattle.std.proofs.Common.{◌∙◌, ap, sym, subst, arith, reverse}
-use Rattle.inf_grammar.specs.Machine.{row_for, empty_row}
+use Rattle.inf_machine.specs.Machine.{row_for, empty_row}
 use Rattle.inf_grammar.specs.Language.{grammar, known}
 use Rattle.inf_grammar.specs.Tables.{all_rows, all_parts, cut, found}
 use Rattle.inf_grammar.proofs.CodeTables.{IsRule, rule_is, rules_length, found_is_chosen}
-use Rattle.inf_grammar.proofs.Evaluated.{rows_past}
+use Rattle.inf_grammar.specs.Evaluated.{rows_past}
 use Rattle.inf_grammar.proofs.rules.chosen.Goals as goal
 
 pub returns-in-Some : goal.returns-in-Some

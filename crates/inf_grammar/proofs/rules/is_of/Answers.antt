@@ -1,7 +1,7 @@
 use Rattle.std.proofs.Common.{◌∙◌, ap, sym}
-use Rattle.inf_grammar.specs.Grammar.{has}
+use Rattle.inf_machine.specs.Grammar.{has}
 use Rattle.inf_grammar.specs.Tables.{set_number}
-use Rattle.inf_grammar.proofs.Sets.{has_zero}
+use Rattle.inf_machine.proofs.Sets.{has_zero}
 use Rattle.inf_grammar.proofs.CodeTables.{class_is, no_class}
 use Rattle.inf_grammar.proofs.rules.is_of.Goals as goal
 

@@ -1,6 +1,6 @@
 use Rattle.std.proofs.Common.{◌≡◌, drop, map}
 use Rattle.inf_symbol.specs.LocalList.{listed}
-use Rattle.inf_reader.specs.Reading.{operands_fault}
+use Rattle.inf_reader.specs.Units.{operands_fault}
 use Rattle.inf_token.specs.Tokens.{spelled}
 use Rattle.inf_reader.proofs.operands.operands_fault.Given as goal
 

@@ -1,7 +1,7 @@
 use Rattle.std.proofs.Common.{◌≡◌, [], drop, length, map}
 use Rattle.inf_symbol.specs.LocalList.{listed}
 use Rattle.inf_symbol.specs.NameMap.{named}
-use Rattle.inf_reader.specs.Reading.{with_operands}
+use Rattle.inf_reader.specs.Units.{with_operands}
 use Rattle.inf_token.specs.Tokens.{spelled}
 use Rattle.inf_reader.proofs.operands.operands_of.Given as goal
 

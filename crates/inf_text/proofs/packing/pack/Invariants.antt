@@ -1,6 +1,6 @@
 use Rattle.std.proofs.Common.{◌≡◌, length, ℕ, List}
-use Rattle.inf_text.specs.declared.texts.TextItem.{TextItem}
-use Rattle.inf_text.specs.Items.{IsText}
+use Rattle.inf_characters.specs.declared.texts.TextItem.{TextItem}
+use Rattle.inf_characters.specs.Items.{IsText}
 use Rattle.inf_text.specs.Packer.{completed}
 use Rattle.std.specs.Option.{option_copied}
 use Rattle.inf_text.specs.Packing.{in_use, words, zs_from}

@@ -1,8 +1,8 @@
 use Rattle.std.proofs.Common.{◌≡◌, ◌≤◌, ◌+◌, ◌*◌, length, ℕ, List}
-use Rattle.inf_text.specs.Items.{IsText}
+use Rattle.inf_characters.specs.Items.{IsText}
 use Rattle.std.specs.Option.{option_copied}
 use Rattle.inf_text.specs.Packing.{in_use, zs_from}
-use Rattle.inf_text.specs.declared.texts.TextItem.{TextItem}
+use Rattle.inf_characters.specs.declared.texts.TextItem.{TextItem}
 use Rattle.inf_text.proofs.packing.packed_len.Given as goal
 
 -- what is counted and what is left are the whole text, in four Z-characters an item at most

@@ -14,7 +14,7 @@ returns-in_err-push c =
 
 pub invariant_of-self-2 : goal.invariant_of-self-2
 invariant_of-self-2 c = record {
-  declared = rw (c.in_ok-push.ensures.items, c.in_ok-copy.ensures)
+  declared = rw (c.in_ok-push.ensures.items, c.in_ok-copy.ensures.ok)
       (AreAbbreviations-push c.self.inside.texts.items c.args.text.now c.self.invariant.declared (omega arith) (omega arith) c.as_slice-2.ensures.text);
   indexed = rw c.deref.ensures.value at c.add.ensures;
 }

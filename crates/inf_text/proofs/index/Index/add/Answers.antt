@@ -1,20 +1,30 @@
-use Rattle.std.proofs.Common.{◌≡◌, ◌+◌, ◌-◌, ◌∙◌, [], List, ℕ, length, ap, arith}
-use Rattle.std.specs.List.{insert}
-use Rattle.inf_text.specs.Searching.{IsOrder, linked_from}
-use Rattle.inf_text.proofs.Ranging.{IsOrder-insert}
+use Rattle.std.proofs.Common.{◌∙◌, [], List, ℕ, ap}
+use Rattle.inf_text.specs.Searching.{linked_from}
+use Rattle.inf_text.proofs.Ranging.{IsOrder-more}
 use Rattle.inf_text.proofs.index.Index.add.Goals as goal
+
+pub linked-self-requires-clause-numbers : goal.linked-self-requires-clause-numbers
+linked-self-requires-clause-numbers c =
+    let fits = rw c.as_slice-2.ensures.value at c.place_of-place.ensures in
+    let orders = IsOrder-more c.args.texts.now c.place_of-place.result c.args.self.now.sorted.items c.insert.new.self.items c.as_slice-3.result.now c.order_of-self.result.items c.linked-neighbours.result.items c.as_slice-4.result.now
+    c.requires.some fits c.requires.sorted c.insert.ensures.items c.as_slice-3.ensures.value c.linked-neighbours.ensures c.as_slice-4.ensures.value c.order_of-self.ensures in
+    rw c.as_slice-5.ensures.value (orders.1.below)
+
+pub ranges_of-self-requires-clause-numbers : goal.ranges_of-self-requires-clause-numbers
+ranges_of-self-requires-clause-numbers c =
+    let fits = rw c.as_slice-2.ensures.value at c.place_of-place.ensures in
+    let orders = IsOrder-more c.args.texts.now c.place_of-place.result c.args.self.now.sorted.items c.insert.new.self.items c.as_slice-3.result.now c.order_of-self.result.items c.linked-neighbours.result.items c.as_slice-4.result.now
+    c.requires.some fits c.requires.sorted c.insert.ensures.items c.as_slice-3.ensures.value c.linked-neighbours.ensures c.as_slice-4.ensures.value c.order_of-self.ensures in
+    rw c.as_slice-6.ensures.value (orders.1.below)
 
 pub returns : goal.returns
 returns c =
-    let texts = c.args.texts.now in
-    let count = length texts - 1 in
-    let old = c.args.self.now.order.items in
-    let place = c.place_of-place.result in
-    let len : count + 1 ≡ length texts = omega (arith, c.requires.some) in
     let fits = rw c.as_slice-2.ensures.value at c.place_of-place.ensures in
-    let order : IsOrder (count + 1) (insert old place count) = IsOrder-insert count place old fits c.requires.order in
+    let orders = IsOrder-more c.args.texts.now c.place_of-place.result c.args.self.now.sorted.items c.insert.new.self.items c.as_slice-3.result.now c.order_of-self.result.items c.linked-neighbours.result.items c.as_slice-4.result.now
+    c.requires.some fits c.requires.sorted c.insert.ensures.items c.as_slice-3.ensures.value c.linked-neighbours.ensures c.as_slice-4.ensures.value c.order_of-self.ensures in
     record {
-      order = rw c.insert.ensures.items (rw len at order);
-      links = c.linked-self.ensures ∙ ap (λ (o : List ℕ). linked_from texts [] o) c.as_slice-3.ensures.value;
-      ranges = rw c.as_slice-4.ensures.value at c.ranges_of-self.ensures;
+      sorted = orders.0;
+      order = orders.1;
+      links = c.linked-self.ensures ∙ ap (λ (o : List ℕ). linked_from c.args.texts.now [] o) c.as_slice-5.ensures.value;
+      ranges = rw c.as_slice-6.ensures.value at c.ranges_of-self.ensures;
     }

@@ -1,0 +1,4 @@
+pub mod Holes
+pub mod Moves
+pub mod Pages
+pub mod Words

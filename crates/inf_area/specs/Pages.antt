@@ -1,0 +1,18 @@
+-- Bytes in pages.
+use Rattle.std.specs.Prelude.{◌≡◌, ℕ, ◌*◌, ◌<◌, ◌≤◌, ◌^◌, List, length}
+use Rattle.std.specs.List.{flat_map, AllByRecursion}
+use Rattle.std.specs.Global.{Box}
+
+-- the bytes of pages, one behind the other
+abbrev pub page_bytes : List (Box (List ℕ)) → List ℕ
+page_bytes pages = flat_map (λ page. page.value) pages
+
+-- that each page has 1,024 bytes
+abbrev pub AreWhole : List (Box (List ℕ)) → Type 0
+AreWhole pages = AllByRecursion (λ page. length page.value ≡ 1024) pages
+
+-- that an area's bytes lie within its pages, whose number is one that a place can count
+pub record IsPaged (pages : List (Box (List ℕ))) (len : ℕ) : Type 0 where
+  pub whole : AreWhole pages
+  pub within : len ≤ 1024 * length pages
+  pub counted : 1024 * length pages < 2 ^ 64

@@ -1,0 +1,145 @@
+//! The areas of a story: lists of bytes that grow at their end and are patched in place.
+ghost use Rattle.std.specs.Prelude.{◌≡◌, ◌+◌, ◌-◌, ◌<◌, ◌≤◌, ℕ, List, [], ◌∷◌, ◌++◌, length, take, drop, slice_index, slice_set, OnOk, OnErr};
+ghost use Rattle.inf_area.specs.Moves.{moved};
+ghost use Rattle.inf_area.specs.Words.{with_word};
+
+use std::alloc::{AllocError, Global};
+use std::marker::Model;
+
+/// An area of a story under construction, which is a list of bytes.
+///
+/// Places count from 0, in bytes. Each place that is asked for lies within the area.
+pub trait Area {
+    /// The bytes, in order.
+    ghost bytes: { Self → List ℕ };
+
+    /// The number of bytes.
+    fn len(&self) -> usize
+        ensures { result ≡ length (bytes self.now) };
+
+    /// The byte at the place `at`, which lies within.
+    fn byte(&self, at: usize) -> u8
+        requires { at < length (bytes self.now) }
+        ensures { result ≡ slice_index (bytes self.now) at };
+
+    /// Appends a byte. Where no memory is left for it the area stays as it was.
+    fn push(&mut self, byte: u8) -> Result<(), AllocError>
+        ensures ok { OnOk result (bytes self.new ≡ bytes self.old ++ byte ∷ []) }
+        ensures err { OnErr result (bytes self.new ≡ bytes self.old) };
+
+    /// Appends bytes. Where no memory is left for all of them the area stays as it was.
+    fn append(&mut self, added: &[u8]) -> Result<(), AllocError>
+        ensures ok { OnOk result (bytes self.new ≡ bytes self.old ++ added.now) }
+        ensures err { OnErr result (bytes self.new ≡ bytes self.old) }
+    {
+        let len = self.len();
+        for byte in added {
+            if let Err(fault) = self.push(*byte) {
+                let end = self.len();
+                self.cut(len, end - len);
+                return Err(fault);
+            }
+        }
+        Ok(())
+    }
+
+    /// Sets the byte at the place `at`, which lies within.
+    fn patch_byte(&mut self, at: usize, byte: u8)
+        requires { at < length (bytes self.old) }
+        ensures { bytes self.new ≡ slice_set (bytes self.old) at byte };
+
+    /// Sets the bytes at `at` and `at + 1`, which lie within, to a word, its high byte first.
+    fn patch_word(&mut self, at: usize, word: u16)
+        requires { at + 1 < length (bytes self.old) }
+        ensures { bytes self.new ≡ with_word (bytes self.old) at word };
+
+    /// Writes the bytes from the place `from` up to the place `end` over those from the place `to` on.
+    /// The three stand in the order `to`, `from`, `end`, and `end` is at most the length.
+    fn move_left(&mut self, to: usize, from: usize, end: usize)
+        requires before { to ≤ from }
+        requires ordered { from ≤ end }
+        requires within { end ≤ length (bytes self.old) }
+        ensures { bytes self.new ≡ moved to from (end - from) (bytes self.old) }
+    {
+        let gap = from - to;
+        for at in from..end {
+            let byte = self.byte(at);
+            self.patch_byte(at - gap, byte);
+        }
+    }
+
+    /// Takes out the `n` bytes from the place `at` on, all of which lie within.
+    fn cut(&mut self, at: usize, n: usize)
+        requires { at + n ≤ length (bytes self.old) }
+        ensures { bytes self.new ≡ take at (bytes self.old) ++ drop (at + n) (bytes self.old) };
+}
+
+/// An area whose bytes lie in one piece.
+#[derive(Debug, Drop)]
+pub struct FlatArea {
+    content: Vec<u8>,
+}
+
+impl Model for FlatArea {
+    ghost Value = { List ℕ };
+
+    ghost view = { λ area. area.content.items };
+}
+
+impl FlatArea {
+    /// An area with no bytes. It takes no memory until the first `push`.
+    pub fn new(alloc: Global) -> Self
+        ensures { result ≡ [] }
+    {
+        FlatArea {
+            content: Vec::new(alloc),
+        }
+    }
+
+    /// The bytes, in order.
+    pub fn as_slice(&self) -> &[u8]
+        ensures { result.now ≡ self.now }
+    {
+        self.content.as_slice()
+    }
+}
+
+impl Area for FlatArea {
+    ghost bytes = { λ area. area };
+
+    fn len(&self) -> usize {
+        self.content.len()
+    }
+
+    fn byte(&self, at: usize) -> u8 {
+        self.content[at]
+    }
+
+    fn push(&mut self, byte: u8) -> Result<(), AllocError> {
+        self.content.push(byte)?;
+        Ok(())
+    }
+
+    fn append(&mut self, added: &[u8]) -> Result<(), AllocError> {
+        self.content.extend_from_slice(added)
+    }
+
+    fn patch_byte(&mut self, at: usize, byte: u8) {
+        self.content[at] = byte;
+    }
+
+    fn patch_word(&mut self, at: usize, word: u16) {
+        self.content[at] = (word / 256) as u8;
+        self.content[at + 1] = (word % 256) as u8;
+    }
+
+    fn move_left(&mut self, to: usize, from: usize, end: usize) {
+        self.content.copy_within(from..end, to);
+    }
+
+    fn cut(&mut self, at: usize, n: usize) {
+        let len = self.content.len();
+        self.content.copy_within(at + n..len, at);
+        self.content.truncate(len - n);
+    }
+}

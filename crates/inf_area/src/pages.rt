@@ -1,0 +1,120 @@
+//! Areas whose bytes lie in pages.
+ghost use Rattle.std.specs.Prelude.{◌≡◌, ◌+◌, ◌*◌, ◌^◌, ◌<◌, ◌≤◌, ℕ, List, [], ◌∷◌, ◌++◌, length, take, drop, slice_index, slice_set, OnOk, OnErr};
+ghost use Rattle.inf_area.specs.Pages.{page_bytes, AreWhole};
+
+use crate::areas::Area;
+use std::alloc::{AllocError, Global};
+use std::marker::Model;
+
+// The bytes of a page.
+const PAGE_LEN: usize = 1024;
+
+type Page = Box<[u8; PAGE_LEN]>;
+
+/// An area whose bytes lie in pages of 1,024 bytes. What it holds is never moved when it grows.
+#[derive(Debug, Drop)]
+pub struct PagedArea {
+    alloc: Global,
+    // Every page is there whole; those behind the bytes are kept for what is appended next.
+    pages: Vec<Page>,
+    len: usize,
+}
+
+impl Model for PagedArea {
+    ghost use Rattle.std.specs.Prelude.{ℕ, List, take};
+    ghost use Rattle.inf_area.specs.Pages.{page_bytes, IsPaged};
+
+    ghost Value = { List ℕ };
+
+    ghost view = { λ area. take area.len (page_bytes area.pages.items) };
+
+    ghost invariant = { λ area. IsPaged area.pages.items area.len };
+}
+
+impl PagedArea {
+    /// An area with no bytes. It takes no memory until the first `push`.
+    pub fn new(alloc: Global) -> Self
+        ensures { result ≡ [] }
+    {
+        PagedArea {
+            alloc,
+            pages: Vec::new(alloc),
+            len: 0,
+        }
+    }
+}
+
+// The byte at a place of the pages.
+fn byte_at(pages: &[Page], at: usize) -> u8
+    requires whole { AreWhole pages.now }
+    requires within { at < 1024 * length pages.now }
+    ensures { result ≡ slice_index (page_bytes pages.now) at }
+{
+    pages[at / PAGE_LEN][at % PAGE_LEN]
+}
+
+// Sets the byte at a place of the pages.
+fn set_byte(pages: &mut [Page], at: usize, byte: u8)
+    requires whole { AreWhole pages.old }
+    requires within { at < 1024 * length pages.old }
+    ensures bytes { page_bytes pages.new ≡ slice_set (page_bytes pages.old) at byte }
+    ensures whole { AreWhole pages.new }
+{
+    let page = &mut pages[at / PAGE_LEN];
+    page[at % PAGE_LEN] = byte;
+}
+
+// Appends a page of zeros. As for any list, there are no more pages than a number of bytes can count.
+fn add_page(alloc: Global, pages: &mut Vec<Page>) -> Result<(), AllocError>
+    requires { AreWhole pages.old.items }
+    ensures count { OnOk result (length pages.new.items ≡ length pages.old.items + 1) }
+    ensures bytes { OnOk result ((n : ℕ) → n ≤ 1024 * length pages.old.items
+        → take n (page_bytes pages.new.items) ≡ take n (page_bytes pages.old.items)) }
+    ensures whole { OnOk result (AreWhole pages.new.items) }
+    ensures counted { OnOk result (1024 * length pages.new.items < 2 ^ 64) }
+    ensures err { OnErr result (pages.new.items ≡ pages.old.items) }
+{
+    if pages.len() >= usize::MAX / PAGE_LEN {
+        return Err(AllocError);
+    }
+    let page = Box::new(alloc, [0; PAGE_LEN])?;
+    pages.push(page)?;
+    Ok(())
+}
+
+impl Area for PagedArea {
+    ghost bytes = { λ area. area };
+
+    fn len(&self) -> usize {
+        self.len
+    }
+
+    fn byte(&self, at: usize) -> u8 {
+        byte_at(self.pages.as_slice(), at)
+    }
+
+    fn push(&mut self, byte: u8) -> Result<(), AllocError> {
+        if self.len / PAGE_LEN >= self.pages.len() {
+            add_page(self.alloc, &mut self.pages)?;
+        }
+        set_byte(self.pages.as_mut_slice(), self.len, byte);
+        self.len += 1;
+        Ok(())
+    }
+
+    fn patch_byte(&mut self, at: usize, byte: u8) {
+        set_byte(self.pages.as_mut_slice(), at, byte);
+    }
+
+    fn patch_word(&mut self, at: usize, word: u16) {
+        let pages = self.pages.as_mut_slice();
+        set_byte(pages, at, (word / 256) as u8);
+        set_byte(pages, at + 1, (word % 256) as u8);
+    }
+
+    fn cut(&mut self, at: usize, n: usize) {
+        let end = self.len();
+        self.move_left(at, at + n, end);
+        self.len = end - n;
+    }
+}

@@ -1,0 +1,12 @@
+use Rattle.std.proofs.Common.{◌≡◌, ℕ, ◌≤◌, drop}
+use Rattle.inf_assembler.specs.Places.{first_of}
+use Rattle.inf_assembler.specs.Closing.{found, kept_place}
+use Rattle.inf_assembler.proofs.closing.label_places.Given as goal
+
+-- what is found, or else in what is left, is found in all
+abbrev pub invariant-loop-entry : goal.invariant-loop-entry
+invariant-loop-entry l =
+    record {
+      saved : l.saved ≤ l.entry-index;
+      places : (n : ℕ) → first_of (found l.places.items n) (kept_place (found l.long) l.saved (drop l.entry-index l.kept) n) ≡ kept_place (found l.long) 0 l.kept n;
+    }

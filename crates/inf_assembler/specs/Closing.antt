@@ -1,0 +1,83 @@
+-- What is computed from what a routine keeps, one thing kept after the other.
+use Rattle.std.specs.Prelude.{ℕ, ◌+◌, ◌-◌, ◌≤◌, ◌==◌, List, [], ◌∷◌, ◌++◌, length, take, drop, slice_get, Option, Some, None, is_some, if◌then◌else◌}
+use Rattle.inf_area.specs.declared.references.Hole.{Hole}
+use Rattle.inf_opcode.specs.declared.instructions.Label.{Label}
+use Rattle.inf_opcode.specs.declared.cells.Kept.{Kept}
+use Rattle.inf_opcode.specs.declared.cells.Special.{Special}
+use Rattle.inf_opcode.specs.declared.cells.Special.TheVariants.{Marks, Branches, Jumps, Refers}
+use Rattle.inf_opcode.specs.Cells.{special_size}
+use Rattle.inf_assembler.specs.Places.{Places, marks, is_short_to, closed_special, used_by, unplaced, first_of, hole_at}
+
+-- the place of a label in a table
+abbrev pub entry_of : Option (Option ℕ) → Option ℕ
+entry_of None = None
+entry_of (Some place) = place
+
+abbrev pub found : List (Option ℕ) → Places
+found places number = entry_of (slice_get places number)
+
+-- one label's place
+abbrev pub only : ℕ → ℕ → Places
+only label place number = if label == number then Some place else None
+
+-- how many bytes shorter than its long size something is
+abbrev pub special_saving : Places → ℕ → Special → ℕ
+special_saving long place (Marks label) = 0
+special_saving long place (Branches branch) = if is_short_to long place branch.target then 1 else 0
+special_saving long place (Jumps label) = 0
+special_saving long place (Refers reference) = 0
+
+abbrev pub saving : Places → Kept → ℕ
+saving long entry = special_saving long entry.place entry.what
+
+-- the place of a label, where so many bytes were saved before
+abbrev pub kept_place : Places → ℕ → List Kept → Places
+kept_place long saved [] number = None
+kept_place long saved (entry ∷ others) number =
+    if marks number entry.what then Some (entry.place - saved) else kept_place long (saved + saving long entry) others number
+
+-- no places
+abbrev pub nowhere : Places
+nowhere number = None
+
+-- the first label by use that has no place
+abbrev pub kept_missing : Places → List Kept → Option Label
+kept_missing places [] = None
+kept_missing places (entry ∷ others) = first_of (unplaced places (used_by entry.what)) (kept_missing places others)
+
+-- the first label by its second mark, behind what was kept before
+abbrev pub kept_again : List Kept → Special → Option Label
+kept_again before (Marks label) = if is_some (kept_place nowhere 0 before label.number) then Some label else None
+kept_again before (Branches branch) = None
+kept_again before (Jumps label) = None
+kept_again before (Refers reference) = None
+
+abbrev pub kept_twice : List Kept → List Kept → Option Label
+kept_twice before [] = None
+kept_twice before (entry ∷ others) = first_of (kept_again before entry.what) (kept_twice (before ++ entry ∷ []) others)
+
+-- the references, where so many bytes were saved before
+abbrev pub kept_holes : Places → ℕ → List Kept → List Hole
+kept_holes long saved [] = []
+kept_holes long saved (entry ∷ others) = hole_at (entry.place - saved) entry.what ++ kept_holes long (saved + saving long entry) others
+
+-- n bytes from one place on are written from another on, which lies before, and other bytes behind them
+abbrev pub placed_bytes : ℕ → ℕ → ℕ → List ℕ → List ℕ → List ℕ
+placed_bytes to from n added bytes = take to bytes ++ take n (drop from bytes) ++ added ++ drop (to + n + length added) bytes
+
+-- the bytes of an area whose bytes from one place on are moved to another, with what is kept of them written short
+abbrev pub with_bytes : (List ℕ → Option (List ℕ)) → Option (List ℕ) → Option (List ℕ)
+with_bytes next None = None
+with_bytes next (Some bytes) = next bytes
+
+abbrev pub squeezed : Places → Places → ℕ → ℕ → List Kept → List ℕ → Option (List ℕ)
+squeezed long places from to [] bytes = Some (take to bytes ++ drop from bytes)
+squeezed long places from to (entry ∷ others) bytes =
+    with_bytes
+    (λ added. squeezed long places (entry.place + special_size entry.what) (to + (entry.place - from) + length added) others (placed_bytes to from (entry.place - from) added bytes))
+    (closed_special long places entry.place (to + (entry.place - from)) entry.what)
+
+-- that what is kept stands in order from a place on, up to an end
+abbrev pub AreInOrder : ℕ → List Kept → ℕ → Type 0
+AreInOrder from [] end = from ≤ end
+AreInOrder from (entry ∷ others) end = (from ≤ entry.place) × AreInOrder (entry.place + special_size entry.what) others end

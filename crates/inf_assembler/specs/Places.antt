@@ -1,0 +1,154 @@
+-- Where the cells of a closed routine stand: short branches, places, offsets and bytes.
+use Rattle.std.specs.Prelude.{ℕ, ◌+◌, ◌-◌, ◌*◌, ◌/◌, ◌%◌, Bool, true, false, nat_lt, nat_le, ◌==◌, ◌&&◌, List, [], ◌∷◌, ◌++◌, Option, Some, None, is_some, if◌then◌else◌}
+use Rattle.inf_area.specs.declared.references.AreaName.TheVariants.{Code}
+use Rattle.inf_area.specs.declared.references.Hole.{Hole}
+use Rattle.inf_area.specs.Words.{word}
+use Rattle.inf_opcode.specs.declared.instructions.Label.{Label}
+use Rattle.inf_opcode.specs.declared.instructions.Target.{Target}
+use Rattle.inf_opcode.specs.declared.instructions.Target.TheVariants.{To, ReturnFalse, ReturnTrue}
+use Rattle.inf_opcode.specs.declared.cells.Special.{Special}
+use Rattle.inf_opcode.specs.declared.cells.Special.TheVariants.{Marks, Branches, Jumps, Refers}
+use Rattle.inf_opcode.specs.Cells.{Cell, Plain, Of, special_size, sense_bit}
+
+-- whether something marks a label
+abbrev pub marks : ℕ → Special → Bool
+marks number (Marks label) = label.number == number
+marks number (Branches branch) = false
+marks number (Jumps label) = false
+marks number (Refers reference) = false
+
+-- where labels are
+abbrev pub Places : Type 0
+Places = ℕ → Option ℕ
+
+-- The long place of a label, in cells that stand from a place on: the sum of the long sizes before its first mark.
+abbrev pub long_place : ℕ → List Cell → Places
+long_place place [] number = None
+long_place place ((Plain byte) ∷ cells) number = long_place (place + 1) cells number
+long_place place ((Of what) ∷ cells) number =
+    if marks number what then Some place else long_place (place + special_size what) cells number
+
+-- A branch is short where its offset is 2 to 63 with every branch long (section 4.7.3): its label stands so far behind its first byte.
+abbrev pub is_near : ℕ → Option ℕ → Bool
+is_near place None = false
+is_near place (Some target) = nat_le (place + 2) target && nat_le target (place + 63)
+
+abbrev pub is_short_to : Places → ℕ → Target → Bool
+is_short_to long place (To label) = is_near place (long label.number)
+is_short_to long place ReturnFalse = false
+is_short_to long place ReturnTrue = false
+
+-- the size in bytes of what stands at a long place
+abbrev pub size_at : Places → ℕ → Special → ℕ
+size_at long place (Marks label) = 0
+size_at long place (Branches branch) = if is_short_to long place branch.target then 1 else 2
+size_at long place (Jumps label) = 2
+size_at long place (Refers reference) = 2
+
+-- The place of a label, in cells that stand from a place on and with all branches long from another: the sum of the sizes before its first mark.
+abbrev pub place_from : Places → ℕ → ℕ → List Cell → Places
+place_from long old new [] number = None
+place_from long old new ((Plain byte) ∷ cells) number = place_from long (old + 1) (new + 1) cells number
+place_from long old new ((Of what) ∷ cells) number =
+    if marks number what then Some new
+    else place_from long (old + special_size what) (new + size_at long old what) cells number
+
+-- An offset to a place, from behind the branch or jump, as a number of so many values: 2 stands for the place itself (sections 4.7.2 and 15, jump).
+-- None where it does not fit.
+abbrev pub offset_to : ℕ → ℕ → Option ℕ → Option ℕ
+offset_to half end None = None
+offset_to half end (Some target) =
+    if nat_le end (target + 2 + half) && nat_lt (target + 2) (end + half)
+    then Some ((target + 2 + 2 * half - end) % (2 * half)) else None
+
+-- the offset of a branch whose last byte is before a place; those of 0 and 1 return
+abbrev pub branch_offset : Places → ℕ → Target → Option ℕ
+branch_offset places end (To label) = offset_to 8192 end (places label.number)
+branch_offset places end ReturnFalse = Some 0
+branch_offset places end ReturnTrue = Some 1
+
+-- a branch in one byte, whose bit 6 says so, and in two (section 4.7)
+abbrev pub branch_bytes : Bool → Bool → ℕ → List ℕ
+branch_bytes true sense offset = (sense_bit sense + 64 + offset % 64) ∷ []
+branch_bytes false sense offset = (sense_bit sense + offset / 256) ∷ (offset % 256) ∷ []
+
+-- a value behind something that may be none
+abbrev pub with_some : {A B : Type 0} → (A → B) → Option A → Option B
+with_some f None = None
+with_some f (Some x) = Some (f x)
+
+-- the bytes of what stands at a place, by its long place; none where an offset does not fit
+abbrev pub closed_special : Places → Places → ℕ → ℕ → Special → Option (List ℕ)
+closed_special long places old new (Marks label) = Some []
+closed_special long places old new (Branches branch) =
+    let short = is_short_to long old branch.target in
+    with_some (branch_bytes short branch.sense) (branch_offset places (new + (if short then 1 else 2)) branch.target)
+closed_special long places old new (Jumps label) = with_some word (offset_to 32768 (new + 2) (places label.number))
+closed_special long places old new (Refers reference) = Some (0 ∷ 0 ∷ [])
+
+-- bytes behind bytes that may be none
+abbrev pub joined : Option (List ℕ) → Option (List ℕ) → Option (List ℕ)
+joined None others = None
+joined (Some bytes) others = with_some (λ rest. bytes ++ rest) others
+
+-- the bytes of a whole routine's cells
+abbrev pub closed_bytes : Places → Places → ℕ → ℕ → List Cell → Option (List ℕ)
+closed_bytes long places old new [] = Some []
+closed_bytes long places old new ((Plain byte) ∷ cells) =
+    with_some (λ rest. byte ∷ rest) (closed_bytes long places (old + 1) (new + 1) cells)
+closed_bytes long places old new ((Of what) ∷ cells) =
+    joined (closed_special long places old new what) (closed_bytes long places (old + special_size what) (new + size_at long old what) cells)
+
+-- its references with their places
+abbrev pub hole_at : ℕ → Special → List Hole
+hole_at place (Marks label) = []
+hole_at place (Branches branch) = []
+hole_at place (Jumps label) = []
+hole_at place (Refers reference) = record { area = Code; place = place; reference = reference } ∷ []
+
+abbrev pub closed_holes : Places → ℕ → ℕ → List Cell → List Hole
+closed_holes long old new [] = []
+closed_holes long old new ((Plain byte) ∷ cells) = closed_holes long (old + 1) (new + 1) cells
+closed_holes long old new ((Of what) ∷ cells) =
+    hole_at new what ++ closed_holes long (old + special_size what) (new + size_at long old what) cells
+
+-- the label that something goes to
+abbrev pub label_of : Target → Option Label
+label_of (To label) = Some label
+label_of ReturnFalse = None
+label_of ReturnTrue = None
+
+abbrev pub used_by : Special → Option Label
+used_by (Marks label) = None
+used_by (Branches branch) = label_of branch.target
+used_by (Jumps label) = Some label
+used_by (Refers reference) = None
+
+-- the first of two
+abbrev pub first_of : {A : Type 0} → Option A → Option A → Option A
+first_of (Some x) other = Some x
+first_of None other = other
+
+-- a label that has no place
+abbrev pub unplaced : Places → Option Label → Option Label
+unplaced places None = None
+unplaced places (Some label) = if is_some (places label.number) then None else Some label
+
+-- the first label by use that has no place
+abbrev pub missing : Places → List Cell → Option Label
+missing places [] = None
+missing places ((Plain byte) ∷ cells) = missing places cells
+missing places ((Of what) ∷ cells) = first_of (unplaced places (used_by what)) (missing places cells)
+
+-- a label that something marks, where cells before it mark it too
+abbrev pub marked_again : List Cell → Special → Option Label
+marked_again before (Marks label) = if is_some (long_place 0 before label.number) then Some label else None
+marked_again before (Branches branch) = None
+marked_again before (Jumps label) = None
+marked_again before (Refers reference) = None
+
+-- the first label by its second mark, behind the cells before
+abbrev pub twice_behind : List Cell → List Cell → Option Label
+twice_behind before [] = None
+twice_behind before ((Plain byte) ∷ cells) = twice_behind before cells
+twice_behind before ((Of what) ∷ cells) = first_of (marked_again before what) (twice_behind (before ++ Of what ∷ []) cells)

@@ -1,0 +1,300 @@
+//! Closing a routine: its short branches, and the bytes that move together.
+ghost use Rattle.std.specs.Prelude.{◌≡◌, ℕ, ◌+◌, ◌-◌, ◌<◌, ◌≤◌, [], ◌∷◌, ◌++◌, Option, Some, None, IfOk, OnOk, OnErr, MatchResult, MatchOption, length, take, List, ◌^◌, IfErr};
+ghost use Rattle.inf_area.specs.Holes.{with_holes};
+ghost use Rattle.inf_area.specs.declared.references.Hole.{Hole};
+ghost use Rattle.inf_area.specs.declared.references.AddFault.TheVariants.{Full};
+ghost use Rattle.inf_opcode.specs.Cells.{special_size};
+ghost use Rattle.inf_assembler.specs.Places.{is_short_to, first_of, offset_to, branch_offset, branch_bytes, closed_special, used_by};
+ghost use Rattle.inf_assembler.specs.Closing.{found, saving, kept_place, kept_missing, kept_twice, placed_bytes, squeezed, kept_holes, only, AreInOrder};
+
+use arrayvec::ArrayVec;
+use inf_area::{AddFault, Area, AreaName, Hole, Refs};
+use inf_opcode::{Kept, Label, Special, Target, sense_bit};
+use std::alloc::{AllocError, Global};
+
+// The place of a label in a table, which is none where the table ends before it.
+fn place_of(places: &[Option<usize>], label: Label) -> Option<usize>
+    ensures { result ≡ found places.now label.number }
+{
+    match places.get(label.number as usize) {
+        Some(place) => *place,
+        None => None,
+    }
+}
+
+// Whether a branch at a place is short, by a table of the long places.
+fn is_short(long: &[Option<usize>], place: usize, target: Target) -> bool
+    ensures { result ≡ is_short_to (found long.now) place target }
+{
+    let Target::To(label) = target else {
+        return false;
+    };
+    match place_of(long, label) {
+        Some(target) if target >= place => {
+            let offset = target - place;
+            2 <= offset && offset <= 63
+        }
+        _ => false,
+    }
+}
+
+// How many bytes shorter than its long size something is.
+fn saving(long: &[Option<usize>], entry: Kept) -> usize
+    ensures value { result ≡ saving (found long.now) entry }
+    ensures small { result ≤ 1 }
+{
+    match entry.what {
+        Special::Branches(branch) if is_short(long, entry.place, branch.target) => 1,
+        _ => 0,
+    }
+}
+
+// Notes the place of a label, unless there is one.
+fn note(places: &mut Vec<Option<usize>>, label: Label, place: usize) -> Result<(), AllocError>
+    ensures { OnOk result ((n : ℕ) → found places.new.items n ≡ first_of (found places.old.items n) (only label.number place n)) }
+{
+    let index = label.number as usize;
+    if places.len() <= index {
+        places.resize(index + 1, None)?;
+    }
+    if places[index].is_none() {
+        places[index] = Some(place);
+    }
+    Ok(())
+}
+
+// The places of the labels, where the branches are short that a table of the long places says.
+// With an empty table every branch is long, so these are the long places.
+pub(crate) fn label_places(
+    alloc: Global,
+    kept: &[Kept],
+    long: &[Option<usize>],
+) -> Result<Vec<Option<usize>>, AllocError>
+    ensures { IfOk result (λ places. (n : ℕ) → found places.items n ≡ kept_place (found long.now) 0 kept.now n) }
+{
+    let mut places = Vec::new(alloc);
+    let mut saved = 0;
+    for entry in kept {
+        if let Special::Marks(label) = entry.what {
+            note(&mut places, label, entry.place.saturating_sub(saved))?;
+        }
+        saved += saving(long, *entry);
+    }
+    Ok(places)
+}
+
+// The label that something goes to.
+fn used_by(what: Special) -> Option<Label>
+    ensures { result ≡ used_by what }
+{
+    match what {
+        Special::Branches(branch) => match branch.target {
+            Target::To(label) => Some(label),
+            Target::ReturnFalse | Target::ReturnTrue => None,
+        },
+        Special::Jumps(label) => Some(label),
+        Special::Marks(_) | Special::Refers(_) => None,
+    }
+}
+
+// The first label by use that no place is marked with.
+pub(crate) fn first_missing(kept: &[Kept], places: &[Option<usize>]) -> Option<Label>
+    ensures { result ≡ kept_missing (found places.now) kept.now }
+{
+    for entry in kept {
+        if let Some(label) = used_by(entry.what) {
+            if place_of(places, label).is_none() {
+                return Some(label);
+            }
+        }
+    }
+    None
+}
+
+// The first label by its second mark.
+pub(crate) fn first_twice(alloc: Global, kept: &[Kept]) -> Result<Option<Label>, AllocError>
+    ensures { IfOk result (λ label. label ≡ kept_twice [] kept.now) }
+{
+    let mut seen = Vec::new(alloc);
+    for entry in kept {
+        if let Special::Marks(label) = entry.what {
+            if place_of(seen.as_slice(), label).is_some() {
+                return Ok(Some(label));
+            }
+            note(&mut seen, label, entry.place)?;
+        }
+    }
+    Ok(None)
+}
+
+// An offset to a place from an end, as a number of twice `half` values.
+fn offset_to(half: usize, end: usize, target: Option<usize>) -> Option<usize>
+    requires large { 2 < half }
+    requires small { half ≤ 32768 }
+    ensures { result ≡ offset_to half end target }
+{
+    let target = target?;
+    if target >= end {
+        let ahead = target - end;
+        if ahead < half - 2 {
+            return Some(ahead + 2);
+        }
+    } else {
+        let back = end - target;
+        if back <= half + 2 {
+            return Some((2 * half + 2 - back) % (2 * half));
+        }
+    }
+    None
+}
+
+// The offset of a branch that ends at a place.
+fn branch_offset(places: &[Option<usize>], end: usize, target: Target) -> Option<usize>
+    ensures { result ≡ branch_offset (found places.now) end target }
+{
+    match target {
+        Target::To(label) => offset_to(0x2000, end, place_of(places, label)),
+        Target::ReturnFalse => Some(0),
+        Target::ReturnTrue => Some(1),
+    }
+}
+
+// The bytes of a branch, with its offset as a number of 14 bits.
+fn branch_bytes(short: bool, sense: bool, offset: usize) -> ArrayVec<u8, 2>
+    requires { offset < 16384 }
+    ensures { result.items ≡ branch_bytes short sense offset }
+{
+    let mut bytes = ArrayVec::new();
+    if short {
+        bytes.push(sense_bit(sense) + 64 + (offset % 64) as u8);
+    } else {
+        bytes.push(sense_bit(sense) + (offset / 256) as u8);
+        bytes.push((offset % 256) as u8);
+    }
+    bytes
+}
+
+// The bytes of what stands at a place, by its place with all branches long; none where an offset
+// does not fit.
+fn closed_special(
+    long: &[Option<usize>],
+    places: &[Option<usize>],
+    old: usize,
+    new: usize,
+    what: Special,
+) -> Option<ArrayVec<u8, 2>>
+    requires { new + special_size what < 2 ^ 64 }
+    ensures { let closed = closed_special (found long.now) (found places.now) old new what in
+        MatchOption result (closed ≡ None) (λ bytes. closed ≡ Some bytes.items) }
+{
+    match what {
+        Special::Marks(_) => Some(ArrayVec::new()),
+        Special::Branches(branch) => {
+            let short = is_short(long, old, branch.target);
+            let end = new + if short { 1 } else { 2 };
+            let offset = branch_offset(places, end, branch.target)?;
+            Some(branch_bytes(short, branch.sense, offset))
+        }
+        Special::Jumps(label) => {
+            let offset = offset_to(0x8000, new + 2, place_of(places, label))?;
+            let mut bytes = ArrayVec::new();
+            bytes.push((offset / 256) as u8);
+            bytes.push((offset % 256) as u8);
+            Some(bytes)
+        }
+        Special::Refers(_) => {
+            let mut bytes = ArrayVec::new();
+            bytes.push(0);
+            bytes.push(0);
+            Some(bytes)
+        }
+    }
+}
+
+// The long size of something in bytes.
+fn special_size(what: Special) -> usize
+    ensures { result ≡ special_size what }
+{
+    match what {
+        Special::Marks(_) => 0,
+        Special::Branches(_) | Special::Jumps(_) | Special::Refers(_) => 2,
+    }
+}
+
+// Moves the bytes from `from` up to `end` to the place `to`, and writes others behind them.
+fn place_bytes<A: Area>(area: &mut A, to: usize, from: usize, end: usize, added: &[u8])
+    requires before { to ≤ from }
+    requires ordered { from ≤ end }
+    requires within { end ≤ length (A.bytes area.old) }
+    requires fits { length (A.bytes area.old) < 2 ^ 64 }
+    requires room { to + (end - from) + length added.now ≤ length (A.bytes area.old) }
+    ensures { A.bytes area.new ≡ placed_bytes to from (end - from) added.now (A.bytes area.old) }
+{
+    area.move_left(to, from, end);
+    let mut at = to + (end - from);
+    for byte in added {
+        area.patch_byte(at, *byte);
+        at += 1;
+    }
+}
+
+// Moves the bytes of a routine together that stand from a place on, and writes its offsets. None
+// where an offset does not fit.
+pub(crate) fn squeeze<A: Area>(
+    area: &mut A,
+    kept: &[Kept],
+    long: &[Option<usize>],
+    places: &[Option<usize>],
+    start: usize,
+) -> Option<()>
+    requires { AreInOrder start kept.now (length (A.bytes area.old)) }
+    ensures bytes { let closed = squeezed (found long.now) (found places.now) start start kept.now (A.bytes area.old) in
+        MatchOption result (closed ≡ None) (λ _. closed ≡ Some (A.bytes area.new)) }
+    ensures before { take start (A.bytes area.new) ≡ take start (A.bytes area.old) }
+    ensures within { start ≤ length (A.bytes area.new) }
+{
+    let end = area.len();
+    let mut from = start;
+    let mut to = start;
+    for entry in kept {
+        let place = entry.place;
+        let new = to + (place - from);
+        let bytes = closed_special(long, places, place, new, entry.what)?;
+        place_bytes(area, to, from, place, bytes.as_slice());
+        to = new + bytes.len();
+        from = place + special_size(entry.what);
+    }
+    place_bytes(area, to, from, end, &[]);
+    area.cut(to + (end - from), from - to);
+    Some(())
+}
+
+// Lists the references, with the places that they have where the branches are short that a table of
+// the long places says.
+pub(crate) fn list_holes(
+    refs: &mut Refs,
+    kept: &[Kept],
+    long: &[Option<usize>],
+) -> Result<(), AddFault>
+    requires { length refs.old.list ≤ refs.old.limit }
+    ensures ok { let holes = kept_holes (found long.now) 0 kept.now in
+        OnOk result (refs.new ≡ with_holes (refs.old.list ++ holes) refs.old) }
+    ensures err { OnErr result ((added : List Hole) × (refs.new ≡ with_holes (refs.old.list ++ added) refs.old)) }
+    ensures full { let holes = kept_holes (found long.now) 0 kept.now in
+        IfErr result (λ fault. fault ≡ Full → refs.old.limit < length refs.old.list + length holes) }
+    ensures room { let holes = kept_holes (found long.now) 0 kept.now in
+        OnOk result (length refs.old.list + length holes ≤ refs.old.limit) }
+{
+    let mut saved = 0;
+    for entry in kept {
+        if let Special::Refers(reference) = entry.what {
+            refs.add(Hole {
+                area: AreaName::Code,
+                place: entry.place.saturating_sub(saved),
+                reference,
+            })?;
+        }
+        saved += saving(long, *entry);
+    }
+    Ok(())
+}

@@ -1,0 +1,9 @@
+mod Decoded
+mod Filled
+mod Fits
+mod Offsets
+mod Openings
+mod Parts
+mod Placed
+mod Reading
+mod Rows

@@ -1,0 +1,5 @@
+pub mod Capped
+pub mod Cuts
+pub mod Faults
+pub mod Pairs
+pub mod Pieces

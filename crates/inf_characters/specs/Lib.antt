@@ -1,0 +1,4 @@
+pub mod Characters
+pub mod Items
+pub mod Numbers
+pub mod Reading

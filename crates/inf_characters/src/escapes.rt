@@ -1,0 +1,163 @@
+//! What `@` begins in a text.
+ghost use Rattle.std.specs.Prelude.{◌≡◌, ◌<◌, ◌≤◌, ◌+◌, IfOk, IsTrue, length};
+ghost use Rattle.inf_characters.specs.Items.{IsItem};
+ghost use Rattle.inf_characters.specs.Numbers.{IsPieceOf};
+ghost use Rattle.inf_characters.specs.Reading.{accent_piece, closes, code_piece, escape_piece, number_from, one, pair_from, spelled, stroke, unicode_piece, variable_piece};
+
+use crate::characters::{FIRST_ACCENTED, Zscii, unicode_char};
+use crate::numbers::{digit_of, number_at};
+use crate::reading::{Mode, Piece, TextFault};
+use crate::texts::TextItem;
+
+/// How many string variables there are.
+const VARIABLES: u32 = 32;
+
+/// The braces round the number of a Unicode character.
+const OPENING_BRACE: u8 = b'{';
+
+const CLOSING_BRACE: u8 = b'}';
+
+/// What stands behind `@` for each of the codes 155 to 223 (Designer's Manual, table 2).
+const SPELLINGS: &[u8; 138] =
+    b":a:o:u:A:O:Uss>><<:e:i:y:E:I'a'e'i'o'u'y'A'E'I'O'U'Y`a`e`i`o`u`A`E`I`O`U^a^e^i^o^u^A^E^I^O^UoaoA\\o\\O~a~n~o~A~N~OaeAEcccCthetThEtLLoeOE!!??";
+
+/// The piece that `@` begins; the bytes stand behind it.
+#[tactic(auto, unfolding(crate::specs::Reading::escape_piece))]
+pub(crate) fn escape_piece(mode: Mode, bytes: &[u8]) -> Result<Piece, TextFault>
+    ensures value { result ≡ escape_piece mode bytes.now }
+    ensures piece { IfOk result (IsPieceOf bytes.now) }
+{
+    let [first, rest @ ..] = bytes else {
+        return Err(TextFault::UnknownEscape);
+    };
+    match *first {
+        b'@' => code_piece(rest),
+        OPENING_BRACE => unicode_piece(rest),
+        first => match digit_of(10, first) {
+            Some(tens) => variable_piece(mode, tens, rest),
+            None => accent_piece(first, rest),
+        },
+    }
+}
+
+/// A piece of one item.
+fn one(item: TextItem, behind: usize) -> Piece
+    ensures { result ≡ one item behind }
+{
+    Piece {
+        item,
+        count: 1,
+        behind,
+        is_mark: false,
+    }
+}
+
+/// `@@` and a decimal number: the character of that code.
+fn code_piece(bytes: &[u8]) -> Result<Piece, TextFault>
+    ensures value { result ≡ code_piece (number_from 10 0 0 bytes.now) }
+    ensures piece { IfOk result (λ p. (p.behind ≤ length bytes.now + 1) × IsItem p.item) }
+{
+    let (count, code) = number_at(10, bytes);
+    if count == 0 {
+        return Err(TextFault::UnknownEscape);
+    }
+    match Zscii::new(code) {
+        Some(character) => Ok(one(TextItem::Character(character), 1 + count)),
+        None => Err(TextFault::BadCode),
+    }
+}
+
+/// `@{`, a hexadecimal number and `}`: the character of that number in Unicode.
+#[tactic(auto, using(crate::proofs::Capped::zscii_of_capped))]
+fn unicode_piece(bytes: &[u8]) -> Result<Piece, TextFault>
+    ensures value { result ≡ unicode_piece bytes.now (number_from 16 0 0 bytes.now) }
+    ensures piece { IfOk result (λ p. (p.behind ≤ length bytes.now + 1) × IsItem p.item) }
+{
+    let (count, character) = number_at(16, bytes);
+    if count == 0 || !closes(&bytes[count..]) {
+        return Err(TextFault::UnknownEscape);
+    }
+    match unicode_char(character) {
+        Some(code) => Ok(one(TextItem::Character(code), 2 + count)),
+        None => Err(TextFault::NoZscii),
+    }
+}
+
+/// Whether a closing brace comes first.
+fn closes(bytes: &[u8]) -> bool
+    ensures value { result ≡ closes bytes.now }
+    ensures room { IsTrue result → 0 < length bytes.now }
+{
+    matches!(bytes, [CLOSING_BRACE, ..])
+}
+
+/// `@` and two digits: a string variable, in the texts that are printed alone.
+fn variable_piece(mode: Mode, tens: u32, bytes: &[u8]) -> Result<Piece, TextFault>
+    requires { tens < 16 }
+    ensures value { result ≡ variable_piece mode tens bytes.now }
+    ensures piece { IfOk result (λ p. (p.behind ≤ length bytes.now + 1) × IsItem p.item) }
+{
+    match mode {
+        Mode::Quote | Mode::Abbreviation => return Err(TextFault::UnknownEscape),
+        Mode::Text => {}
+    }
+    let [second, ..] = bytes else {
+        return Err(TextFault::UnknownEscape);
+    };
+    match digit_of(10, *second) {
+        None => Err(TextFault::UnknownEscape),
+        Some(units) if 10 * tens + units < VARIABLES => {
+            let number = 10 * tens + units;
+            Ok(one(TextItem::Variable(number as u8), 2))
+        }
+        Some(_) => Err(TextFault::BadCode),
+    }
+}
+
+/// `@`, a mark and a letter: an accented letter.
+fn accent_piece(first: u8, bytes: &[u8]) -> Result<Piece, TextFault>
+    ensures value { result ≡ accent_piece first bytes.now }
+    ensures piece { IfOk result (λ p. (p.behind ≤ length bytes.now + 1) × IsItem p.item) }
+{
+    let [second, ..] = bytes else {
+        return Err(TextFault::UnknownEscape);
+    };
+    match accent_code(first, *second) {
+        Some(code) => Ok(one(TextItem::Character(code), 2)),
+        None => Err(TextFault::UnknownEscape),
+    }
+}
+
+/// The mark that a byte stands for: a slash for a backslash.
+fn stroke(byte: u8) -> u8
+    ensures { result ≡ stroke byte }
+{
+    if byte == b'/' { b'\\' } else { byte }
+}
+
+/// The code of the letter that is spelled by a mark and a letter.
+fn accent_code(mark: u8, letter: u8) -> Option<Zscii>
+    ensures { result ≡ spelled mark letter }
+{
+    pair_code(SPELLINGS, stroke(mark), letter)
+}
+
+/// The place of two bytes among pairs, counted from 155 on.
+fn pair_code(table: &[u8], a: u8, b: u8) -> Option<Zscii>
+    requires { length table.now ≤ 138 }
+    ensures { result ≡ pair_from a b 155 table.now }
+{
+    let mut code = FIRST_ACCENTED;
+    let mut pairs = table;
+    while let Some((x, tail)) = pairs.split_first() {
+        let Some((y, rest)) = tail.split_first() else {
+            return None;
+        };
+        if *x == a && *y == b {
+            return Some(Zscii::from_code(code));
+        }
+        code += 1;
+        pairs = rest;
+    }
+    None
+}

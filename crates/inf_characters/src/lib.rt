@@ -1,0 +1,14 @@
+//! The characters of a text: ZSCII, the two character sets of a source, escapes, and the texts that
+//! are read from a source's bytes (Z-Machine Standard 1.1, section 3.8; Inform Designer's Manual,
+//! section 1.11).
+#![tactic(auto)]
+
+mod characters;
+mod escapes;
+mod numbers;
+mod reading;
+mod texts;
+
+pub use characters::{CharSet, Zscii, source_char};
+pub use reading::{Mode, TextFault, read_text};
+pub use texts::{Text, TextItem};

@@ -1,7 +1,0 @@
--- What the whole stack answers is what its rest answers.
-use Rattle.std.proofs.Common.{◌≡◌, reverse}
-use Rattle.inf_grammar.specs.Machine.{is_in_routine}
-use Rattle.inf_grammar.proofs.stack.Stack.is_in_routine.Given as goal
-
-abbrev pub invariant-loop-symbol : goal.invariant-loop-symbol
-invariant-loop-symbol l = is_in_routine l.self.settled ≡ is_in_routine (reverse l.symbol-iterator.iter.rest.now)

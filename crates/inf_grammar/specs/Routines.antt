@@ -1,0 +1,17 @@
+-- Whether a routine is open.
+use Rattle.std.specs.Prelude.{List, [], ◌∷◌, Bool, true, false, ◌||◌}
+use Rattle.inf_machine.specs.declared.symbols.Symbol.{Symbol}
+use Rattle.inf_machine.specs.declared.symbols.Symbol.TheVariants.{Token, Rule, Act}
+use Rattle.inf_grammar.specs.declared.actions.Action.{Action}
+use Rattle.inf_grammar.specs.declared.actions.Action.TheVariants as action
+
+abbrev pub ends_routine : Action → Bool
+ends_routine action.EndRoutine = true
+ends_routine _ = false
+
+-- whether the end of a routine is still to come
+abbrev pub is_in_routine : List (Symbol Action) → Bool
+is_in_routine [] = false
+is_in_routine (Token class ∷ symbols) = is_in_routine symbols
+is_in_routine (Act a ∷ symbols) = ends_routine a || is_in_routine symbols
+is_in_routine (Rule rule ∷ symbols) = is_in_routine symbols

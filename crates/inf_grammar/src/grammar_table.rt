@@ -1,0 +1,31 @@
+//! The grammar of the language as a table for the machine, told by the type of its actions.
+ghost use Rattle.inf_grammar.specs.Evaluated.{language_is_decided};
+ghost use Rattle.inf_grammar.specs.Language.{grammar, known};
+
+use crate::actions::Action;
+use crate::rules;
+use inf_machine::{Symbol, Table};
+
+impl Table for Action {
+    ghost grammar = { grammar };
+
+    ghost known = { known };
+
+    fn is_of(class: u8, atom: u8) -> bool {
+        rules::is_of(class, atom)
+    }
+
+    fn begins(rule: u8, atom: u8) -> bool {
+        rules::begins(rule, atom)
+    }
+
+    fn can_be_empty(rule: u8) -> bool {
+        rules::can_be_empty(rule)
+    }
+
+    fn chosen(rule: u8, atom: u8) -> &'static [Symbol<Action>] {
+        rules::chosen(rule, atom)
+    }
+
+    ghost decided = { language_is_decided };
+}

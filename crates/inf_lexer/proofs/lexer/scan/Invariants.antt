@@ -1,0 +1,29 @@
+use Rattle.std.proofs.Common.{◌≡◌, ◌+◌, ◌-◌, ◌≤◌, length, min, IsTrue}
+use Rattle.inf_token.specs.Files.{last_count}
+use Rattle.inf_lexer.specs.Unread.{Along, to_come}
+use Rattle.inf_lexer.specs.Scanning.{begun, find, sight}
+use Rattle.inf_lexer.specs.declared.scanner.State.TheVariants as state
+use Rattle.inf_lexer.proofs.lexer.scan.Given as goal
+
+-- what is read from here is the token from the start, and what was given since is in view or was taken
+abbrev pub invariant-loop-byte : goal.invariant-loop-byte
+invariant-loop-byte g l =
+    let files = g.F.Files in
+    let sources = files.sources l.fn.files in
+    record {
+      token : IsTrue (files.is_honest l.fn.files) → find l.set l.limit l.state (sight l.seen) (to_come sources (files.openings l.files) l.window.left)
+          ≡ find l.set l.limit state.Gap (begun l.fn.seen.lines) (to_come sources (files.openings l.fn.files) l.fn.window.left);
+      gave : IsTrue (files.is_honest l.fn.files) → Along sources (files.openings l.fn.files) (files.openings l.files) l.fn.window.given l.window.given;
+      room : l.seen.lines.line + length l.window.left ≤ l.window.given + 1;
+      window : length l.window.left ≤ 4096;
+      few : l.window.given ≤ 16777216;
+      more : l.fn.window.given ≤ l.window.given;
+      given : min (files.given l.fn.files + (l.window.given - l.fn.window.given)) last_count ≤ files.given l.files;
+      depth : files.depth l.files ≡ files.depth l.fn.files;
+      faults : files.faults l.fn.files ≤ files.faults l.files;
+      sources : files.sources l.files ≡ files.sources l.fn.files;
+      honesty : files.is_honest l.files ≡ files.is_honest l.fn.files;
+    }
+
+abbrev pub decreases-loop-byte : goal.decreases-loop-byte
+decreases-loop-byte g l = 16777217 + length l.window.left - l.window.given

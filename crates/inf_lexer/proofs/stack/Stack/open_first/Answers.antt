@@ -1,0 +1,43 @@
+use Rattle.std.proofs.Common.{◌≡◌, ◌⊎◌, inl, inr, List, ℕ, [], ◌∷◌, Bool, true, Bor, Some, map, sym, ap, subst, ◌∙◌}
+use Rattle.std.specs.String.{string_bytes}
+use Rattle.inf_token.specs.Files.{Sources, Rose}
+use Rattle.inf_lexer.specs.Entering.{Enters, has_one_too_many}
+use Rattle.inf_lexer.specs.Names.{Nest, name_in}
+use Rattle.inf_lexer.specs.Readers.{Reader}
+use Rattle.inf_lexer.proofs.Candidates.{at_place, enters_in, of_each, rose_earlier, too_many_in}
+use Rattle.inf_lexer.proofs.stack.Stack.open_first.Goals as goal
+
+pub returns-then-not-is_absent-clause-ok : goal.returns-then-not-is_absent-clause-ok
+returns-then-not-is_absent-clause-ok g c =
+    let files = g.F.Files in
+    let start = c.args.files.now in
+    let now = c.loop-directory.files in
+    let after = files.openings c.open_named-answer.new.files in
+    let inv = c.loop-directory.invariant in
+    let name = string_bytes c.in_ok-name.name in
+    let f = λ (d : Bor (List ℕ)). name_in d.now c.args.file.now in
+    of_each c.open_named-answer.result
+    (λ (lexer : Reader). Enters (files.sources now) (files.is_honest now) (name ∷ []) (files.openings now) after c.loop-directory.self c.open_named-answer.new.self lexer)
+    (λ (lexer : Reader). Enters (files.sources start) (files.is_honest start) (map f c.args.directories.now) (files.openings start) after c.args.self.now c.open_named-answer.new.self lexer)
+    (λ (lexer : Reader) e. enters_in (files.sources start) (files.is_honest start) f c.args.directories.now c.loop-directory.directory-index _ name
+    (files.openings start) (files.openings now) after c.args.self.now c.loop-directory.self c.open_named-answer.new.self lexer
+    c.loop-directory-test.true c.in_ok-name.ensures inv.openings inv.same inv.later
+    (subst (λ (honest : Bool). Enters (files.sources start) honest (name ∷ []) (files.openings now) after c.loop-directory.self c.open_named-answer.new.self lexer) inv.honesty
+    (subst (λ (sources : Sources). Enters sources (files.is_honest now) (name ∷ []) (files.openings now) after c.loop-directory.self c.open_named-answer.new.self lexer) inv.sources e)))
+    c.open_named-answer.ensures.ok
+
+pub returns-then-not-is_absent-clause-cause : goal.returns-then-not-is_absent-clause-cause
+returns-then-not-is_absent-clause-cause g c = λ device.
+    let files = g.F.Files in
+    let inv = c.loop-directory.invariant in
+    let f = λ (d : Bor (List ℕ)). name_in d.now c.args.file.now in
+    let name = string_bytes c.in_ok-name.name in
+    let faults = files.faults c.args.files.now in
+    let new = files.faults c.open_named-answer.new.files in
+    let here : _ = at_place (Bor (List ℕ)) f c.args.directories.now c.loop-directory.directory-index _ c.loop-directory-test.true ∙ ap Some (sym c.in_ok-name.ensures) in
+    let told = c.open_named-answer.ensures.cause device in
+    elim told as (λ _. Rose faults new ⊎ (has_one_too_many c.args.self.now.names (map f c.args.directories.now) ≡ true)) [
+      | inl rose ↦ inl (rose_earlier faults (files.faults c.loop-directory.files) new inv.faults rose)
+      | inr many ↦ inr (too_many_in c.args.self.now.names (map f c.args.directories.now) c.loop-directory.directory-index name here
+          (ap (λ (n : Nest). has_one_too_many n.names (name ∷ [])) (sym inv.same) ∙ many))
+    ]

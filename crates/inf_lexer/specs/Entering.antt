@@ -1,0 +1,64 @@
+-- What comes of entering a file, with a reader that keeps to its sources.
+use Rattle.std.specs.Prelude.{◌≡◌, ℕ, ◌<◌, ◌≤◌, ◌⊎◌, List, [], ◌∷◌, ◌++◌, length, nat_le, Option, Some, None, is_some, slice_get, Result, Ok, Err, Bool, true, false, IsTrue, if◌then◌else◌}
+use Rattle.std.specs.List.{list_any}
+use Rattle.inf_token.specs.Files.{Sources, Openings, opened}
+use Rattle.inf_lexer.specs.Names.{Nest, entered, number_of}
+use Rattle.inf_lexer.specs.Readers.{Reader}
+use Rattle.inf_lexer.specs.Tokens.{at_front}
+use Rattle.inf_lexer.specs.declared.enter_faults.EnterFault.{EnterFault}
+use Rattle.inf_lexer.specs.declared.enter_faults.EnterFault.TheVariants as fault
+
+-- one more source is open, the innermost
+abbrev pub with_opened : List ℕ → Openings → Openings
+with_opened name o = record { all = o.all ++ opened name ∷ []; open_places = o.open_places ++ length o.all ∷ [] }
+
+-- it was closed again at once
+abbrev pub with_closed : List ℕ → Openings → Openings
+with_closed name o = record { all = o.all ++ opened name ∷ []; open_places = o.open_places }
+
+-- the first of some names that is there
+abbrev pub first_there : Sources → List (List ℕ) → Option (List ℕ)
+first_there sources [] = None
+first_there sources (name ∷ names) = if is_some (sources name) then Some name else first_there sources names
+
+-- a lexer at the front of a source that was entered under this name
+abbrev pub IsEntered : List ℕ → Nest → Nest → Reader → Type 0
+IsEntered name old new lexer = (new ≡ entered name old) × (lexer ≡ at_front old.set old.limit (number_of name old.names))
+
+-- A source was entered under one of these names. With an honest reader it is the first that is there, and was opened once.
+pub record Enters (sources : Sources) (is_honest : Bool) (names : List (List ℕ)) (before after : Openings) (old new : Nest) (lexer : Reader) : Type 0 where
+  pub name : List ℕ
+  pub place : ℕ
+  pub is_named : slice_get names place ≡ Some name
+  pub is_entered : IsEntered name old new lexer
+  pub has_number : number_of name old.names < 65535
+  pub is_first : IsTrue is_honest → first_there sources names ≡ Some name
+  pub is_opened : IsTrue is_honest → after ≡ with_opened name before
+
+-- whether 65,535 others of the known names come before one of these
+abbrev pub has_one_too_many : List (List ℕ) → List (List ℕ) → Bool
+has_one_too_many known names = list_any (λ name. nat_le 65535 (number_of name known)) names
+
+-- The first of these names that is there was opened, was one too many, and was closed at once.
+pub record ClosedAgain (sources : Sources) (known names : List (List ℕ)) (before after : Openings) : Type 0 where
+  pub name : List ℕ
+  pub is_first : first_there sources names ≡ Some name
+  pub is_too_many : 65535 ≤ number_of name known
+  pub is_closed : after ≡ with_closed name before
+
+-- what an honest reader's openings are where no source of these names was entered
+abbrev pub Leaves : Sources → List (List ℕ) → List (List ℕ) → Openings → Openings → Result Reader EnterFault → Type 0
+Leaves sources known names before after (Ok lexer) = Unit {0}
+Leaves sources known names before after (Err fault.Absent) = (first_there sources names ≡ None) × (after ≡ before)
+Leaves sources known names before after (Err fault.Device) = (after ≡ before) ⊎ ClosedAgain sources known names before after
+Leaves sources known names before after (Err _) = after ≡ before
+
+-- an answer that is no refusal of a name or of a further file
+abbrev pub is_of_opening : Result Reader EnterFault → Bool
+is_of_opening (Err fault.BadName) = false
+is_of_opening (Err fault.TooDeep) = false
+is_of_opening _ = true
+
+abbrev pub is_absent : Result Reader EnterFault → Bool
+is_absent (Err fault.Absent) = true
+is_absent _ = false

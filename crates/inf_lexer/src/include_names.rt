@@ -1,0 +1,86 @@
+//! The names that the text of an inclusion stands for.
+ghost use Rattle.std.specs.Prelude.{◌≡◌, IfOk, false, if◌then◌else◌};
+ghost use Rattle.std.specs.Option.{option_copied};
+ghost use Rattle.std.specs.String.{string_bytes};
+ghost use Rattle.inf_lexer.specs.Names.{behind_sign, directory_of, has_dot, has_sign, is_fit, name_beside, name_in, placed};
+
+use std::alloc::{AllocError, Global};
+
+/// Whether a text has the sign `>` at its front, and the name behind that.
+pub(crate) fn without_sign(text: &[u8]) -> (bool, &[u8])
+    ensures sign { result.0 ≡ has_sign text.now }
+    ensures name { result.1.now ≡ behind_sign text.now }
+{
+    match text {
+        [b'>', name @ ..] => (true, name),
+        _ => (false, text),
+    }
+}
+
+/// A file's name as text: none where it is empty or has a byte over 127.
+pub(crate) fn fit_name(name: &[u8]) -> Option<&str>
+    ensures { option_copied result ≡ (if is_fit name.now then Some name.now else None) }
+{
+    if name.is_empty() || !name.is_ascii() {
+        return None;
+    }
+    match str::from_utf8(name) {
+        Ok(name) => Some(name),
+        Err(_) => None,
+    }
+}
+
+/// Whether the last part of a name has a `.`.
+fn has_extension(name: &[u8]) -> bool
+    ensures { result ≡ has_dot false name.now }
+{
+    let mut dot = false;
+    for byte in name {
+        dot = *byte == b'.' || (dot && *byte != b'/');
+    }
+    dot
+}
+
+/// Adds a file to its directory, with `.h` where it has no extension.
+fn push_file(name: &mut String, file: &str) -> Result<(), AllocError>
+    ensures { IfOk result (λ _. string_bytes name.new ≡ placed (string_bytes name.old) file.now) }
+{
+    name.push_str(file)?;
+    if !has_extension(file.as_bytes()) {
+        name.push_str(".h")?;
+    }
+    Ok(())
+}
+
+/// The name in a directory, or by itself where that is empty.
+pub(crate) fn name_in(alloc: Global, directory: &str, file: &str) -> Result<String, AllocError>
+    ensures { IfOk result (λ name. string_bytes name ≡ name_in directory.now file.now) }
+{
+    let mut name = String::from_str(alloc, directory)?;
+    if !directory.is_empty() {
+        name.push_str("/")?;
+    }
+    push_file(&mut name, file)?;
+    Ok(name)
+}
+
+/// The name in the directory of another file.
+pub(crate) fn name_beside(alloc: Global, other: &str, file: &str) -> Result<String, AllocError>
+    ensures { IfOk result (λ name. string_bytes name ≡ name_beside other.now file.now) }
+{
+    let mut name = directory_of(alloc, other)?;
+    push_file(&mut name, file)?;
+    Ok(name)
+}
+
+/// A name up to its last `/`.
+fn directory_of(alloc: Global, name: &str) -> Result<String, AllocError>
+    ensures { IfOk result (λ directory. string_bytes directory ≡ directory_of name.now) }
+{
+    let Some((front, _)) = name.rsplit_once('/') else {
+        return Ok(String::new(alloc));
+    };
+    let mut directory = String::from_str(alloc, front)?;
+    directory.push_str("/")?;
+    Ok(directory)
+}

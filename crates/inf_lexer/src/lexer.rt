@@ -1,0 +1,199 @@
+//! The tokens of an open source, one after another.
+ghost use Rattle.std.specs.Prelude.{◌≡◌, ◌+◌, ◌-◌, ◌<◌, ◌≤◌, ◌⊎◌, [], false, true, length, min, is_err, IsTrue, IsErrOf, IfOk, OnOk, Err};
+ghost use Rattle.inf_token.specs.Files.{Rose, last_count};
+ghost use Rattle.inf_lexer.specs.Unread.{Along, to_come};
+ghost use Rattle.inf_lexer.specs.Scanning.{begun, find, is_quoted, sight};
+ghost use Rattle.inf_lexer.specs.Tokens.{next_token, read_out, at_front};
+
+use crate::faults::LexFault;
+use crate::kinds::kind_of;
+use crate::lines::Lines;
+use crate::scanner::{Ending, Seen, State, Turn};
+use crate::spelling::Spelling;
+use crate::tokens::{Place, Token};
+use crate::window::Window;
+use inf_text::CharSet;
+use inf_token::files::Files;
+use std::alloc::{AllocError, Global};
+use std::marker::Model;
+
+/// Reads the bytes of the next token.
+fn scan<F: Files>(
+    set: CharSet,
+    limit: u32,
+    window: &mut Window,
+    seen: &mut Seen,
+    files: &mut F,
+) -> Result<Ending, LexFault>
+    requires is_open { 0 < F.depth files.old }
+    requires few { window.old.given ≤ 16777216 }
+    requires room { seen.old.lines.line + length window.old.left ≤ window.old.given + 1 }
+    requires window { length window.old.left ≤ 4096 }
+    ensures token { IsTrue (F.is_honest files.old) → IfOk result (λ e.
+        record { ending = e; seen = sight seen.new; rest = to_come (F.sources files.old) (F.openings files.new) window.new.left }
+        ≡ find set limit State.Gap (begun seen.old.lines) (to_come (F.sources files.old) (F.openings files.old) window.old.left)) }
+    ensures gave { IsTrue (F.is_honest files.old) →
+        Along (F.sources files.old) (F.openings files.old) (F.openings files.new) window.old.given window.new.given }
+    ensures room { seen.new.lines.line + length window.new.left ≤ window.new.given + 1 }
+    ensures window { length window.new.left ≤ 4096 }
+    ensures few { OnOk result (window.new.given ≤ 16777216) }
+    ensures more { window.old.given ≤ window.new.given }
+    ensures cause { IsErrOf result LexFault.Read →
+        Rose (F.faults files.old) (F.faults files.new) ⊎ (16777216 < window.new.given) }
+    ensures memory { IsErrOf result LexFault.Memory → IsTrue (F.is_honest files.old) →
+        is_quoted (find set limit State.Gap (begun seen.old.lines) (to_come (F.sources files.old) (F.openings files.old) window.old.left)).ending ≡ true }
+    ensures given { min (F.given files.old + (window.new.given - window.old.given)) last_count ≤ F.given files.new }
+    ensures depth { F.depth files.new ≡ F.depth files.old }
+    ensures faults { F.faults files.old ≤ F.faults files.new }
+    ensures sources { F.sources files.new ≡ F.sources files.old }
+    ensures honesty { F.is_honest files.new ≡ F.is_honest files.old }
+{
+    seen.begin();
+    let mut state = State::Gap;
+    loop {
+        let Some(byte) = window.peek(files)? else {
+            seen.mark(state);
+            return Ok(state.at_end());
+        };
+        match seen.take(set, limit, state, byte)? {
+            Turn::On(next) => {
+                window.bump();
+                state = next;
+            }
+            Turn::Last(ending) => {
+                window.bump();
+                return Ok(ending);
+            }
+            Turn::Behind(ending) => return Ok(ending),
+        }
+    }
+}
+
+/// Reads the tokens of the source that was opened last.
+///
+/// It has at most 4,096 bytes of the source in view, and keeps of the token at hand at most 32 bytes, or
+/// of a quoted one as many as its limit.
+#[derive(Drop)]
+pub struct Lexer {
+    alloc: Global,
+    set: CharSet,
+    limit: u32,
+    file: u16,
+    window: Window,
+    seen: Seen,
+    has_failed: bool,
+}
+
+impl Model for Lexer {
+    ghost use Rattle.std.specs.Prelude.{◌≡◌, ◌+◌, ◌≤◌, length, false};
+    ghost use Rattle.inf_lexer.specs.Readers.{Reader};
+
+    ghost Value = { Reader };
+
+    ghost view = { λ l. record {
+      set = l.set;
+      limit = l.limit;
+      file = l.file;
+      window = l.window;
+      kept = l.seen.spelling;
+      lines = l.seen.lines;
+      has_failed = l.has_failed;
+    } };
+
+    ghost invariant = { λ l. (l.has_failed ≡ false → l.window.given ≤ 16777216)
+        × (l.seen.lines.line + length l.window.left ≤ l.window.given + 1) × (length l.window.left ≤ 4096) };
+}
+
+impl Lexer {
+    /// At the front of a source that has this number, of which nothing was read yet. A quoted token may
+    /// have `limit` bytes between its quotes.
+    pub(crate) fn new(
+        alloc: Global,
+        set: CharSet,
+        limit: u32,
+        file: u16,
+    ) -> Result<Lexer, AllocError>
+        ensures { IfOk result (λ lexer. lexer ≡ at_front set limit file) }
+    {
+        Ok(Lexer {
+            alloc,
+            set,
+            limit,
+            file,
+            window: Window::new(),
+            seen: Seen {
+                first: 1,
+                spelling: Spelling::new(alloc)?,
+                lines: Lines::first(),
+            },
+            has_failed: false,
+        })
+    }
+
+    /// The next token; at the source's end that is the end, again and again. The lexer's source is the one
+    /// that was opened last and is not closed.
+    ///
+    /// `Read` comes where the source could not be read, or has more than 16,777,216 bytes, and after
+    /// every refusal; `Memory` where there is no room for a quoted token, and for no other.
+    pub fn next<F: Files>(&mut self, files: &mut F) -> Result<Token, LexFault>
+        requires { 0 < F.depth files.old }
+
+        // With an honest reader it is the next token of what is still to come.
+        ensures token { IsTrue (F.is_honest files.old) → IfOk result (λ token.
+            read_out token self.new (to_come (F.sources files.old) (F.openings files.new) self.new.window.left)
+            ≡ next_token self.old.set self.old.limit self.old.lines
+            (to_come (F.sources files.old) (F.openings files.old) self.old.window.left)) }
+        ensures file { IfOk result (λ token. token.place.file ≡ self.old.file) }
+        ensures same { (self.new.set ≡ self.old.set) × (self.new.limit ≡ self.old.limit) × (self.new.file ≡ self.old.file) }
+
+        // What it was given: at most 4,096 bytes behind the token, each once.
+        ensures window { length self.new.window.left ≤ 4096 }
+        ensures gave { IsTrue (F.is_honest files.old) → Along (F.sources files.old)
+            (F.openings files.old) (F.openings files.new) self.old.window.given self.new.window.given }
+        ensures given { min (F.given files.old + (self.new.window.given - self.old.window.given)) last_count
+            ≤ F.given files.new }
+        ensures few { OnOk result (self.new.window.given ≤ 16777216) }
+
+        // A refusal has its cause, and is the last answer but `Read`.
+        ensures cause { IsErrOf result LexFault.Read → (self.old.has_failed ≡ true)
+            ⊎ (Rose (F.faults files.old) (F.faults files.new) ⊎ (16777216 < self.new.window.given)) }
+        ensures memory { IsErrOf result LexFault.Memory → IsTrue (F.is_honest files.old) →
+            is_quoted (find self.old.set self.old.limit State.Gap (begun self.old.lines)
+            (to_come (F.sources files.old) (F.openings files.old) self.old.window.left)).ending ≡ true }
+        ensures failed { self.new.has_failed ≡ is_err result }
+        ensures over { self.old.has_failed ≡ true → result ≡ Err LexFault.Read }
+        ensures depth { F.depth files.new ≡ F.depth files.old }
+        ensures faults { F.faults files.old ≤ F.faults files.new }
+        ensures sources { F.sources files.new ≡ F.sources files.old }
+        ensures honesty { F.is_honest files.new ≡ F.is_honest files.old }
+    {
+        if self.has_failed {
+            return Err(LexFault::Read);
+        }
+        self.has_failed = true;
+        let ending = scan(
+            self.set,
+            self.limit,
+            &mut self.window,
+            &mut self.seen,
+            files,
+        )?;
+        let kind = kind_of(self.alloc, self.set, ending, &self.seen.spelling)?;
+        self.has_failed = false;
+        Ok(Token {
+            kind,
+            place: Place {
+                file: self.file,
+                line: self.seen.first,
+            },
+        })
+    }
+
+    /// The bytes of the token that was read last: of a text or quote those between its quotes, and of a token
+    /// that is too long its front. A byte that begins no token, and the end, have none.
+    pub fn spelling(&self) -> &[u8]
+        ensures { result.now ≡ self.now.kept.bytes }
+    {
+        self.seen.spelling.as_slice()
+    }
+}

@@ -1,0 +1,23 @@
+//! The tokens of nested files with their places. A file is seen through a window of at most 4,096 bytes,
+//! and is opened and read once for each inclusion.
+#![tactic(auto)]
+
+mod enter_faults;
+mod faults;
+mod include_names;
+mod kinds;
+pub mod laws;
+mod lexer;
+mod lines;
+mod marks;
+mod scanner;
+mod spelling;
+mod stack;
+mod tokens;
+mod window;
+
+pub use enter_faults::EnterFault;
+pub use faults::LexFault;
+pub use lexer::Lexer;
+pub use stack::Stack;
+pub use tokens::{BadToken, DictionaryWord, Mark, Place, Token, TokenKind};

@@ -1,0 +1,274 @@
+//! The files that are open, one inside the other.
+ghost use Rattle.std.specs.Prelude.{◌≡◌, ◌+◌, ◌<◌, ◌≤◌, ◌⊎◌, ◌∷◌, [], true, false, length, map, if◌then◌else◌, slice_get, is_ok, IsTrue, IsErrOf, IfOk, OnErr, Err};
+ghost use Rattle.std.specs.Option.{option_copied};
+ghost use Rattle.std.specs.String.{string_bytes};
+ghost use Rattle.inf_token.specs.Files.{Rose, Closes};
+ghost use Rattle.inf_lexer.specs.Names.{can_name, candidates, innermost_name, left, name_in, number_of};
+ghost use Rattle.inf_lexer.specs.Entering.{Enters, Leaves, has_one_too_many, is_absent, is_of_opening};
+
+use crate::enter_faults::EnterFault;
+use crate::include_names::{fit_name, name_beside, name_in, without_sign};
+use crate::lexer::Lexer;
+use arrayvec::ArrayVec;
+use indexmap::IndexSet;
+use inf_text::CharSet;
+use inf_token::files::{Files, OpenFault};
+use std::alloc::Global;
+use std::marker::Model;
+
+/// How many files may be open.
+const MOST_OPEN: usize = 16;
+
+/// How many different names may be opened.
+const MOST_NAMES: usize = 65_535;
+
+/// Whether no file had the name.
+fn is_absent(answer: &Result<Lexer, EnterFault>) -> bool
+    ensures { result ≡ is_absent answer.now }
+{
+    matches!(answer, Err(EnterFault::Absent))
+}
+
+/// The names of the files that were entered, each with its number, and which of them are open.
+#[derive(Drop)]
+pub struct Stack {
+    alloc: Global,
+    set: CharSet,
+    limit: u32,
+    names: IndexSet<String>,
+    open_files: ArrayVec<u16, 16>,
+}
+
+impl Model for Stack {
+    ghost use Rattle.std.specs.Prelude.{map};
+    ghost use Rattle.std.specs.String.{string_bytes};
+    ghost use Rattle.inf_lexer.specs.Names.{Nest};
+
+    ghost Value = { Nest };
+
+    ghost view = { λ s. record {
+      set = s.set;
+      limit = s.limit;
+      names = map string_bytes s.names.keys;
+      open_files = s.open_files.items;
+    } };
+}
+
+impl Stack {
+    /// No file is open. Files are in this character set; a quoted token of theirs may have `limit` bytes.
+    pub fn new(alloc: Global, set: CharSet, limit: u32) -> Stack
+        ensures { result ≡ record { set = set; limit = limit; names = []; open_files = [] } }
+    {
+        Stack {
+            alloc,
+            set,
+            limit,
+            names: IndexSet::new(alloc),
+            open_files: ArrayVec::new(),
+        }
+    }
+
+    /// Enters the main source, by its whole name; it is then the innermost file.
+    ///
+    /// The faults, in the order of their checks: `BadName` for an empty name; `TooDeep` where 16 files are
+    /// open, and then nothing is opened; `Absent` and `Device` of the reader, `Device` also where 65,535
+    /// other names were entered before; `Memory` where there is no room, which is asked for before the
+    /// source is opened.
+    pub fn enter_main<F: Files>(&mut self, files: &mut F, name: &str) -> Result<Lexer, EnterFault>
+        ensures ok { IfOk result (λ lexer. Enters (F.sources files.old) (F.is_honest files.old) (name.now ∷ [])
+            (F.openings files.old) (F.openings files.new) self.old self.new lexer) }
+        ensures err { OnErr result (self.new ≡ self.old) }
+        ensures bad_name { length name.now ≡ 0 → (result ≡ Err EnterFault.BadName) × (files.new ≡ files.old) }
+        ensures too_deep { 0 < length name.now → 16 ≤ length self.old.open_files →
+            (result ≡ Err EnterFault.TooDeep) × (files.new ≡ files.old) }
+        ensures leaves { IsTrue (F.is_honest files.old) → Leaves (F.sources files.old) self.old.names (name.now ∷ [])
+            (F.openings files.old) (F.openings files.new) result }
+        ensures empty { IsErrOf result EnterFault.BadName → length name.now ≡ 0 }
+        ensures full { IsErrOf result EnterFault.TooDeep → 16 ≤ length self.old.open_files }
+        ensures cause { IsErrOf result EnterFault.Device → Rose (F.faults files.old) (F.faults files.new)
+            ⊎ (has_one_too_many self.old.names (name.now ∷ []) ≡ true) }
+        ensures depth { F.depth files.new ≡ (if is_ok result then F.depth files.old + 1 else F.depth files.old) }
+        ensures faults { F.faults files.old ≤ F.faults files.new }
+        ensures given { F.given files.new ≡ F.given files.old }
+        ensures sources { F.sources files.new ≡ F.sources files.old }
+        ensures honesty { F.is_honest files.new ≡ F.is_honest files.old }
+    {
+        if name.is_empty() {
+            return Err(EnterFault::BadName);
+        }
+        if self.open_files.len() >= MOST_OPEN {
+            return Err(EnterFault::TooDeep);
+        }
+        let name = String::from_str(self.alloc, name)?;
+        self.open_named(files, name)
+    }
+
+    /// Enters the file that the text of an inclusion names; it is then the innermost file.
+    ///
+    /// Behind the sign `>` the text is a name in the directory of the innermost file. Without it the file is the first that
+    /// is there in these directories, in their order; where there are none, or a directory is empty, it is looked for by
+    /// its own name. A name whose last part has no `.` gets `.h`.
+    ///
+    /// The faults, in the order of their checks: `BadName` for an empty name and for one with a byte over 127;
+    /// `TooDeep` where 16 files are open, and then nothing is opened; `Absent` and `Device` of the reader, `Device` also
+    /// where 65,535 other names were entered before; `Memory` where there is no room, which is asked for before
+    /// each attempt to open a source.
+    pub fn enter<F: Files>(
+        &mut self,
+        files: &mut F,
+        directories: &[&str],
+        text: &[u8],
+    ) -> Result<Lexer, EnterFault>
+        ensures ok { IfOk result (λ lexer. Enters (F.sources files.old) (F.is_honest files.old)
+            (candidates (map (λ d. d.now) directories.now) (innermost_name self.old) text.now)
+            (F.openings files.old) (F.openings files.new) self.old self.new lexer) }
+        ensures err { OnErr result (self.new ≡ self.old) }
+        ensures bad_name { can_name text.now ≡ false → (result ≡ Err EnterFault.BadName) × (files.new ≡ files.old) }
+        ensures too_deep { can_name text.now ≡ true → 16 ≤ length self.old.open_files →
+            (result ≡ Err EnterFault.TooDeep) × (files.new ≡ files.old) }
+        ensures leaves { IsTrue (F.is_honest files.old) → Leaves (F.sources files.old) self.old.names
+            (candidates (map (λ d. d.now) directories.now) (innermost_name self.old) text.now)
+            (F.openings files.old) (F.openings files.new) result }
+        ensures unfit { IsErrOf result EnterFault.BadName → can_name text.now ≡ false }
+        ensures full { IsErrOf result EnterFault.TooDeep → 16 ≤ length self.old.open_files }
+        ensures cause { IsErrOf result EnterFault.Device → Rose (F.faults files.old) (F.faults files.new)
+            ⊎ (has_one_too_many self.old.names
+            (candidates (map (λ d. d.now) directories.now) (innermost_name self.old) text.now) ≡ true) }
+        ensures depth { F.depth files.new ≡ (if is_ok result then F.depth files.old + 1 else F.depth files.old) }
+        ensures faults { F.faults files.old ≤ F.faults files.new }
+        ensures given { F.given files.new ≡ F.given files.old }
+        ensures sources { F.sources files.new ≡ F.sources files.old }
+        ensures honesty { F.is_honest files.new ≡ F.is_honest files.old }
+    {
+        let (is_beside, file) = without_sign(text);
+        let Some(file) = fit_name(file) else {
+            return Err(EnterFault::BadName);
+        };
+        if self.open_files.len() >= MOST_OPEN {
+            return Err(EnterFault::TooDeep);
+        }
+        if is_beside {
+            let name = name_beside(self.alloc, self.innermost(), file)?;
+            return self.open_named(files, name);
+        }
+        if directories.is_empty() {
+            let name = name_in(self.alloc, "", file)?;
+            return self.open_named(files, name);
+        }
+        self.open_first(files, directories, file)
+    }
+
+    /// Opens the file in the first of these directories that has it.
+    fn open_first<F: Files>(
+        &mut self,
+        files: &mut F,
+        directories: &[&str],
+        file: &str,
+    ) -> Result<Lexer, EnterFault>
+        requires { length self.old.open_files < 16 }
+        ensures ok { IfOk result (λ lexer. Enters (F.sources files.old) (F.is_honest files.old)
+            (map (λ d. name_in d.now file.now) directories.now)
+            (F.openings files.old) (F.openings files.new) self.old self.new lexer) }
+        ensures err { OnErr result (self.new ≡ self.old) }
+        ensures leaves { IsTrue (F.is_honest files.old) → Leaves (F.sources files.old) self.old.names
+            (map (λ d. name_in d.now file.now) directories.now) (F.openings files.old) (F.openings files.new) result }
+        ensures cause { IsErrOf result EnterFault.Device → Rose (F.faults files.old) (F.faults files.new)
+            ⊎ (has_one_too_many self.old.names (map (λ d. name_in d.now file.now) directories.now) ≡ true) }
+        ensures named { is_of_opening result ≡ true }
+        ensures depth { F.depth files.new ≡ (if is_ok result then F.depth files.old + 1 else F.depth files.old) }
+        ensures faults { F.faults files.old ≤ F.faults files.new }
+        ensures given { F.given files.new ≡ F.given files.old }
+        ensures sources { F.sources files.new ≡ F.sources files.old }
+        ensures honesty { F.is_honest files.new ≡ F.is_honest files.old }
+    {
+        for directory in directories {
+            let name = name_in(self.alloc, directory, file)?;
+            let answer = self.open_named(files, name);
+            if !is_absent(&answer) {
+                return answer;
+            }
+        }
+        Err(EnterFault::Absent)
+    }
+
+    /// Opens the file of this name.
+    fn open_named<F: Files>(&mut self, files: &mut F, name: String) -> Result<Lexer, EnterFault>
+        requires { length self.old.open_files < 16 }
+        ensures ok { IfOk result (λ lexer. Enters (F.sources files.old) (F.is_honest files.old) (string_bytes name ∷ [])
+            (F.openings files.old) (F.openings files.new) self.old self.new lexer) }
+        ensures err { OnErr result (self.new ≡ self.old) }
+        ensures leaves { IsTrue (F.is_honest files.old) → Leaves (F.sources files.old) self.old.names
+            (string_bytes name ∷ []) (F.openings files.old) (F.openings files.new) result }
+        ensures cause { IsErrOf result EnterFault.Device → Rose (F.faults files.old) (F.faults files.new)
+            ⊎ (has_one_too_many self.old.names (string_bytes name ∷ []) ≡ true) }
+        ensures named { is_of_opening result ≡ true }
+        ensures depth { F.depth files.new ≡ (if is_ok result then F.depth files.old + 1 else F.depth files.old) }
+        ensures faults { F.faults files.old ≤ F.faults files.new }
+        ensures given { F.given files.new ≡ F.given files.old }
+        ensures sources { F.sources files.new ≡ F.sources files.old }
+        ensures honesty { F.is_honest files.new ≡ F.is_honest files.old }
+    {
+        let number = self.number_of(name.as_str());
+        self.names.reserve(1)?;
+        let file = number.min(MOST_NAMES) as u16;
+        let lexer = Lexer::new(self.alloc, self.set, self.limit, file)?;
+        match files.open(name.as_str()) {
+            Ok(()) => {}
+            Err(OpenFault::Absent) => return Err(EnterFault::Absent),
+            Err(OpenFault::Device) => return Err(EnterFault::Device),
+            Err(OpenFault::Memory) => return Err(EnterFault::Memory),
+        }
+        if number >= MOST_NAMES {
+            files.close();
+            return Err(EnterFault::Device);
+        }
+        let _ = self.names.insert(name);
+        self.open_files.push(file);
+        Ok(lexer)
+    }
+
+    /// How many names came before this one.
+    fn number_of(&self, name: &str) -> usize
+        ensures { result ≡ number_of name.now self.now.names }
+    {
+        self.names.get_index_of(name).unwrap_or(self.names.len())
+    }
+
+    /// The name of the file of this number.
+    pub fn name(&self, file: u16) -> Option<&str>
+        ensures { option_copied result ≡ slice_get self.now.names file }
+    {
+        match self.names.get_index(usize::from(file)) {
+            Some(name) => Some(name.as_str()),
+            None => None,
+        }
+    }
+
+    /// The name of the innermost file: nothing where none is open.
+    fn innermost(&self) -> &str
+        ensures { result.now ≡ innermost_name self.now }
+    {
+        let Some(file) = self.open_files.as_slice().last() else {
+            return "";
+        };
+        match self.name(*file) {
+            Some(name) => name,
+            None => "",
+        }
+    }
+
+    /// Closes the innermost file.
+    pub fn leave<F: Files>(&mut self, files: &mut F)
+        requires is_open { 0 < F.depth files.old }
+        ensures closes { IsTrue (F.is_honest files.old) → Closes (F.openings files.old) (F.openings files.new) }
+        ensures left { self.new ≡ left self.old }
+        ensures depth { F.depth files.new + 1 ≡ F.depth files.old }
+        ensures faults { F.faults files.new ≡ F.faults files.old }
+        ensures given { F.given files.new ≡ F.given files.old }
+        ensures sources { F.sources files.new ≡ F.sources files.old }
+        ensures honesty { F.is_honest files.new ≡ F.is_honest files.old }
+    {
+        files.close();
+        let _ = self.open_files.pop();
+    }
+}

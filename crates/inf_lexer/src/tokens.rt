@@ -1,0 +1,151 @@
+//! What a token is.
+ghost use Rattle.std.specs.Prelude.{◌≡◌};
+
+use inf_text::Zscii;
+
+/// A mark of the language.
+#[derive(Clone, Copy, Debug, PartialEq, Eq)]
+pub enum Mark {
+    /// `->`
+    Arrow,
+    /// `-->`
+    LongArrow,
+    /// `-`
+    Minus,
+    /// `--`
+    Decrement,
+    /// `+`
+    Plus,
+    /// `++`
+    Increment,
+    /// `*`
+    Times,
+    /// `/`
+    Divide,
+    /// `%`
+    Remainder,
+    /// `&`
+    BitAnd,
+    /// `&&`
+    LogicalAnd,
+    /// `|`
+    BitOr,
+    /// `||`
+    LogicalOr,
+    /// `~`
+    BitNot,
+    /// `~~`
+    LogicalNot,
+    /// `~=`
+    NotEqual,
+    /// `=`
+    Assign,
+    /// `==`
+    Equal,
+    /// `>`
+    Greater,
+    /// `>=`
+    GreaterOrEqual,
+    /// `>>`
+    DoubleGreater,
+    /// `<`
+    Less,
+    /// `<=`
+    LessOrEqual,
+    /// `<<`
+    DoubleLess,
+    /// `,`
+    Comma,
+    /// `;`
+    Semicolon,
+    /// `:`
+    Colon,
+    /// `(`
+    OpenParenthesis,
+    /// `)`
+    CloseParenthesis,
+    /// `[`
+    OpenBracket,
+    /// `]`
+    CloseBracket,
+    /// `{`
+    OpenBrace,
+    /// `}`
+    CloseBrace,
+    /// `.`
+    Dot,
+    /// `.&`
+    DotAnd,
+    /// `.#`
+    DotHash,
+    /// `#`
+    Hash,
+    /// `##`
+    DoubleHash,
+    /// `?`
+    Question,
+    /// `@`
+    At,
+}
+
+/// What is wrong with a bad token.
+#[derive(Clone, Copy, Debug, PartialEq, Eq)]
+pub enum BadToken {
+    /// A byte that begins no token.
+    Unfit,
+    /// A text without its closing quote, to the end of the file; or a quote without it, to the end of its line.
+    Unclosed,
+    /// A quote of nothing.
+    EmptyQuote,
+    /// A run that begins with a digit or has a `$`, and is no number of at most 32 bytes up to 65535.
+    Number,
+    /// A name of more than 32 bytes.
+    LongName,
+    /// A text or quote in which `@` begins no escape.
+    UnknownEscape,
+    /// A text or quote with a character that has no ZSCII code.
+    NoZscii,
+    /// A text or quote in which a code, or the number of a string variable, is out of its range.
+    BadCode,
+    /// A text or quote with more bytes between its quotes than it may have.
+    TooLong,
+}
+
+/// A word in single quotes, as the dictionary has it.
+#[derive(Clone, Copy, Debug, PartialEq, Eq)]
+pub struct DictionaryWord {
+    /// Its nine Z-characters (Z-Machine Standard 1.1, section 13.3).
+    pub text: [u8; 6],
+    /// Whether `//p` marks it as a plural.
+    pub is_plural: bool,
+}
+
+/// What a token is.
+#[derive(Clone, Copy, Debug, PartialEq, Eq)]
+pub enum TokenKind {
+    Name,
+    Number(u16),
+    /// A text between double quotes, which can be read as one.
+    Text,
+    /// A character in single quotes.
+    Char(Zscii),
+    Word(DictionaryWord),
+    Mark(Mark),
+    Bad(BadToken),
+    /// The end of the file.
+    End,
+}
+
+/// Where a token begins: the number of its file, and its line there, counted from 1.
+#[derive(Clone, Copy, Debug, PartialEq, Eq)]
+pub struct Place {
+    pub file: u16,
+    pub line: u32,
+}
+
+/// A token with its place.
+#[derive(Clone, Copy, Debug, PartialEq, Eq)]
+pub struct Token {
+    pub kind: TokenKind,
+    pub place: Place,
+}

@@ -1,0 +1,135 @@
+//! A source seen through a window.
+ghost use Rattle.std.specs.Prelude.{◌≡◌, ◌+◌, ◌-◌, ◌<◌, ◌≤◌, ◌^◌, ◌⊎◌, ◌∷◌, [], drop, length, min, IsTrue, IsErr, IfOk, IfErr, Ok, None};
+ghost use Rattle.inf_token.specs.Files.{Rose, last_count};
+ghost use Rattle.inf_lexer.specs.Unread.{ReadsOn, first_of, unread};
+
+use crate::faults::LexFault;
+use inf_token::files::Files;
+use std::marker::Model;
+
+/// The most bytes that a source may have.
+const MOST_SOURCE_BYTES: usize = 16_777_216;
+
+/// How many bytes are in view at most.
+const SIZE: usize = 4096;
+
+/// The bytes of a source that were given and not taken yet, at most 4,096, and how many were given in all.
+#[derive(Drop)]
+pub(crate) struct Window {
+    buffer: [u8; SIZE],
+    next: usize,
+    end: usize,
+    given: usize,
+}
+
+impl Model for Window {
+    ghost use Rattle.std.specs.Prelude.{◌+◌, ◌-◌, ◌≤◌, take, drop};
+    ghost use Rattle.inf_lexer.specs.Unread.{View};
+
+    ghost Value = { View };
+
+    ghost view = { λ w. record { left = take (w.end - w.next) (drop w.next w.buffer); given = w.given } };
+
+    ghost invariant = { λ w. (w.next ≤ w.end) × (w.end ≤ 4096) × (w.end ≤ w.given + w.next) };
+}
+
+impl Window {
+    /// Nothing was given yet.
+    pub(crate) fn new() -> Window
+        ensures { result ≡ record { left = []; given = 0 } }
+    {
+        Window {
+            buffer: [0; SIZE],
+            next: 0,
+            end: 0,
+            given: 0,
+        }
+    }
+
+    /// The next byte of the source, which stays the next; none at its end.
+    pub(crate) fn peek<F: Files>(&mut self, files: &mut F) -> Result<Option<u8>, LexFault>
+        requires is_open { 0 < F.depth files.old }
+        requires given { self.old.given ≤ 16777216 }
+        ensures first { IfOk result (λ byte. byte ≡ first_of self.new.left) }
+        ensures reads { IsTrue (F.is_honest files.old) →
+            ReadsOn (F.sources files.old) (F.openings files.old) (F.openings files.new) self.old self.new }
+        ensures end { IsTrue (F.is_honest files.old) → result ≡ Ok None →
+            unread (F.sources files.old) (F.openings files.new) ≡ [] }
+        ensures window { length self.new.left ≤ 4096 }
+        ensures ahead { length self.new.left ≤ self.new.given }
+        ensures taken { self.new.given + length self.old.left ≡ self.old.given + length self.new.left }
+        ensures more { self.old.given ≤ self.new.given }
+        ensures few { IfOk result (λ _. self.new.given ≤ 16777216) }
+        ensures err { IfErr result (λ fault. fault ≡ LexFault.Read) }
+        ensures cause { IsErr result →
+            Rose (F.faults files.old) (F.faults files.new) ⊎ (16777216 < self.new.given) }
+        ensures given { min (F.given files.old + (self.new.given - self.old.given)) last_count
+            ≤ F.given files.new }
+        ensures depth { F.depth files.new ≡ F.depth files.old }
+        ensures faults { F.faults files.old ≤ F.faults files.new }
+        ensures sources { F.sources files.new ≡ F.sources files.old }
+        ensures honesty { F.is_honest files.new ≡ F.is_honest files.old }
+    {
+        if self.next < self.end {
+            return Ok(Some(self.buffer[self.next]));
+        }
+        self.fill(files)?;
+        Ok(self.first())
+    }
+
+    /// The first byte in view.
+    fn first(&self) -> Option<u8>
+        ensures { result ≡ first_of self.now.left }
+    {
+        if self.next < self.end {
+            Some(self.buffer[self.next])
+        } else {
+            None
+        }
+    }
+
+    /// Reads once into a window in which nothing is left.
+    fn fill<F: Files>(&mut self, files: &mut F) -> Result<(), LexFault>
+        requires is_open { 0 < F.depth files.old }
+        requires given { self.old.given ≤ 16777216 }
+        requires empty { self.old.left ≡ [] }
+        ensures reads { IsTrue (F.is_honest files.old) →
+            ReadsOn (F.sources files.old) (F.openings files.old) (F.openings files.new) self.old self.new }
+        ensures end { IsTrue (F.is_honest files.old) → IfOk result (λ _. self.new.left ≡ [] →
+            unread (F.sources files.old) (F.openings files.new) ≡ []) }
+        ensures window { length self.new.left ≤ 4096 }
+        ensures ahead { length self.new.left ≤ self.new.given }
+        ensures taken { self.new.given ≡ self.old.given + length self.new.left }
+        ensures few { IfOk result (λ _. self.new.given ≤ 16777216) }
+        ensures err { IfErr result (λ fault. fault ≡ LexFault.Read) }
+        ensures cause { IsErr result →
+            Rose (F.faults files.old) (F.faults files.new) ⊎ (16777216 < self.new.given) }
+        ensures given { min (F.given files.old + (self.new.given - self.old.given)) last_count
+            ≤ F.given files.new }
+        ensures depth { F.depth files.new ≡ F.depth files.old }
+        ensures faults { F.faults files.old ≤ F.faults files.new }
+        ensures sources { F.sources files.new ≡ F.sources files.old }
+        ensures honesty { F.is_honest files.new ≡ F.is_honest files.old }
+    {
+        self.next = 0;
+        self.end = 0;
+        let Ok(count) = files.read(&mut self.buffer) else {
+            return Err(LexFault::Read);
+        };
+        self.end = count;
+        self.given += count;
+        if self.given > MOST_SOURCE_BYTES {
+            return Err(LexFault::Read);
+        }
+        Ok(())
+    }
+
+    /// Takes the first byte in view.
+    pub(crate) fn bump(&mut self)
+        requires { 0 < length self.old.left }
+        ensures left { self.new.left ≡ drop 1 self.old.left }
+        ensures given { self.new.given ≡ self.old.given }
+    {
+        self.next += 1;
+    }
+}

@@ -1,0 +1,7 @@
+-- What the whole stack answers is what its rest answers.
+use Rattle.std.proofs.Common.{◌≡◌, reverse}
+use Rattle.inf_machine.specs.Machine.{can_end}
+use Rattle.inf_machine.proofs.reading.can_end.Given as goal
+
+abbrev pub invariant-loop-symbol : goal.invariant-loop-symbol
+invariant-loop-symbol g l = can_end g.A.Table.known (reverse l.stack) ≡ can_end g.A.Table.known (reverse l.symbol-iterator.iter.rest.now)

@@ -1,0 +1,7 @@
+-- What the whole stack answers is what its rest answers.
+use Rattle.std.proofs.Common.{◌≡◌, reverse}
+use Rattle.inf_machine.specs.Machine.{fits}
+use Rattle.inf_machine.proofs.reading.fits.Given as goal
+
+abbrev pub invariant-loop-symbol : goal.invariant-loop-symbol
+invariant-loop-symbol g l = fits g.A.Table.grammar g.A.Table.known l.atom (reverse l.stack) ≡ fits g.A.Table.grammar g.A.Table.known l.atom (reverse l.symbol-iterator.iter.rest.now)

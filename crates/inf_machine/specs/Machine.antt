@@ -1,0 +1,90 @@
+-- The machine as functions on lists: whether a token fits, and what taking it does.
+-- Its stack is a list of symbols, the one at hand first. For each rule it knows which atoms begin the rule and whether the rule
+-- can be empty, so one atom tells the row.
+use Rattle.std.specs.Prelude.{ℕ, ◌+◌, List, [], ◌∷◌, ◌++◌, Bool, true, false, ◌&&◌, ◌||◌, if◌then◌else◌, zero, suc, Option, Some, None}
+use Rattle.inf_machine.specs.declared.symbols.Symbol.{Symbol}
+use Rattle.inf_machine.specs.declared.symbols.Symbol.TheVariants.{Token, Rule, Act}
+use Rattle.inf_machine.specs.Grammar.{Grammar, Row, has, Event, Took, Did}
+
+-- What the machine knows of each rule: the atoms that begin it, those that may follow it where it can be empty, whether it can
+-- be empty, and a bound on the steps from it to a token.
+pub record Known : Type 0 where
+  pub begins : ℕ → ℕ
+  pub follows : ℕ → ℕ
+  pub is_empty : ℕ → Bool
+  pub steps : ℕ → ℕ
+
+-- whether an atom fits the symbols, as far as they may be empty
+abbrev pub fits : {A : Type 0} → Grammar A → Known → ℕ → List (Symbol A) → Bool
+fits g k atom [] = false
+fits g k atom (Token class ∷ symbols) = has (g.atoms_of class) atom
+fits g k atom (Act a ∷ symbols) = fits g k atom symbols
+fits g k atom (Rule rule ∷ symbols) = has (k.begins rule) atom || (k.is_empty rule && fits g k atom symbols)
+
+-- whether the symbols can be empty
+abbrev pub can_end : {A : Type 0} → Known → List (Symbol A) → Bool
+can_end k [] = true
+can_end k (Token class ∷ symbols) = false
+can_end k (Act a ∷ symbols) = can_end k symbols
+can_end k (Rule rule ∷ symbols) = k.is_empty rule && can_end k symbols
+
+-- the row that can be empty
+abbrev pub empty_row : {A : Type 0} → Known → List (Row A) → List (Symbol A)
+empty_row k [] = []
+empty_row k (row ∷ rows) = if can_end k row.parts then row.parts else empty_row k rows
+
+-- the row that an atom begins, or another one
+abbrev pub row_for : {A : Type 0} → Grammar A → Known → ℕ → List (Symbol A) → List (Row A) → List (Symbol A)
+row_for g k atom other [] = other
+row_for g k atom other (row ∷ rows) = if fits g k atom row.parts then row.parts else row_for g k atom other rows
+
+-- the row of a rule that an atom chooses: the one that it begins, and where it begins none the one that can be empty
+abbrev pub chosen : {A : Type 0} → Grammar A → Known → ℕ → ℕ → List (Symbol A)
+chosen g k atom rule = row_for g k atom (empty_row k (g.rows_of rule)) (g.rows_of rule)
+
+-- what taking a token gives: the actions on the way to it, and the symbols behind it
+pub record Taken (A : Type 0) : Type 0 where
+  pub actions : List A
+  pub left : List (Symbol A)
+
+abbrev pub after : {A : Type 0} → A → Taken A → Taken A
+after a t = record { actions = a ∷ t.actions; left = t.left }
+
+-- so many steps to a token, at most
+abbrev pub stepped : {A : Type 0} → Grammar A → Known → ℕ → ℕ → List (Symbol A) → Taken A
+stepped g k atom zero symbols = record { actions = []; left = symbols }
+stepped g k atom (suc n) [] = record { actions = []; left = [] }
+stepped g k atom (suc n) (Token class ∷ symbols) = record { actions = []; left = symbols }
+stepped g k atom (suc n) (Act a ∷ symbols) = after a (stepped g k atom n symbols)
+stepped g k atom (suc n) (Rule rule ∷ symbols) = stepped g k atom n (chosen g k atom rule ++ symbols)
+
+-- enough steps
+abbrev pub work : {A : Type 0} → Known → ℕ → List (Symbol A) → ℕ
+work k atom [] = 0
+work k atom (Token class ∷ symbols) = 1
+work k atom (Act a ∷ symbols) = suc (work k atom symbols)
+work k atom (Rule rule ∷ symbols) = k.steps rule + (if has (k.begins rule) atom then 0 else work k atom symbols)
+
+-- what taking an atom that fits does
+abbrev pub taken : {A : Type 0} → Grammar A → Known → ℕ → List (Symbol A) → Taken A
+taken g k atom symbols = stepped g k atom (work k atom symbols) symbols
+
+-- the events of some actions and a token behind them
+abbrev pub events_of : {A : Type 0} → List A → ℕ → List (Event A)
+events_of [] atom = Took atom ∷ []
+events_of (a ∷ actions) atom = Did a ∷ events_of actions atom
+
+-- What reading some tokens gives: the events, and the symbols that are left.
+pub record Read (A : Type 0) : Type 0 where
+  pub events : List (Event A)
+  pub left : List (Symbol A)
+
+abbrev pub behind : {A : Type 0} → List (Event A) → Option (Read A) → Option (Read A)
+behind events None = None
+behind events (Some r) = Some (record { events = events ++ r.events; left = r.left })
+
+-- the tokens are taken one after another, each if it fits; none where one is bad
+abbrev pub read : {A : Type 0} → Grammar A → Known → List (Symbol A) → List ℕ → Option (Read A)
+read g k symbols [] = Some (record { events = []; left = symbols })
+read g k symbols (atom ∷ atoms) =
+    if fits g k atom symbols then (let t = taken g k atom symbols in behind (events_of t.actions atom) (read g k t.left atoms)) else None

@@ -1,0 +1,55 @@
+-- A source as pieces: texts of a rule, one behind the other, and bad pieces.
+use Rattle.std.specs.Prelude.{◌≡◌, ℕ, zero, suc, List, [], ◌∷◌, ◌++◌, Bool, true, false, ◌&&◌, Option, Some, None, take, drop}
+use Rattle.inf_machine.specs.declared.symbols.Symbol.{Symbol}
+use Rattle.inf_machine.specs.declared.symbols.Symbol.TheVariants.{Token, Rule, Act}
+use Rattle.inf_machine.specs.Grammar.{Grammar, Row, Event, IsText, Begins}
+use Rattle.inf_machine.specs.Machine.{Known}
+use Rattle.inf_machine.specs.Laws.{IsDecided}
+
+-- What stands in a source: a whole piece; tokens with a bad one behind them and those behind it that are skipped; tokens that the
+-- end of the source cuts off.
+pub data Piece : Type 0 where
+  Whole : (atoms : List ℕ) → Piece
+  Bad : (front : List ℕ) (bad : ℕ) (skipped : List ℕ) → Piece
+  Cut : (front : List ℕ) → Piece
+
+-- the tokens are a text of the rule
+abbrev pub IsPiece : {A : Type 0} → Grammar A → ℕ → List ℕ → Type 0
+IsPiece {A} g rule atoms = (events : List (Event A)) × IsText g (Rule rule ∷ []) atoms events
+
+-- the tokens begin a text of the rule, and are none yet
+abbrev pub IsOpen : {A : Type 0} → Grammar A → ℕ → List ℕ → Type 0
+IsOpen g rule front = Begins g (Rule rule ∷ []) front × (IsPiece g rule front → ⊥)
+
+-- The pieces of some tokens. A piece ends with the first token that makes it a text. The bad token is the first with which the
+-- tokens begin no text; behind it so many tokens are skipped as `further` tells of those before it, of it, and of those behind it.
+pub data ArePieces {A : Type 0} (g : Grammar A) (rule : ℕ) (further : List ℕ → ℕ → List ℕ → ℕ) : List Piece → List ℕ → Type 0 where
+  ended : ArePieces g rule further [] []
+  whole : (front : List ℕ) (last : ℕ) (rest : List ℕ) {pieces : List Piece} → IsOpen g rule front → IsPiece g rule (front ++ last ∷ []) → ArePieces g rule further pieces rest → ArePieces g rule further (Whole (front ++ last ∷ []) ∷ pieces) (front ++ last ∷ rest)
+  bad : (front : List ℕ) (token : ℕ) (rest : List ℕ) {pieces : List Piece} → IsOpen g rule front → (Begins g (Rule rule ∷ []) (front ++ token ∷ []) → ⊥) → ArePieces g rule further pieces (drop (further front token rest) rest) → ArePieces g rule further (Bad front token (take (further front token rest) rest) ∷ pieces) (front ++ token ∷ rest)
+  cut : {first : ℕ} {front : List ℕ} → IsOpen g rule (first ∷ front) → ArePieces g rule further (Cut (first ∷ front) ∷ []) (first ∷ front)
+
+-- That a rule's texts end with a token and not behind it: a property of a table that is computed
+
+abbrev pub last_symbol : {A : Type 0} → List (Symbol A) → Option (Symbol A)
+last_symbol [] = None
+last_symbol (symbol ∷ []) = Some symbol
+last_symbol (symbol ∷ next ∷ symbols) = last_symbol (next ∷ symbols)
+
+abbrev pub all_rows : {A : Type 0} → (List (Symbol A) → Bool) → List (Row A) → Bool
+all_rows test [] = true
+all_rows test (row ∷ rows) = test row.parts && all_rows test rows
+
+-- whether a symbol is a token, or a rule whose rows all end with one, so many rules deep
+abbrev pub closes : {A : Type 0} → Grammar A → Option (Symbol A) → ℕ → Bool
+closes g None n = false
+closes g (Some (Token class)) n = true
+closes g (Some (Act a)) n = false
+closes g (Some (Rule rule)) zero = false
+closes g (Some (Rule rule)) (suc n) = all_rows (λ parts. closes g (last_symbol parts) n) (g.rows_of rule)
+
+-- Every source has its pieces, whatever is skipped.
+abbrev pub SourcesArePieces : Type 0 → Type 0
+SourcesArePieces A =
+    (g : Grammar A) (k : Known) (rule deep : ℕ) (further : List ℕ → ℕ → List ℕ → ℕ) (atoms : List ℕ) → IsDecided g k → closes g (Some (Rule rule)) deep ≡ true →
+    (pieces : List Piece) × ArePieces g rule further pieces atoms

@@ -1,0 +1,19 @@
+//! A machine that reads tokens by a grammar in which one token decides, whatever its rules and actions are.
+//!
+//! `specs/` has a grammar as a table of rows and what is a text of it (`Grammar`), the machine as functions on lists (`Machine`),
+//! the property of a table by which one token decides (`Decided`), and what follows from it (`Laws`). The code has the parts of
+//! rows (`Symbol`), the stack of what is still to be read, which can go back to what it was (`Stack`), and the laws as functions.
+//! A crate with a table has the machine that reads by it.
+#![tactic(auto)]
+
+mod laws;
+mod machine;
+mod reading;
+mod stack;
+mod symbols;
+mod table;
+
+pub use laws::{bad_tokens, pieces, sources, texts};
+pub use machine::Machine;
+pub use symbols::Symbol;
+pub use table::Table;

@@ -1,0 +1,12 @@
+//! What the rows of a grammar are made of.
+
+/// A part of a row, whose actions are of a type `A`.
+#[derive(Clone, Copy, Debug, PartialEq, Eq)]
+pub enum Symbol<A> {
+    /// A token of a class, by the class's number.
+    Token(u8),
+    /// A text of a rule, by the rule's number.
+    Rule(u8),
+    /// An action, which takes no token.
+    Act(A),
+}

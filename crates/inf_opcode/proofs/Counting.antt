@@ -1,0 +1,43 @@
+-- Counts of cells.
+use Rattle.std.proofs.Common.{◌≡◌, ℕ, ◌+◌, ◌<◌, List, [], ◌∷◌, ◌++◌, length, get_or, take, refl, ◌∙◌, ap, arith, append-nil, length-append}
+use Rattle.std.proofs.lemmas.List.{take_more}
+use Rattle.std.proofs.lemmas.List.Concat.{flat_map-append}
+use Rattle.std.specs.List.{flat_map}
+use Rattle.inf_opcode.specs.declared.instructions.Operand.{Operand}
+use Rattle.inf_opcode.specs.declared.cells.Special.TheVariants.{Marks, Branches, Jumps, Refers}
+use Rattle.inf_opcode.specs.Cells.{Cell, Plain, Of, plain, long_bytes, label_count, hole_count}
+use Rattle.inf_opcode.specs.Instructions.{operand_cells}
+use Rattle.inf_opcode.proofs.Growing.{long-append}
+
+pub length-long : (xs ys : List Cell) → length (long_bytes (xs ++ ys)) ≡ length (long_bytes xs) + length (long_bytes ys)
+length-long xs ys = ap length (long-append xs ys) ∙ length-append (long_bytes xs) (long_bytes ys)
+
+pub labels-append : (xs ys : List Cell) → label_count (xs ++ ys) ≡ label_count xs + label_count ys
+labels-append [] ys = omega arith
+labels-append ((Plain byte) ∷ xs) ys = labels-append xs ys
+labels-append ((Of (Marks label)) ∷ xs) ys = omega (arith, labels-append xs ys)
+labels-append ((Of (Branches branch)) ∷ xs) ys = omega (arith, labels-append xs ys)
+labels-append ((Of (Jumps label)) ∷ xs) ys = omega (arith, labels-append xs ys)
+labels-append ((Of (Refers reference)) ∷ xs) ys = labels-append xs ys
+
+pub holes-append : (xs ys : List Cell) → hole_count (xs ++ ys) ≡ hole_count xs + hole_count ys
+holes-append [] ys = omega arith
+holes-append ((Plain byte) ∷ xs) ys = holes-append xs ys
+holes-append ((Of (Marks label)) ∷ xs) ys = holes-append xs ys
+holes-append ((Of (Branches branch)) ∷ xs) ys = holes-append xs ys
+holes-append ((Of (Jumps label)) ∷ xs) ys = holes-append xs ys
+holes-append ((Of (Refers reference)) ∷ xs) ys = omega (arith, holes-append xs ys)
+
+pub labels-plain : (bytes : List ℕ) → label_count (plain bytes) ≡ 0
+labels-plain [] = refl
+labels-plain (byte ∷ bytes) = labels-plain bytes
+
+pub holes-plain : (bytes : List ℕ) → hole_count (plain bytes) ≡ 0
+holes-plain [] = refl
+holes-plain (byte ∷ bytes) = holes-plain bytes
+
+-- one more operand
+pub operands_more : (operands : List Operand) (i : ℕ) (d : Operand) → i < length operands → flat_map operand_cells (take (i + 1) operands) ≡ flat_map operand_cells (take i operands) ++ operand_cells (get_or operands i d)
+operands_more operands i d within =
+    ap (flat_map operand_cells) (take_more operands i d within) ∙ flat_map-append operand_cells (take i operands) (get_or operands i d ∷ [])
+    ∙ ap (λ xs. flat_map operand_cells (take i operands) ++ xs) (append-nil (operand_cells (get_or operands i d)))

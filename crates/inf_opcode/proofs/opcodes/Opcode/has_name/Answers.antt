@@ -1,0 +1,14 @@
+-- The same bytes without case are what the test finds.
+use Rattle.std.proofs.Common.{◌∙◌, ap, map}
+use Rattle.std.specs.Char.{to_ascii_lowercase}
+use Rattle.std.specs.Str.{bytes_eq, str_eq_ignore_ascii_case}
+use Rattle.std.proofs.lemmas.Bool.Decides.{same_from_decides}
+use Rattle.std.proofs.lemmas.Slice.Eq.{bytes_eq-Decides}
+use Rattle.inf_opcode.proofs.opcodes.Opcode.has_name.Goals as goal
+
+pub returns : goal.returns
+returns c =
+    let own = map to_ascii_lowercase c.name.result.now in
+    let other = map to_ascii_lowercase c.args.name.now in
+    same_from_decides c.eq_ignore_ascii_case.result (bytes_eq own other) c.eq_ignore_ascii_case.ensures.test (bytes_eq-Decides own other)
+    ∙ ap (λ text. str_eq_ignore_ascii_case text c.args.name.now) c.name.ensures

@@ -1,0 +1,37 @@
+-- The parts are counted one by one.
+use Rattle.std.proofs.Common.{◌≡◌, ℕ, ◌+◌, ◌*◌, ◌++◌, ◌∙◌, ap, length, arith}
+use Rattle.std.specs.List.{flat_map}
+use Rattle.inf_opcode.specs.declared.writing.Counts.{Counts}
+use Rattle.inf_opcode.specs.Cells.{plain}
+use Rattle.inf_opcode.specs.Counts.{counts_of}
+use Rattle.inf_opcode.specs.Opcodes.{row_of}
+use Rattle.inf_opcode.specs.Instructions.{heading, operand_cells, store_cells, branch_cells, front_cells}
+use Rattle.inf_opcode.specs.PartsOf.{parts_of}
+use Rattle.inf_opcode.proofs.Growing.{long-plain}
+use Rattle.inf_opcode.proofs.Counting.{length-long, labels-append, holes-append, labels-plain, holes-plain}
+use Rattle.inf_opcode.proofs.writing.instruction_counts.Goals as goal
+
+pub returns-clause-value : goal.returns-clause-value
+returns-clause-value c =
+    let make : ℕ → ℕ → ℕ → Counts = λ b l h. record { bytes = b; labels = l; holes = h } in
+    let instruction = c.args.instruction.now in
+    let operands = instruction.operands.items in
+    let head = heading (row_of instruction.opcode) operands in
+    let a = plain head in
+    let b = flat_map operand_cells operands in
+    let s = store_cells instruction.store in
+    let r = branch_cells instruction.branch in
+    let all = counts_of (front_cells (parts_of instruction)) in
+    let read = c.as_slice-operands.ensures.value in
+    let given = c.operands_counts-given.ensures.value ∙ ap (λ xs. counts_of (flat_map operand_cells xs)) read in
+    let first : c.len-head.result ≡ length head =
+    c.len-head.ensures.value ∙ ap length (c.heading.ensures ∙ ap (λ row. heading row c.as_slice-operands.result.now) c.row.ensures.exact ∙ ap (heading (row_of instruction.opcode)) read) in
+    let bytes : c.len-head.result + c.operands_counts-given.result.bytes + c.store_len-store.result + 2 * c.branch_count-branch.result ≡ all.bytes =
+    omega (arith, first, ap (λ x. x.bytes) given, c.store_len-store.ensures.bytes, c.branch_count-branch.ensures.bytes, length-long (a ++ b ++ s) r, length-long (a ++ b) s, length-long a b, ap length (long-plain head)) in
+    let labels : c.operands_counts-given.result.labels + c.branch_count-branch.result ≡ all.labels =
+    omega (arith, ap (λ x. x.labels) given, c.store_len-store.ensures.labels, c.branch_count-branch.ensures.labels, labels-append (a ++ b ++ s) r, labels-append (a ++ b) s, labels-append a b, labels-plain head) in
+    let holes : c.operands_counts-given.result.holes ≡ all.holes =
+    omega (arith, ap (λ x. x.holes) given, c.store_len-store.ensures.holes, c.branch_count-branch.ensures.holes, holes-append (a ++ b ++ s) r, holes-append (a ++ b) s, holes-append a b, holes-plain head) in
+    let last = c.operands_counts-given.result.holes in
+    let middle = c.operands_counts-given.result.labels + c.branch_count-branch.result in
+    ap (λ n. make n middle last) bytes ∙ ap (λ n. make all.bytes n last) labels ∙ ap (make all.bytes all.labels) holes

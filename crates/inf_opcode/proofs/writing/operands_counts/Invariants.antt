@@ -1,0 +1,18 @@
+use Rattle.std.proofs.Common.{◌≡◌, ◌≤◌, ◌*◌, take}
+use Rattle.std.specs.List.{flat_map}
+use Rattle.inf_opcode.specs.Counts.{counts_of}
+use Rattle.inf_opcode.specs.Instructions.{operand_cells}
+use Rattle.inf_opcode.proofs.writing.operands_counts.Given as goal
+
+-- the operands so far are counted
+abbrev pub invariant-loop-operand : goal.invariant-loop-operand
+invariant-loop-operand l =
+    let counts = counts_of (flat_map operand_cells (take l.operand-index l.operands)) in
+    record {
+      bytes : l.bytes ≡ counts.bytes;
+      labels : l.labels ≡ counts.labels;
+      holes : l.holes ≡ counts.holes;
+      few_bytes : l.bytes ≤ 2 * l.operand-index;
+      few_labels : l.labels ≤ l.operand-index;
+      few_holes : l.holes ≤ l.operand-index;
+    }

@@ -1,0 +1,68 @@
+-- Cells: what the items of a routine are written as while it is open.
+use Rattle.std.specs.Prelude.{ℕ, ◌+◌, ◌-◌, Bool, List, [], ◌∷◌, ◌++◌, map, take, drop, if◌then◌else◌}
+use Rattle.std.specs.List.{flat_map}
+use Rattle.inf_opcode.specs.declared.cells.Kept.{Kept}
+use Rattle.inf_opcode.specs.declared.cells.Special.{Special}
+use Rattle.inf_opcode.specs.declared.cells.Special.TheVariants.{Marks, Branches, Jumps, Refers}
+
+-- a byte, or something whose bytes are known when the routine is whole
+pub data Cell : Type 0 where
+  Plain : (byte : ℕ) → Cell
+  Of : (what : Special) → Cell
+
+abbrev pub plain : List ℕ → List Cell
+plain bytes = map Plain bytes
+
+-- The long sizes in bytes: every branch takes two, and so does what is known later.
+abbrev pub special_size : Special → ℕ
+special_size (Marks label) = 0
+special_size (Branches branch) = 2
+special_size (Jumps label) = 2
+special_size (Refers reference) = 2
+
+-- The bytes while the routine is open: a branch has its sense in the top bit (Z-Machine Standard 1.1, section 4.7), and the rest is zero.
+abbrev pub sense_bit : Bool → ℕ
+sense_bit sense = if sense then 128 else 0
+
+abbrev pub special_bytes : Special → List ℕ
+special_bytes (Marks label) = []
+special_bytes (Branches branch) = sense_bit branch.sense ∷ 0 ∷ []
+special_bytes (Jumps label) = 0 ∷ 0 ∷ []
+special_bytes (Refers reference) = 0 ∷ 0 ∷ []
+
+abbrev pub cell_bytes : Cell → List ℕ
+cell_bytes (Plain byte) = byte ∷ []
+cell_bytes (Of what) = special_bytes what
+
+abbrev pub long_bytes : List Cell → List ℕ
+long_bytes cells = flat_map cell_bytes cells
+
+-- how many labels, branches and jumps there are, and how many references
+abbrev pub label_count : List Cell → ℕ
+label_count [] = 0
+label_count ((Plain byte) ∷ cells) = label_count cells
+label_count ((Of (Marks label)) ∷ cells) = 1 + label_count cells
+label_count ((Of (Branches branch)) ∷ cells) = 1 + label_count cells
+label_count ((Of (Jumps label)) ∷ cells) = 1 + label_count cells
+label_count ((Of (Refers reference)) ∷ cells) = label_count cells
+
+abbrev pub hole_count : List Cell → ℕ
+hole_count [] = 0
+hole_count ((Plain byte) ∷ cells) = hole_count cells
+hole_count ((Of (Marks label)) ∷ cells) = hole_count cells
+hole_count ((Of (Branches branch)) ∷ cells) = hole_count cells
+hole_count ((Of (Jumps label)) ∷ cells) = hole_count cells
+hole_count ((Of (Refers reference)) ∷ cells) = 1 + hole_count cells
+
+-- what a routine keeps of cells that stand from a place on, all of them long
+abbrev pub kept_from : ℕ → List Cell → List Kept
+kept_from place [] = []
+kept_from place ((Plain byte) ∷ cells) = kept_from (place + 1) cells
+kept_from place ((Of what) ∷ cells) = record { place = place; what = what } ∷ kept_from (place + special_size what) cells
+
+-- the cells that bytes from a place on and what is kept of them tell
+abbrev pub cells_of : ℕ → List Kept → List ℕ → List Cell
+cells_of place [] bytes = plain bytes
+cells_of place (kept ∷ others) bytes =
+    plain (take (kept.place - place) bytes)
+    ++ Of kept.what ∷ cells_of (kept.place + special_size kept.what) others (drop (kept.place + special_size kept.what - place) bytes)

@@ -1,0 +1,162 @@
+//! Instructions and their operands.
+ghost use Rattle.std.specs.Prelude.{◌≡◌, ◌<◌, ◌≤◌, length, Some};
+ghost use Rattle.inf_opcode.specs.Instructions.{type_code, is_byte, is_variable, bare};
+ghost use Rattle.inf_opcode.specs.PartsOf.{parts_of, text_of};
+
+use crate::opcodes::Opcode;
+use arrayvec::ArrayVec;
+use inf_area::Reference;
+
+/// The most operands that an instruction has.
+pub const MOST_OPERANDS: usize = 8;
+
+/// A place of a routine, by a number that whoever writes the routine chooses. The numbers should be
+/// small: closing the routine takes memory for the greatest of those that are marked.
+#[derive(Clone, Copy, Debug, PartialEq, Eq)]
+pub struct Label {
+    pub number: u32,
+}
+
+/// Where a branch goes (Z-Machine Standard 1.1, section 4.7.1).
+#[derive(Clone, Copy, Debug, PartialEq, Eq)]
+pub enum Target {
+    To(Label),
+    ReturnFalse,
+    ReturnTrue,
+}
+
+/// A branch: whether it is taken where the test holds, and where it goes.
+#[derive(Clone, Copy, Debug, PartialEq, Eq)]
+pub struct Branch {
+    pub sense: bool,
+    pub target: Target,
+}
+
+/// An operand (Z-Machine Standard 1.1, section 4.2).
+#[derive(Clone, Copy, Debug, PartialEq, Eq)]
+pub enum Operand {
+    /// A constant of two bytes.
+    Large(u16),
+    /// A constant of one byte.
+    Small(u8),
+    /// A variable by its number: 0 is the top of the stack, 1 to 15 are locals, 16 to 255 globals.
+    Variable(u8),
+    /// A constant of two bytes that is known later, and zero until then.
+    Later(Reference),
+    /// The offset to a label in two bytes, which `jump` takes.
+    Offset(Label),
+}
+
+impl Default for Operand {
+    ghost use Rattle.std.specs.Prelude.{◌≡◌};
+    ghost use Rattle.inf_opcode.specs.declared.instructions.Operand.TheVariants.{Small};
+
+    ghost is_default = { λ operand. operand ≡ Small 0 };
+
+    /// The small constant 0.
+    fn default() -> Self {
+        Operand::Small(0)
+    }
+}
+
+impl Operand {
+    /// The two bits that tell the operand's type.
+    pub(crate) fn type_code(self) -> u8
+        ensures value { result ≡ type_code self }
+        ensures small { result < 3 }
+    {
+        match self {
+            Operand::Large(_) | Operand::Later(_) | Operand::Offset(_) => 0,
+            Operand::Small(_) => 1,
+            Operand::Variable(_) => 2,
+        }
+    }
+
+    /// Whether the operand takes one byte.
+    pub(crate) fn is_byte(self) -> bool
+        ensures { result ≡ is_byte self }
+    {
+        matches!(self, Operand::Small(_) | Operand::Variable(_))
+    }
+
+    /// Whether the operand is a variable.
+    pub(crate) fn is_variable(self) -> bool
+        ensures { result ≡ is_variable self }
+    {
+        matches!(self, Operand::Variable(_))
+    }
+}
+
+/// An instruction with what stands behind its operands.
+#[derive(Debug, Drop)]
+pub struct Instruction {
+    pub opcode: Opcode,
+    pub operands: ArrayVec<Operand, MOST_OPERANDS>,
+    /// The number of the variable that takes the result.
+    pub store: Option<u8>,
+    /// Where control goes by the outcome of a test.
+    pub branch: Option<Branch>,
+    /// The bytes of the text that a printing opcode takes: whole words, of which only the last has its top bit set.
+    pub text: Option<Vec<u8>>,
+}
+
+impl Instruction {
+    /// An instruction of no operands, with nothing behind it.
+    pub fn bare(opcode: Opcode) -> Self
+        ensures { parts_of result ≡ bare opcode }
+    {
+        Instruction {
+            opcode,
+            operands: ArrayVec::new(),
+            store: None,
+            branch: None,
+            text: None,
+        }
+    }
+
+    /// An instruction of at most eight operands, with a variable for its result or none.
+    pub fn new(opcode: Opcode, operands: &[Operand], store: Option<u8>) -> Self
+        requires { length operands.now ≤ MOST_OPERANDS }
+        ensures { parts_of result ≡ record (bare opcode) { operands = operands.now; store = store } }
+    {
+        let mut list = ArrayVec::new();
+        for operand in operands {
+            list.push(*operand);
+        }
+        Instruction {
+            operands: list,
+            store,
+            ..Instruction::bare(opcode)
+        }
+    }
+
+    /// The bytes of its text, of which there are none where it has no text.
+    pub fn text_bytes(&self) -> &[u8]
+        ensures { result.now ≡ text_of self.now.text }
+    {
+        match &self.text {
+            Some(text) => text.as_slice(),
+            None => &[],
+        }
+    }
+
+    /// The instruction with a branch.
+    pub fn with_branch(self, branch: Branch) -> Self
+        ensures { parts_of result ≡ record (parts_of self) { branch = Some branch } }
+    {
+        Instruction {
+            branch: Some(branch),
+            ..self
+        }
+    }
+
+    /// An instruction of no operands that prints the bytes of a text.
+    pub fn with_text(opcode: Opcode, text: Vec<u8>) -> Self
+        ensures { parts_of result ≡ record (bare opcode) { text = text.items } }
+    {
+        Instruction {
+            text: Some(text),
+            ..Instruction::bare(opcode)
+        }
+    }
+}

@@ -1,0 +1,272 @@
+-- Reading leads through a piece or to its bad token.
+use Rattle.std.proofs.Common.{◌≡◌, ℕ, suc, zero, ◌<◌, List, [], ◌∷◌, ◌++◌, length, map, take, drop, cond, ◌&&◌, Bool, true, false, Option, Some, None, is_some, nat_le, refl, sym, ap, subst, ◌∙◌, arith, append_assoc}
+use Rattle.std.proofs.lemmas.Bool.{and_parts, and_from}
+use Rattle.std.proofs.lemmas.List.{append-nil, map-append, take-append-drop}
+use Rattle.std.specs.Prelude.{Result, Ok, Err}
+use Rattle.inf_characters.specs.declared.reading.TextFault.{TextFault}
+use Rattle.inf_characters.specs.declared.texts.TextItem.{TextItem}
+use Rattle.inf_token.specs.Spelling.{Spelled, next_token, is_end}
+use Rattle.inf_token.specs.declared.spelling.TokenKind.{TokenKind}
+use Rattle.inf_token.specs.declared.spelling.TokenKind.TheVariants as kind
+use Rattle.inf_symbol.specs.Messages.{Message, LongName}
+use Rattle.inf_grammar.specs.declared.actions.Action.{Action}
+use Rattle.inf_machine.specs.declared.symbols.Symbol.{Symbol}
+use Rattle.inf_machine.specs.declared.symbols.Symbol.TheVariants.{Rule}
+use Rattle.inf_machine.specs.Grammar.{IsText, here}
+use Rattle.inf_grammar.specs.Language.{grammar, known}
+use Rattle.inf_machine.specs.Machine.{fits, taken, read, Read}
+use Rattle.inf_grammar.specs.Evaluated.{language_is_decided}
+use Rattle.inf_machine.proofs.TokenLaws.{bad_tokens_begin_nothing, texts_are_taken}
+use Rattle.inf_reader.specs.Tests.{longest_name, characters, fit_characters, text_fault_of, fault_of_kind, name_atom, text_atom, bad_atom, end_atom, atom_of_kind, atom_of}
+use Rattle.inf_reader.specs.Selection.{Unit, no_unit, unit_behind, begins_piece, has_come, have_come, is_piece_come}
+use Rattle.inf_reader.specs.Reading.{Reading, State, Stand, piece_rule, piece_begun, took, bad, judged, read_at, step_in, stand, turn, run}
+use Rattle.inf_reader.specs.Pieces.{IsPiece, BeginsPiece, front, at_hand_by, at_hand, taking, AllAreTaken, Leads, ToItsEnd, ToABadToken, PiecesAreRead, PiecesBegin, FrontsBegin, FaultyTokensFitNothing, TurnsAreRead}
+use Rattle.inf_reader.specs.declared.mode.Mode.TheVariants as mode
+use Rattle.inf_reader.proofs.Turns.{next_moves, less_behind}
+use Rattle.inf_reader.proofs.Misfits.{bad_fits_nothing, end_fits_nothing}
+use Rattle.inf_reader.proofs.ReadOn.{OneMore, read_on, read_append, reads_one, reads_none}
+
+pub turns_are_read : TurnsAreRead
+turns_are_read file zero s going = refl
+turns_are_read file (suc n) s going =
+    ap (λ b. cond b s (run file n (turn file s))) (going 0 (omega arith))
+    ∙ turns_are_read file n (turn file s) (λ m less. going (suc m) (omega arith))
+
+abbrev piece : List (Symbol Action)
+piece = Rule piece_rule ∷ []
+
+-- What the tokens of a piece so far say of those behind them: whether each may come, and behind which unit.
+record At (tokens : List Spelled) (may_come : Spelled → Bool) (r : Reading) : Type 0 where
+  reads : r.mode ≡ mode.Reads
+  is_read : OneMore grammar known piece (map atom_of tokens) r.stack
+  so_far : is_piece_come tokens ≡ true
+  on : (t : Spelled) (more : List Spelled) → is_piece_come (tokens ++ t ∷ more) ≡ (may_come t && have_come (unit_behind t r.unit) more)
+
+begins : (tokens : List Spelled) (may_come : Spelled → Bool) (r : Reading) → At tokens may_come r → BeginsPiece tokens
+begins tokens may_come r at = record {
+  has_come = at.so_far;
+  begins = (bad_tokens_begin_nothing grammar known piece_rule (map atom_of tokens) language_is_decided).0 (ap is_some at.is_read.is_read);
+}
+
+-- a token that may not come, or does not fit, begins nothing behind them
+stops : (tokens : List Spelled) (may_come : Spelled → Bool) (r : Reading) (t : Spelled) → At tokens may_come r → (may_come t && fits grammar known (atom_of t) r.stack) ≡ false → BeginsPiece (tokens ++ t ∷ []) → ⊥
+stops tokens may_come r t at out b = no_fit (fits grammar known (atom_of t) r.stack) refl
+  where
+    comes : may_come t ≡ true
+    comes = (and_parts (may_come t) true (sym (at.on t []) ∙ b.has_come)).0
+
+    some : is_some (read grammar known piece (map atom_of (tokens ++ t ∷ []))) ≡ true
+    some = (bad_tokens_begin_nothing grammar known piece_rule (map atom_of (tokens ++ t ∷ [])) language_is_decided).1 b.begins
+
+    no_fit : (f : Bool) → fits grammar known (atom_of t) r.stack ≡ f → ⊥
+    no_fit true e =
+        let both : true ≡ false = sym (ap (λ x. x && fits grammar known (atom_of t) r.stack) comes ∙ e) ∙ out in cc
+    no_fit false e =
+        let nothing = reads_none grammar known piece (map atom_of tokens) (atom_of t) r.stack at.is_read e in
+        let absent : true ≡ false = sym some ∙ ap (λ atoms. is_some (read grammar known piece atoms)) (map-append atom_of tokens (t ∷ [])) ∙ ap is_some nothing in cc
+
+-- a token that is taken
+goes : (tokens : List Spelled) (may_come : Spelled → Bool) (r after : Reading) (t : Spelled) → At tokens may_come r → may_come t ≡ true → fits grammar known (atom_of t) r.stack ≡ true
+    → after ≡ record { mode = r.mode; stack = (taken grammar known (atom_of t) r.stack).left; unit = unit_behind t r.unit }
+    → At (tokens ++ t ∷ []) (has_come after.unit) after
+goes tokens may_come r after t at comes f same =
+    let now : Reading = record { mode = r.mode; stack = (taken grammar known (atom_of t) r.stack).left; unit = unit_behind t r.unit } in
+    let there : At (tokens ++ t ∷ []) (has_come now.unit) now = record {
+      reads = at.reads;
+      is_read = subst (λ atoms. OneMore grammar known piece atoms now.stack) (sym (map-append atom_of tokens (t ∷ [])))
+          (reads_one grammar known piece (map atom_of tokens) (atom_of t) r.stack at.is_read f);
+      so_far = at.on t [] ∙ ap (λ b. b && true) comes;
+      on = λ u more.
+          ap is_piece_come (append_assoc tokens (t ∷ []) (u ∷ more)) ∙ at.on t (u ∷ more)
+          ∙ ap (λ b. b && have_come now.unit (u ∷ more)) comes;
+    } in
+    subst (λ x. At (tokens ++ t ∷ []) (has_come x.unit) x) (sym same) there
+
+-- where the machine has nothing more to read the tokens are a piece
+ends : (tokens : List Spelled) (may_come : Spelled → Bool) (r : Reading) → At tokens may_come r → r.stack ≡ [] → IsPiece tokens
+ends tokens may_come r at empty =
+    let q : Read Action = at.is_read.r in
+    let nothing_left : [] ≡ q.left = sym (at.is_read.leaves ∙ empty) in
+    record {
+      has_come = at.so_far;
+      events = q.events ++ [];
+      is_text = (texts_are_taken grammar known piece_rule (map atom_of tokens) (q.events ++ []) language_is_decided).1
+          (q, [], at.is_read.is_read, refl, subst (λ symbols. IsText grammar symbols [] []) nothing_left here);
+    }
+
+-- A turn that takes a token, and where reading leads behind it
+
+first_taken : (file : List ℕ) (n : ℕ) (s : State) → turn file s ≡ taking file s → AllAreTaken file n (turn file s) → AllAreTaken file (suc n) s
+first_taken file n s takes all zero less = takes
+first_taken file n s takes all (suc m) less = all m (omega arith)
+
+extend : (file : List ℕ) (tokens : List Spelled) (s : State) → turn file s ≡ taking file s → Leads file (tokens ++ (next_token s.cursor).0 ∷ []) (turn file s) → Leads file tokens s
+extend file tokens s takes (ToItsEnd n all reads empty cursor is) =
+    ToItsEnd (suc n) (first_taken file n s takes all) reads empty cursor (subst IsPiece (append_assoc tokens ((next_token s.cursor).0 ∷ []) (front n (next_token s.cursor).1)) is)
+extend file tokens s takes (ToABadToken n all told so_far unfit) =
+    ToABadToken (suc n) (first_taken file n s takes all) told
+    (subst BeginsPiece (append_assoc tokens ((next_token s.cursor).0 ∷ []) (front n (next_token s.cursor).1)) so_far)
+    (λ b. unfit (subst BeginsPiece (sym (append_assoc tokens ((next_token s.cursor).0 ∷ []) (front (suc n) (next_token s.cursor).1))) b))
+
+none_taken : (file : List ℕ) (s : State) → AllAreTaken file 0 s
+none_taken file s m less = absurd (omega arith)
+
+-- one token is judged, if reading leads on from behind each token that is taken
+step : (file : List ℕ) (tokens : List Spelled) (may_come : Spelled → Bool) (s : State)
+    → turn file s ≡ stand (record s { cursor = (next_token s.cursor).1 }) (judged file (may_come (next_token s.cursor).0) (next_token s.cursor).0 (at_hand s.reading) s.work)
+    → At tokens may_come (at_hand s.reading)
+    → ((next : State) → next ≡ taking file s → fits grammar known (atom_of (next_token s.cursor).0) (at_hand s.reading).stack ≡ true → At (tokens ++ (next_token s.cursor).0 ∷ []) (has_come next.reading.unit) next.reading → Leads file (tokens ++ (next_token s.cursor).0 ∷ []) next)
+    → Leads file tokens s
+step file tokens may_come s turns at later = by_come (may_come t) refl (fits grammar known (atom_of t) r.stack) refl
+  where
+    t : Spelled
+    t = (next_token s.cursor).0
+
+    r : Reading
+    r = at_hand s.reading
+
+    there : Stand → State
+    there x = stand (record s { cursor = (next_token s.cursor).1 }) x
+
+    by_come : (c : Bool) → may_come t ≡ c → (f : Bool) → fits grammar known (atom_of t) r.stack ≡ f → Leads file tokens s
+    by_come true c true f =
+        let takes : turn file s ≡ taking file s = turns ∙ ap (λ b. there (cond b (took file t r s.work) (bad file t r s.work))) (ap (λ b. b && fits grammar known (atom_of t) r.stack) c ∙ f) in
+        let standing : (turn file s).reading ≡ (taking file s).reading = ap (λ x. x.reading) takes in
+        extend file tokens s takes (later (turn file s) takes f (goes tokens may_come r (turn file s).reading t at c f standing))
+    by_come true c false f =
+        let out = ap (λ b. b && fits grammar known (atom_of t) r.stack) c ∙ f in
+        ToABadToken 0 (none_taken file s) (turns ∙ ap (λ b. there (cond b (took file t r s.work) (bad file t r s.work))) out)
+        (subst BeginsPiece (sym (append-nil tokens)) (begins tokens may_come r at)) (stops tokens may_come r t at out)
+    by_come false c f g =
+        let out = ap (λ b. b && fits grammar known (atom_of t) r.stack) c in
+        ToABadToken 0 (none_taken file s) (turns ∙ ap (λ b. there (cond b (took file t r s.work) (bad file t r s.work))) out)
+        (subst BeginsPiece (sym (append-nil tokens)) (begins tokens may_come r at)) (stops tokens may_come r t at out)
+
+-- the end fits nowhere, so a token that fits leaves less of the source
+end_is : (k : TokenKind) (bytes : List ℕ) → is_end k ≡ true → atom_of_kind k bytes ≡ end_atom
+end_is kind.End bytes e = refl
+end_is (kind.Mark m) bytes e = cc
+end_is kind.Name bytes e = cc
+end_is kind.Text bytes e = cc
+end_is kind.UnclosedText bytes e = cc
+end_is kind.Unfit bytes e = cc
+
+fits_no_end : (t : Spelled) (stack : List (Symbol Action)) → fits grammar known (atom_of t) stack ≡ true → is_end t.kind ≡ true → ⊥
+fits_no_end t stack f e =
+    let both : true ≡ false = sym f ∙ ap (λ atom. fits grammar known atom stack) (end_is t.kind t.bytes e) ∙ end_fits_nothing stack in cc
+
+shorter : (file : List ℕ) (m : ℕ) (s next : State) → length s.cursor.rest < suc m → next ≡ taking file s → fits grammar known (atom_of (next_token s.cursor).0) (at_hand s.reading).stack ≡ true → length next.cursor.rest < m
+shorter file m s next less is f =
+    let fewer : length (next_token s.cursor).1.rest < length s.cursor.rest =
+    less_behind (length s.cursor.rest) (next_token s.cursor) (next_moves s.cursor) (fits_no_end (next_token s.cursor).0 (at_hand s.reading).stack f) in
+    let same : length next.cursor.rest ≡ length (next_token s.cursor).1.rest = ap (λ x. length x.cursor.rest) is in
+    omega (arith, fewer, same, less)
+
+-- inside of a piece
+inside : (file : List ℕ) (m : ℕ) (tokens : List Spelled) (s : State) → At tokens (has_come s.reading.unit) s.reading → length s.cursor.rest < m → Leads file tokens s
+inside file zero tokens s at less = absurd (omega arith)
+inside file (suc m) tokens s at less =
+    by_stack (λ next is f on. inside file m (tokens ++ (next_token s.cursor).0 ∷ []) next on (shorter file m s next less is f)) s.reading.stack refl
+  where
+    t : Spelled
+    t = (next_token s.cursor).0
+
+    there : Stand → State
+    there x = stand (record s { cursor = (next_token s.cursor).1 }) x
+
+    by_stack : ((next : State) → next ≡ taking file s → fits grammar known (atom_of t) (at_hand s.reading).stack ≡ true → At (tokens ++ t ∷ []) (has_come next.reading.unit) next.reading → Leads file (tokens ++ t ∷ []) next)
+        → (stack : List (Symbol Action)) → s.reading.stack ≡ stack → Leads file tokens s
+    by_stack later [] e = ToItsEnd 0 (none_taken file s) at.reads e refl (subst IsPiece (sym (append-nil tokens)) (ends tokens (has_come s.reading.unit) s.reading at e))
+    by_stack later (symbol ∷ symbols) e =
+        let same : s.reading ≡ at_hand s.reading = sym (ap (λ stack. at_hand_by stack s.reading) e) in
+        let turns : turn file s ≡ there (judged file (has_come s.reading.unit t) t (at_hand s.reading) s.work) =
+        ap (λ m. there (step_in m file t s.reading s.work)) at.reads
+        ∙ ap (λ stack. there (read_at file t stack s.reading s.work)) e
+        ∙ ap (λ r. there (judged file (has_come s.reading.unit t) t r s.work)) same in
+        step file tokens (has_come s.reading.unit) s turns (subst (λ r. At tokens (has_come s.reading.unit) r) same at) later
+
+-- between the pieces
+nothing_read : (r : Reading) → r.mode ≡ mode.Reads → At [] begins_piece (piece_begun r)
+nothing_read r reads = record {
+  reads = reads;
+  is_read = record { r = record { events = []; left = piece }; is_read = refl; leaves = refl };
+  so_far = refl;
+  on = λ t more. refl;
+}
+
+pub pieces_are_read : PiecesAreRead
+pieces_are_read file s reads empty going =
+    let t : Spelled = (next_token s.cursor).0 in
+    let same : piece_begun s.reading ≡ at_hand s.reading = sym (ap (λ stack. at_hand_by stack s.reading) empty) in
+    let behind_t : State = record s { cursor = (next_token s.cursor).1 } in
+    let over : Stand = record { reading = record s.reading { mode = mode.Ended }; work = s.work } in
+    let turns : turn file s ≡ stand behind_t (judged file (begins_piece t) t (at_hand s.reading) s.work) =
+    ap (λ m. stand behind_t (step_in m file t s.reading s.work)) reads
+    ∙ ap (λ stack. stand behind_t (read_at file t stack s.reading s.work)) empty
+    ∙ ap (λ b. stand behind_t (cond b over (judged file (begins_piece t) t (piece_begun s.reading) s.work))) going
+    ∙ ap (λ r. stand behind_t (judged file (begins_piece t) t r s.work)) same in
+    step file [] begins_piece s turns (subst (λ r. At [] begins_piece r) same (nothing_read s.reading reads))
+    (λ next is f on. inside file (length s.cursor.rest) (t ∷ []) next on (shorter file (length s.cursor.rest) s next (omega arith) is f))
+
+-- What pieces begin
+
+pub pieces_begin : PiecesBegin
+pieces_begin tokens p = record { has_come = p.has_come; begins = (p.events, [], p.is_text) }
+
+have_come_front : (u : Unit) (tokens : List Spelled) (n : ℕ) → have_come u tokens ≡ true → have_come u (take n tokens) ≡ true
+have_come_front u tokens zero h = refl
+have_come_front u [] (suc n) h = refl
+have_come_front u (t ∷ tokens) (suc n) h =
+    let both = and_parts (has_come u t) (have_come (unit_behind t u) tokens) h in
+    and_from (has_come u t) (have_come (unit_behind t u) (take n tokens)) both.0 (have_come_front (unit_behind t u) tokens n both.1)
+
+piece_front : (tokens : List Spelled) (n : ℕ) → is_piece_come tokens ≡ true → is_piece_come (take n tokens) ≡ true
+piece_front tokens zero h = refl
+piece_front [] (suc n) h = refl
+piece_front (t ∷ tokens) (suc n) h =
+    let both = and_parts (begins_piece t) (have_come (unit_behind t no_unit) tokens) h in
+    and_from (begins_piece t) (have_come (unit_behind t no_unit) (take n tokens)) both.0 (have_come_front (unit_behind t no_unit) tokens n both.1)
+
+-- what is read on is read up to there
+read_before : (o : Option (Read Action)) (atoms : List ℕ) → is_some (read_on grammar known o atoms) ≡ true → is_some o ≡ true
+read_before (Some r) atoms h = refl
+read_before None atoms h = h
+
+pub fronts_begin : FrontsBegin
+fronts_begin tokens n b = record {
+  has_come = piece_front tokens n b.has_come;
+  begins = (bad_tokens_begin_nothing grammar known piece_rule (map atom_of (take n tokens)) language_is_decided).0
+      (read_before (read grammar known piece (map atom_of (take n tokens))) (map atom_of (drop n tokens)) whole);
+}
+  where
+    all : is_some (read grammar known piece (map atom_of tokens)) ≡ true
+    all = (bad_tokens_begin_nothing grammar known piece_rule (map atom_of tokens) language_is_decided).1 b.begins
+
+    whole : is_some (read_on grammar known (read grammar known piece (map atom_of (take n tokens))) (map atom_of (drop n tokens))) ≡ true
+    whole =
+        ap is_some (sym (read_append grammar known piece (map atom_of (take n tokens)) (map atom_of (drop n tokens))))
+        ∙ ap (λ atoms. is_some (read grammar known piece atoms)) (sym (map-append atom_of (take n tokens) (drop n tokens)))
+        ∙ ap (λ ts. is_some (read grammar known piece (map atom_of ts))) (take-append-drop n tokens)
+        ∙ all
+
+-- What is faulty by itself
+
+long_name : (b : Bool) (bytes : List ℕ) (m : Message) → cond b None (Some LongName) ≡ Some m → cond b (name_atom bytes) bad_atom ≡ bad_atom
+long_name true bytes m h = cc
+long_name false bytes m h = refl
+
+bad_text : (r : Result (List TextItem) TextFault) (m : Message) → text_fault_of r ≡ Some m → cond (is_some (fit_characters r)) text_atom bad_atom ≡ bad_atom
+bad_text (Ok items) m h = cc
+bad_text (Err e) m h = refl
+
+faulty_is_bad : (k : TokenKind) (bytes : List ℕ) (m : Message) → fault_of_kind k bytes ≡ Some m → atom_of_kind k bytes ≡ bad_atom
+faulty_is_bad kind.Name bytes m h = long_name (nat_le (length bytes) longest_name) bytes m h
+faulty_is_bad kind.Text bytes m h = bad_text (characters bytes) m h
+faulty_is_bad kind.UnclosedText bytes m h = refl
+faulty_is_bad kind.Unfit bytes m h = refl
+faulty_is_bad (kind.Mark mark) bytes m h = cc
+faulty_is_bad kind.End bytes m h = cc
+
+pub faulty_tokens_fit_nothing : FaultyTokensFitNothing
+faulty_tokens_fit_nothing t m stack h =
+    ap (λ atom. fits grammar known atom stack) (faulty_is_bad t.kind t.bytes m h) ∙ bad_fits_nothing stack

@@ -1,0 +1,91 @@
+-- The pieces of a source, and how reading leads through one: what is told as bad is the first token with which a piece's tokens
+-- begin no piece.
+use Rattle.std.specs.Prelude.{◌≡◌, ℕ, ◌<◌, List, [], ◌∷◌, ◌++◌, map, take, true, false, zero, suc, Some}
+use Rattle.inf_token.specs.Spelling.{Spelled, Cursor, next_token, is_end}
+use Rattle.inf_symbol.specs.Messages.{Message}
+use Rattle.inf_grammar.specs.declared.actions.Action.{Action}
+use Rattle.inf_machine.specs.declared.symbols.Symbol.{Symbol}
+use Rattle.inf_machine.specs.declared.symbols.Symbol.TheVariants.{Rule}
+use Rattle.inf_machine.specs.Grammar.{Event, IsText, Begins}
+use Rattle.inf_grammar.specs.Language.{grammar, known}
+use Rattle.inf_machine.specs.Machine.{fits}
+use Rattle.inf_reader.specs.Tests.{fault_of, atom_of}
+use Rattle.inf_reader.specs.Selection.{is_piece_come}
+use Rattle.inf_reader.specs.Reading.{Reading, State, piece_rule, piece_begun, took, bad, stand, turn, run, has_ended}
+use Rattle.inf_reader.specs.declared.mode.Mode.TheVariants as mode
+
+-- The tokens are a piece: a text of the grammar's rule for pieces, of what has come.
+pub record IsPiece (tokens : List Spelled) : Type 0 where
+  pub has_come : is_piece_come tokens ≡ true
+  pub events : List (Event Action)
+  pub is_text : IsText grammar (Rule piece_rule ∷ []) (map atom_of tokens) events
+
+-- They begin one, as far as they go.
+pub record BeginsPiece (tokens : List Spelled) : Type 0 where
+  pub has_come : is_piece_come tokens ≡ true
+  pub begins : Begins grammar (Rule piece_rule ∷ []) (map atom_of tokens)
+
+-- The tokens from a place on
+
+-- the first n tokens that are read from here one after another
+abbrev pub front : ℕ → Cursor → List Spelled
+front zero c = []
+front (suc n) c = let t = next_token c in t.0 ∷ front n t.1
+
+-- where they end
+abbrev pub behind : ℕ → Cursor → Cursor
+behind zero c = c
+behind (suc n) c = behind n (next_token c).1
+
+-- n turns of reading
+abbrev pub turned : List ℕ → ℕ → State → State
+turned file zero s = s
+turned file (suc n) s = turned file n (turn file s)
+
+-- the piece that is at hand at a token: a new one where there was none
+abbrev pub at_hand_by : List (Symbol Action) → Reading → Reading
+at_hand_by [] r = piece_begun r
+at_hand_by (_ ∷ _) r = r
+
+abbrev pub at_hand : Reading → Reading
+at_hand r = at_hand_by r.stack r
+
+-- the next token is taken: the actions on the way to it act, and the grammar's machine goes on behind it
+abbrev pub taking : List ℕ → State → State
+taking file s = let t = next_token s.cursor in stand (record s { cursor = t.1 }) (took file t.0 (at_hand s.reading) s.work)
+
+-- it is told as bad, and is the first that is passed over
+abbrev pub telling : List ℕ → State → State
+telling file s = let t = next_token s.cursor in stand (record s { cursor = t.1 }) (bad file t.0 (at_hand s.reading) s.work)
+
+-- each of the next n tokens is taken
+abbrev pub AllAreTaken : List ℕ → ℕ → State → Type 0
+AllAreTaken file n s = (m : ℕ) → m < n → turned file (suc m) s ≡ taking file (turned file m s)
+
+-- Where reading leads, behind some tokens of a piece: all its other tokens are taken, to its end, where no piece is at hand; or the
+-- tokens up to the bad one are, which is told, and is the first with which the tokens begin no piece.
+pub data Leads (file : List ℕ) (before : List Spelled) (s : State) : Type 0 where
+  ToItsEnd : (n : ℕ) → AllAreTaken file n s → (turned file n s).reading.mode ≡ mode.Reads → (turned file n s).reading.stack ≡ [] → (turned file n s).cursor ≡ behind n s.cursor → IsPiece (before ++ front n s.cursor) → Leads file before s
+  ToABadToken : (n : ℕ) → AllAreTaken file n s → turned file (suc n) s ≡ telling file (turned file n s) → BeginsPiece (before ++ front n s.cursor) → (BeginsPiece (before ++ front (suc n) s.cursor) → ⊥) → Leads file before s
+
+-- Between the pieces of a source, before its end, reading leads through a piece or to the bad token.
+abbrev pub PiecesAreRead : Type 0
+PiecesAreRead =
+    (file : List ℕ) (s : State) → s.reading.mode ≡ mode.Reads → s.reading.stack ≡ [] → is_end (next_token s.cursor).0.kind ≡ false → Leads file [] s
+
+-- A token that is faulty by itself fits nowhere.
+abbrev pub FaultyTokensFitNothing : Type 0
+FaultyTokensFitNothing =
+    (t : Spelled) (m : Message) (stack : List (Symbol Action)) → fault_of t ≡ Some m → fits grammar known (atom_of t) stack ≡ false
+
+-- A piece begins one, and so does each front of what begins one.
+abbrev pub PiecesBegin : Type 0
+PiecesBegin = (tokens : List Spelled) → IsPiece tokens → BeginsPiece tokens
+
+abbrev pub FrontsBegin : Type 0
+FrontsBegin = (tokens : List Spelled) (n : ℕ) → BeginsPiece tokens → BeginsPiece (take n tokens)
+
+-- The turns are those that reading makes, as long as it has not ended.
+abbrev pub TurnsAreRead : Type 0
+TurnsAreRead =
+    (file : List ℕ) (n : ℕ) (s : State) → ((m : ℕ) → m < n → has_ended (turned file m s) ≡ false) → run file n s ≡ turned file n s

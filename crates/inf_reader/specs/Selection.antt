@@ -1,0 +1,103 @@
+-- What of the grammar of the whole language this compiler reads so far.
+-- The grammar has more than there are effects for. A piece of source has come if it is a routine, and a statement if it is one of these:
+--     ";" | "print" Text {"," Text} ";" | ("new_line" | "quit" | "rtrue" | "rfalse") ";" | "return" [Name] ";"
+--     | Name "(" [Name {"," Name}] ")" ";"
+-- A token that would lead to anything else is bad. So the words of all statements are keywords where a statement begins.
+use Rattle.std.specs.Prelude.{ℕ, List, [], ◌∷◌, ◌++◌, codes, Bool, true, false, not, ◌||◌, ◌&&◌, if◌then◌else◌, Option, Some, None}
+use Rattle.std.specs.List.{list_any}
+use Rattle.std.specs.Str.{str_eq_ignore_ascii_case}
+use Rattle.inf_token.specs.Spelling.{Spelled, is_mark}
+use Rattle.inf_token.specs.declared.spelling.Mark.TheVariants as mark
+use Rattle.inf_token.specs.declared.spelling.TokenKind.{TokenKind}
+use Rattle.inf_token.specs.declared.spelling.TokenKind.TheVariants as kind
+use Rattle.inf_reader.specs.Tests.{is_word, is_operand}
+use Rattle.inf_reader.specs.declared.selection.Statement.{Statement}
+use Rattle.inf_reader.specs.declared.selection.Statement.TheVariants as statement
+
+-- The tokens of the unit at hand so far, and the last of them. A unit goes up to a semicolon or a closing bracket.
+pub record Unit : Type 0 where
+  pub tokens : List Spelled
+  pub last : Option Spelled
+
+abbrev pub no_unit : Unit
+no_unit = record { tokens = []; last = None }
+
+abbrev pub ends_unit : Spelled → Bool
+ends_unit t = is_mark mark.Semicolon t.kind || is_mark mark.CloseBracket t.kind
+
+-- the unit behind one token more
+abbrev pub unit_behind : Spelled → Unit → Unit
+unit_behind t u = if ends_unit t then no_unit else record { tokens = u.tokens ++ t ∷ []; last = Some t }
+
+-- what a statement is that begins with this token
+abbrev pub statement_of : Spelled → Statement
+statement_of t =
+    if is_word (codes "print") t then statement.Print else
+    if is_word (codes "return") t then statement.Return else
+    if is_word (codes "new_line") t then statement.NewLine else
+    if is_word (codes "quit") t then statement.Quit else
+    if is_word (codes "rtrue") t then statement.ReturnTrue else
+    if is_word (codes "rfalse") t then statement.ReturnFalse else statement.Call
+
+-- the words of the statements that have not come
+abbrev pub later_words : List (List ℕ)
+later_words =
+    codes "if" ∷ codes "do" ∷ codes "for" ∷ codes "else" ∷ codes "give" ∷ codes "jump" ∷ codes "move" ∷ codes "break"
+    ∷ codes "style" ∷ codes "while" ∷ codes "remove" ∷ codes "spaces" ∷ codes "string" ∷ codes "switch" ∷ codes "continue"
+    ∷ codes "print_ret" ∷ codes "objectloop" ∷ []
+
+abbrev pub is_later_word : List ℕ → Bool
+is_later_word bytes = list_any (λ word. str_eq_ignore_ascii_case bytes word) later_words
+
+abbrev pub is_text : TokenKind → Bool
+is_text kind.Text = true
+is_text _ = false
+
+-- whether a token may stand at the front of a statement, or be the bracket that ends the routine
+abbrev pub begins_statement : TokenKind → List ℕ → Bool
+begins_statement kind.Name bytes = not (is_later_word bytes)
+begins_statement k bytes = is_mark mark.Semicolon k || is_mark mark.CloseBracket k
+
+-- whether the last token closes a call
+abbrev pub is_closed : Option Spelled → Bool
+is_closed None = false
+is_closed (Some t) = is_mark mark.CloseParenthesis t.kind
+
+-- behind the name of what is called only its bracket has come, and behind the closing one only the end
+abbrev pub goes_on_call : List Spelled → Option Spelled → Spelled → Bool
+goes_on_call [] last t = is_mark mark.OpenParenthesis t.kind
+goes_on_call (_ ∷ _) last t =
+    if is_closed last then is_mark mark.Semicolon t.kind
+    else is_operand t || is_mark mark.Comma t.kind || is_mark mark.CloseParenthesis t.kind
+
+-- right behind `print` only a text has come
+abbrev pub goes_on_print : List Spelled → Spelled → Bool
+goes_on_print [] t = is_text t.kind
+goes_on_print (_ ∷ _) t = is_text t.kind || is_mark mark.Comma t.kind || is_mark mark.Semicolon t.kind
+
+abbrev pub goes_on : Statement → List Spelled → Option Spelled → Spelled → Bool
+goes_on statement.Print rest last t = goes_on_print rest t
+goes_on statement.Return rest last t = is_operand t || is_mark mark.Semicolon t.kind
+goes_on statement.Call rest last t = goes_on_call rest last t
+goes_on _ rest last t = is_mark mark.Semicolon t.kind
+
+-- whether a token may go on with a unit that begins so, as far as what has come goes; in a header all may
+abbrev pub has_come_behind : List Spelled → Option Spelled → Spelled → Bool
+has_come_behind [] last t = begins_statement t.kind t.bytes
+has_come_behind (first ∷ rest) last t = is_mark mark.OpenBracket first.kind || goes_on (statement_of first) rest last t
+
+abbrev pub has_come : Unit → Spelled → Bool
+has_come u t = has_come_behind u.tokens u.last t
+
+-- whether a list of tokens, behind those of a unit, goes on with what has come
+abbrev pub have_come : Unit → List Spelled → Bool
+have_come u [] = true
+have_come u (t ∷ tokens) = has_come u t && have_come (unit_behind t u) tokens
+
+-- a piece that has come is a routine
+abbrev pub begins_piece : Spelled → Bool
+begins_piece t = is_mark mark.OpenBracket t.kind
+
+abbrev pub is_piece_come : List Spelled → Bool
+is_piece_come [] = true
+is_piece_come (t ∷ tokens) = begins_piece t && have_come (unit_behind t no_unit) tokens

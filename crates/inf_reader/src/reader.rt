@@ -1,0 +1,69 @@
+//! How a source is read: the machine of the grammar, and how bad pieces are passed over.
+ghost use Rattle.std.specs.Prelude.{◌≡◌, [], OnOk, true};
+ghost use Rattle.inf_grammar.specs.Language.{grammar, known};
+ghost use Rattle.inf_machine.specs.Machine.{fits, taken};
+ghost use Rattle.inf_reader.specs.Reading.{between, passed, skip_of, piece_begun};
+ghost use Rattle.inf_reader.specs.Sessions.{reading};
+ghost use Rattle.inf_reader.specs.declared.mode.Mode.TheVariants as mode;
+
+use crate::mode::{Mode, passed};
+use crate::selection::Unit;
+use inf_grammar::{Action, Machine, PIECE};
+use inf_token::spelling::TokenKind;
+use std::alloc::{AllocError, Global};
+
+/// How the next token is read, what of the piece at hand is still to come, and the unit at hand.
+#[derive(Drop)]
+pub struct Reader<'a> {
+    pub mode: Mode,
+    pub machine: Machine,
+    pub unit: Unit<'a>,
+}
+
+impl<'a> Reader<'a> {
+    /// Before the first piece.
+    pub fn new(alloc: Global) -> Reader<'a>
+        ensures { reading result ≡ between mode.Reads }
+    {
+        Reader {
+            mode: Mode::Reads,
+            machine: Machine::new(alloc),
+            unit: Unit::new(alloc),
+        }
+    }
+
+    /// A piece begins, where none is at hand.
+    pub fn begin(&mut self) -> Result<(), AllocError>
+        requires { (reading self.old).stack ≡ [] }
+        ensures { OnOk result (reading self.new ≡ piece_begun (reading self.old)) }
+    {
+        self.unit.clear();
+        self.machine.start(PIECE)
+    }
+
+    /// Takes a token that fits, with the actions on the way to it.
+    pub fn take(&mut self, atom: u8, actions: &mut Vec<Action>) -> Result<(), AllocError>
+        requires { fits grammar known atom (reading self.old).stack ≡ true }
+        ensures reading { let before = reading self.old in
+            OnOk result (reading self.new
+            ≡ record before { stack = (taken grammar known atom before.stack).left }) }
+        ensures actions { OnOk result (actions.new.items ≡ (taken grammar known atom (reading self.old).stack).actions) }
+    {
+        actions.clear();
+        self.machine.take(atom, actions)
+    }
+
+    /// The piece at hand is bad: it is given up, and its bad token passed over.
+    pub fn give_up(&mut self, token: TokenKind)
+        ensures { reading self.new ≡ between (passed (skip_of (reading self.old).stack) token) }
+    {
+        let skip = if self.machine.is_in_routine() {
+            Mode::SkipsRoutine
+        } else {
+            Mode::SkipsDirective
+        };
+        self.mode = passed(skip, token);
+        self.machine.clear();
+        self.unit.clear();
+    }
+}
