@@ -216,6 +216,13 @@ class Facts:
                 return total + 1
         return total
 
+    def actions_past(self, row):
+        """How many actions are on the way through a row that can be empty."""
+        return sum(self.actions_past(self.empty_row(part)) if part in self.rules else 1 for part in row)
+
+    def empty_row(self, rule):
+        return next(row for row in self.rules[rule] if self.beginning(row)[1])
+
 
 # Names in the tables
 
@@ -415,7 +422,7 @@ class Tables:
             for row in alternatives:
                 begins, empty = self.facts.beginning(row)
                 span = span_code(len(parts), len(parts) + len(row))
-                other = span if empty else other
+                other = span if empty and self.facts.actions_past(row) else other
                 rows.append(f"Row {{ begins: {set_code(begins)}, parts: {span} }}")
                 parts += [self.part_code(part) for part in reversed(row)]
             rules.append(f"Rule {{ begins: {set_code(self.facts.begins[rule])}, is_empty: {str(self.facts.empty[rule]).lower()}, "

@@ -7,13 +7,16 @@ use Rattle.inf_grammar.specs.declared.rules.Row.{Row as CodeRow}
 use Rattle.inf_grammar.specs.declared.rules.Rule.{Rule as CodeRule}
 use Rattle.inf_machine.specs.Grammar.{Row, has}
 use Rattle.inf_grammar.specs.declared.actions.Action.{Action}
-use Rattle.inf_machine.specs.Machine.{empty_row, row_for, fits}
+use Rattle.inf_machine.specs.Machine.{row_for, fits, passed_row, way}
 use Rattle.inf_machine.specs.Decided.{beginning}
 use Rattle.inf_grammar.specs.Language.{grammar, known, rules}
 use Rattle.inf_grammar.specs.Classes.{classes}
 use Rattle.inf_grammar.specs.Facts.{beginnings, empties}
-use Rattle.inf_grammar.specs.Tables.{all_classes, all_parts, all_rows, all_rules, set_number, cut, found}
-use Rattle.inf_machine.proofs.Rows.{fits_is_begun}
+use Rattle.inf_grammar.specs.Tables.{all_classes, all_parts, all_rows, all_rules, set_number, cut, found, span_for}
+use Rattle.std.proofs.lemmas.Bool.{cond-true, cond-false}
+use Rattle.inf_machine.proofs.Rows.{fits_is_begun, none_chooses_other}
+use Rattle.inf_machine.proofs.Deciding.{decided_parts}
+use Rattle.inf_grammar.specs.Evaluated.{language_is_decided}
 
 -- a row by the atoms that begin it and its parts in order
 pub record RowView : Type 0 where
@@ -37,7 +40,7 @@ abbrev pub row_of : Row Action → RowView
 row_of row = record { begins = beginning grammar known row.parts; parts = row.parts }
 
 abbrev pub rule_of : List (Row Action) → ℕ → Bool → RuleView
-rule_of rows begins is_empty = record { begins = begins; is_empty = is_empty; rows = map row_of rows; other = empty_row known rows }
+rule_of rows begins is_empty = record { begins = begins; is_empty = is_empty; rows = map row_of rows; other = passed_row grammar known rows }
 
 abbrev pub rules_of : List (List (Row Action)) → List ℕ → List Bool → List RuleView
 rules_of [] _ _ = []
@@ -81,13 +84,13 @@ pub record IsRule (rule : CodeRule) (at : ℕ) : Type 0 where
   pub begins : set_number rule.begins ≡ known.begins at
   pub empty : rule.is_empty ≡ known.is_empty at
   pub rows : map row_view (cut rule.rows all_rows) ≡ map row_of (grammar.rows_of at)
-  pub other : reverse (cut rule.other all_parts) ≡ empty_row known (grammar.rows_of at)
+  pub other : reverse (cut rule.other all_parts) ≡ passed_row grammar known (grammar.rows_of at)
 
 record IsRuleOf (rule : CodeRule) (rows : List (Row Action)) (b : ℕ) (e : Bool) : Type 0 where
   begins : set_number rule.begins ≡ b
   empty : rule.is_empty ≡ e
   same_rows : map row_view (cut rule.rows all_rows) ≡ map row_of rows
-  other : reverse (cut rule.other all_parts) ≡ empty_row known rows
+  other : reverse (cut rule.other all_parts) ≡ passed_row grammar known rows
 
 rule_at : (code : List CodeRule) (rs : List (List (Row Action))) (bs : List ℕ) (es : List Bool) → map rule_view code ≡ rules_of rs bs es → (at : ℕ) (d : CodeRule) → at < length code → IsRuleOf (get_or code at d) (get_or rs at []) (get_or bs at 0) (get_or es at false)
 rule_at [] rs bs es e at d l = absurd (omega arith)
@@ -131,3 +134,22 @@ found_is_chosen atom other (c ∷ code) (r ∷ rows) e =
     by_test false false q p r' = r'
     by_test true false q p r' = cc
     by_test false true q p r' = cc
+
+-- What stands for a rule in the program is what the machine puts in its place
+
+pub span_is_way : (atom at : ℕ) (rule : CodeRule) → IsRule rule at → reverse (cut (span_for rule atom) all_parts) ≡ way grammar known atom at
+span_is_way atom at rule is = by_begun (has (set_number rule.begins) atom) refl
+  where
+    rows : List (Row Action)
+    rows = grammar.rows_of at
+
+    by_begun : (b : Bool) → has (set_number rule.begins) atom ≡ b → reverse (cut (span_for rule atom) all_parts) ≡ way grammar known atom at
+    by_begun true e =
+        ap (λ s. reverse (cut s all_parts)) (cond-true (has (set_number rule.begins) atom) (found atom rule.other (cut rule.rows all_rows)) rule.other e)
+        ∙ found_is_chosen atom rule.other (cut rule.rows all_rows) rows is.rows
+        ∙ ap (λ other. row_for grammar known atom other rows) is.other
+    by_begun false e =
+        let none = ap (λ s. has s atom) (decided_parts grammar known at (language_is_decided at)).whole ∙ ap (λ n. has n atom) (sym is.begins) ∙ e in
+        ap (λ s. reverse (cut s all_parts)) (cond-false (has (set_number rule.begins) atom) (found atom rule.other (cut rule.rows all_rows)) rule.other e)
+        ∙ is.other
+        ∙ sym (none_chooses_other grammar known atom (passed_row grammar known rows) rows none)

@@ -1,5 +1,6 @@
 pub mod At
 pub mod Atoms
+pub mod Brackets
 pub mod Classes
 pub mod Evaluated
 pub mod Facts

@@ -9,7 +9,7 @@ use Rattle.inf_grammar.specs.declared.rules.Row.{Row as CodeRow}
 use Rattle.inf_grammar.specs.declared.rules.Rule.{Rule as CodeRule}
 use Rattle.inf_machine.specs.Grammar.{Row, has}
 use Rattle.inf_grammar.specs.declared.actions.Action.{Action}
-use Rattle.inf_machine.specs.Machine.{can_end}
+use Rattle.inf_machine.specs.Machine.{can_end, empty_row, is_silent, depth}
 use Rattle.inf_machine.specs.Decided.{beginning}
 use Rattle.inf_grammar.specs.Language.{grammar, known, rules}
 use Rattle.inf_grammar.specs.Classes.{classes}
@@ -58,12 +58,16 @@ other_from place [] = span 0 0
 other_from place (row ∷ rows) =
     if can_end known row.parts then span place (length row.parts) else other_from (place + length row.parts) rows
 
+-- where the parts stand that are put in place of a rule that is passed over
+abbrev pub passed_from : ℕ → List (Row Action) → Span
+passed_from place rows = if is_silent grammar known depth (empty_row known rows) then span 0 0 else other_from place rows
+
 abbrev pub rules_from : ℕ → ℕ → List (List (Row Action)) → List ℕ → List Bool → List CodeRule
 rules_from first place [] _ _ = []
 rules_from first place (rows ∷ rest) [] _ = []
 rules_from first place (rows ∷ rest) (b ∷ bs) [] = []
 rules_from first place (rows ∷ rest) (b ∷ bs) (e ∷ es) =
-    record { begins = set_of b; is_empty = e; rows = span first (length rows); other = other_from place rows }
+    record { begins = set_of b; is_empty = e; rows = span first (length rows); other = passed_from place rows }
     ∷ rules_from (first + length rows) (place + length (parts_of rows)) rest bs es
 
 unfoldable pub all_rules : List CodeRule
@@ -88,6 +92,10 @@ cut s xs = if nat_le s.start s.end && nat_le s.end (length xs) then take (s.end 
 abbrev pub found : ℕ → Span → List CodeRow → Span
 found atom other [] = other
 found atom other (row ∷ rows) = if has (set_number row.begins) atom then row.parts else found atom other rows
+
+-- where the parts are that stand for a rule before an atom
+abbrev pub span_for : CodeRule → ℕ → Span
+span_for rule atom = if has (set_number rule.begins) atom then found atom rule.other (cut rule.rows all_rows) else rule.other
 
 -- Words by their first letters
 

@@ -23,8 +23,12 @@ impl Table for Action {
         rules::can_be_empty(rule)
     }
 
-    fn chosen(rule: u8, atom: u8) -> &'static [Symbol<Action>] {
-        rules::chosen(rule, atom)
+    fn way(rule: u8, atom: u8) -> &'static [Symbol<Action>] {
+        rules::way(rule, atom)
+    }
+
+    fn passed(rule: u8) -> &'static [Symbol<Action>] {
+        rules::passed(rule)
     }
 
     ghost decided = { language_is_decided };

@@ -1,4 +1,5 @@
 //! Laws of the grammar of the language. Each function's contract is one; its body does nothing.
+ghost use Rattle.inf_grammar.specs.Brackets.{LeftRoutinesAreBracketed, OpenRoutinesAreBracketed};
 ghost use Rattle.inf_grammar.specs.Language.{grammar, known};
 ghost use Rattle.inf_grammar.specs.Sources.{SourcesHavePieces};
 ghost use Rattle.inf_machine.specs.Laws.{IsDecided};
@@ -12,4 +13,11 @@ pub fn language()
 /// after the next semicolon, and where a routine is open after the first semicolon behind the next `]`, or at the end.
 pub fn source_pieces()
     ensures { SourcesHavePieces }
+{}
+
+/// A routine is open behind tokens that begin a piece exactly where its bracket is: where the last bracket among them is an opening
+/// one, and the piece is no array's. So is it of what the machine has left to read behind tokens that it took.
+pub fn routines_are_bracketed()
+    ensures begun { OpenRoutinesAreBracketed }
+    ensures left { LeftRoutinesAreBracketed }
 {}

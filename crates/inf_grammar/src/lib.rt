@@ -21,7 +21,7 @@ mod words;
 pub use actions::Action;
 pub use atoms::{Token, atom_of};
 pub use inf_machine::{Symbol, bad_tokens, pieces, sources, texts};
-pub use laws::{language, source_pieces};
+pub use laws::{language, routines_are_bracketed, source_pieces};
 pub use machine::Machine;
 pub use marks::Mark;
 pub use starts::{ASSIGN, EXPRESSION, FILE, LOGIC, PIECE};

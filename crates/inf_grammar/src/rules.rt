@@ -2,8 +2,8 @@
 ghost use Rattle.std.specs.Prelude.{◌≡◌, reverse};
 ghost use Rattle.inf_machine.specs.Grammar.{has};
 ghost use Rattle.inf_grammar.specs.Language.{grammar, known};
-ghost use Rattle.inf_machine.specs.Machine.{chosen};
-ghost use Rattle.inf_grammar.specs.Tables.{all_classes, all_parts, all_rows, all_rules, cut, found, joined_words};
+ghost use Rattle.inf_machine.specs.Machine.{passed_row, way};
+ghost use Rattle.inf_grammar.specs.Tables.{all_classes, all_parts, all_rows, all_rules, cut, found, joined_words, span_for};
 
 use crate::actions::Action;
 use crate::table::{CLASSES, PARTS, ROWS, RULES};
@@ -36,7 +36,7 @@ pub(crate) struct Rule {
     pub(crate) begins: Set,
     pub(crate) is_empty: bool,
     pub(crate) rows: Span,
-    /// The parts of the row for any other atom, the one that can be empty.
+    /// The parts that stand for it before any other atom: those of the row that can be empty, or none where that has no action.
     pub(crate) other: Span,
 }
 
@@ -140,12 +140,33 @@ pub(crate) fn can_be_empty(rule: u8) -> bool
     }
 }
 
-/// The row of a rule that an atom chooses, its last part first.
-pub(crate) fn chosen(rule: u8, atom: u8) -> &'static [Symbol<Action>]
-    ensures { reverse result.now ≡ chosen grammar known atom rule }
+/// Where the parts are that stand for a rule before an atom. Only where the atom begins it are its rows looked at.
+fn span_for(rule: &Rule, atom: u8) -> Span
+    ensures { result ≡ span_for rule.now atom }
+{
+    if is_in(&rule.begins.0, atom) {
+        found(rows_at(rule.rows), rule.other, atom)
+    } else {
+        rule.other
+    }
+}
+
+/// What stands for a rule before an atom, its last part first.
+pub(crate) fn way(rule: u8, atom: u8) -> &'static [Symbol<Action>]
+    ensures { reverse result.now ≡ way grammar known atom rule }
 {
     match rules().get(rule as usize) {
-        Some(rule) => parts_at(found(rows_at(rule.rows), rule.other, atom)),
+        Some(rule) => parts_at(span_for(rule, atom)),
+        None => &[],
+    }
+}
+
+/// What stands for a rule that can be empty before an atom that does not begin it, its last part first.
+pub(crate) fn passed(rule: u8) -> &'static [Symbol<Action>]
+    ensures { reverse result.now ≡ passed_row grammar known (grammar.rows_of rule) }
+{
+    match rules().get(rule as usize) {
+        Some(rule) => parts_at(rule.other),
         None => &[],
     }
 }

@@ -9,7 +9,7 @@ use Rattle.inf_symbol.specs.Messages.{Blame, Declared}
 use Rattle.inf_symbol.specs.Names.{Named, declaration_of, folded, is_system_name}
 use Rattle.inf_symbol.specs.Locals.{Headed, Local, earlier, local_of, most_locals, no_locals, number_from, number_of, with_local_by, with_locals}
 use Rattle.inf_symbol.specs.declared.names.Declaration.{Declaration}
-use Rattle.inf_reader.specs.Units.{declared_fault, first_fault, header_fault, name_fault, operand_fault, operand_fault_by, operands_fault}
+use Rattle.inf_unit.specs.Units.{declared_fault, first_fault, header_fault, name_fault, operand_fault, operand_fault_by, operands_fault}
 use Rattle.inf_laws.specs.UnusedLocals.{is_local}
 use Rattle.inf_laws.specs.Findings.{CallsTellTheFirst, Finding, HeadersTellTheFirst, IsBefore, IsLeast, IsTold, ReturnsTellTheFirst, declared_before, declared_name, different, first_named, many_arguments, many_locals, repeated_local, repeated_locals, repeated_one, taken_name, system_operand, system_routine, too_many_arguments, too_many_locals, wrong_name, wrong_names}
 use Rattle.inf_laws.proofs.Choices.{either, either-none}

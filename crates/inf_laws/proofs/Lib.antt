@@ -4,3 +4,4 @@ pub mod UnusedLocals
 pub mod Findings
 pub mod NameEvents
 pub mod Skipping
+pub mod BadTokens

@@ -8,7 +8,7 @@ use Rattle.std.proofs.lemmas.List.Elements.{filter-append}
 use Rattle.inf_symbol.specs.Messages.{Reported, SystemName, Undeclared, with_error}
 use Rattle.inf_symbol.specs.Names.{Named, Standing, IsDeclared, IsUsed, declaration_in, declaration_of, folded, is_system_name, with_all_undeclared, with_declared, with_undeclared, with_used}
 use Rattle.inf_symbol.specs.declared.names.Declaration.{Declaration}
-use Rattle.inf_reader.specs.Units.{declared_fault, with_name}
+use Rattle.inf_unit.specs.Units.{declared_fault, with_name}
 use Rattle.inf_laws.specs.NameEvents.{Declares, Event, FirstDeclarationsCount, HeadersDeclare, OperandsUse, UndeclaredAreTold, Use, Uses, declares, first_declaration, undeclared_use, undeclared_uses, uses, with_event, with_events, with_uses_told}
 use Rattle.inf_laws.proofs.Choices.{cond-again, cond-swap, either, either-none, either-some, is_none, or-assoc, or-between, or-false, or-first, or-known, or-second}
 use Rattle.inf_laws.proofs.SameNames.{bytes_eq-sym, key_same, same_key}

@@ -6,7 +6,7 @@ use Rattle.inf_symbol.specs.Messages.{Blame, Declared, SystemName, WrongKind, To
 use Rattle.inf_symbol.specs.Names.{Named, folded, is_system_name, declaration_of}
 use Rattle.inf_symbol.specs.Locals.{Local, with_locals, no_locals}
 use Rattle.inf_symbol.specs.declared.names.Declaration.{Declaration}
-use Rattle.inf_reader.specs.Units.{call_fault, operand_fault, header_fault, name_fault}
+use Rattle.inf_unit.specs.Units.{call_fault, operand_fault, header_fault, name_fault}
 use Rattle.inf_laws.specs.UnusedLocals.{is_local}
 
 -- What a rule finds: at which token of the unit, counted from 0, the unit's first; the number of the kind of its message; and

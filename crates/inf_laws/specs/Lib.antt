@@ -2,3 +2,4 @@ pub mod UnusedLocals
 pub mod Findings
 pub mod NameEvents
 pub mod Skipping
+pub mod BadTokens

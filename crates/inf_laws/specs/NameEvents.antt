@@ -6,7 +6,7 @@ use Rattle.inf_token.specs.Spelling.{Spelled}
 use Rattle.inf_symbol.specs.Messages.{Reported, Undeclared, with_error}
 use Rattle.inf_symbol.specs.Names.{Named, folded, is_system_name, declaration_of, with_declared, with_used, with_all_undeclared}
 use Rattle.inf_symbol.specs.declared.names.Declaration.{Declaration}
-use Rattle.inf_reader.specs.Units.{Operands, name_fault, with_name, with_operand_by}
+use Rattle.inf_unit.specs.Units.{Operands, name_fault, with_name, with_operand_by}
 
 -- a name is declared, or used as it is spelled on a line
 pub data Event : Type 0 where

@@ -1,4 +1,5 @@
 //! What the definitions give together.
+ghost use Rattle.inf_laws.specs.BadTokens.{BadTokensArePassedOver};
 ghost use Rattle.inf_laws.specs.Findings.{CallsTellTheFirst, HeadersTellTheFirst, ReturnsTellTheFirst};
 ghost use Rattle.inf_laws.specs.NameEvents.{FirstDeclarationsCount, HeadersDeclare, OperandsUse, UndeclaredAreTold};
 ghost use Rattle.inf_laws.specs.Skipping.{DirectivesAreSkipped, RoutinesAreSkipped, SourcesEnd};
@@ -38,4 +39,10 @@ pub fn bad_pieces_are_skipped()
     ensures directives { DirectivesAreSkipped }
     ensures routines { RoutinesAreSkipped }
     ensures sources { SourcesEnd }
+{}
+
+/// A bad token of a piece is passed over as in a routine exactly where it stands behind the routine's opening bracket, and no
+/// closing one stands between them; everywhere else it is passed over as in a directive.
+pub fn bad_tokens_are_passed_over()
+    ensures { BadTokensArePassedOver }
 {}

@@ -1,24 +1,25 @@
--- Bytes with holes as cells: piece by piece, and with the holes filled.
-use Rattle.std.proofs.Common.{◌≡◌, ℕ, ◌+◌, ◌-◌, ◌/◌, ◌%◌, ◌≤◌, ◌<◌, List, [], ◌∷◌, ◌++◌, length, take, drop, get_or, refl, sym, ◌∙◌, ap, subst, arith, append_assoc, append-nil, length-append}
-use Rattle.std.proofs.lemmas.List.{map-append, take-append-drop, take-append-le, drop-append-le, length-drop, length-take-le, drop_more, set-append_right}
+-- Bytes with holes as cells: piece by piece, closed, and with the holes filled.
+use Rattle.std.proofs.Common.{◌≡◌, ℕ, ◌+◌, ◌-◌, ◌/◌, ◌%◌, ◌≤◌, ◌<◌, List, [], ◌∷◌, ◌++◌, length, take, drop, get_or, Option, Some, None, refl, sym, ◌∙◌, ap, subst, arith, append_assoc, append-nil, length-append}
+use Rattle.std.proofs.lemmas.List.{map-append, drop_all, take-append-drop, take-append-le, drop-append-le, length-drop, length-take-le, drop_more, set-append_right}
 use Rattle.std.proofs.lemmas.Grind.{flat_map-append}
 use Rattle.std.proofs.Math.ListN.{set}
 use Rattle.std.proofs.Math.Seq.{take-append-add, drop-append-add, set-append_seam}
-use Rattle.std.specs.List.{flat_map}
-use Rattle.inf_asm.specs.declared.instructions.Operand.{Operand}
-use Rattle.inf_asm.specs.declared.instructions.Operand.TheVariants.{Large, Small, Variable, Later}
-use Rattle.inf_asm.specs.declared.references.AreaName.TheVariants.{Code}
-use Rattle.inf_asm.specs.declared.references.Hole.{Hole}
-use Rattle.inf_asm.specs.declared.references.Reference.{Reference}
-use Rattle.inf_asm.specs.declared.routines.RoutineKind.{RoutineKind}
-use Rattle.inf_asm.specs.Contents.{Contents}
-use Rattle.inf_asm.specs.Instructions.{Parts, heading, operand_bytes, operand_size, tail_bytes, bytes, long_size}
-use Rattle.inf_asm.specs.Known.{filled}
-use Rattle.inf_asm.specs.Opcodes.{row_of}
-use Rattle.inf_asm.specs.Routines.{closed_items, routine_bytes, operand_holes, operands_holes, item_holes, items_holes, routine_holes}
-use Rattle.inf_asm.specs.Words.{word, with_word}
-use Rattle.inf_asm.proofs.Sizes.{length-operand, length-bytes}
-use Rattle.inf_layout.specs.Code.{CodeCell, Known, Awaited, known, size, operand_cells, item_cells, routine_cells, padded, number_in, cell_bytes, code_bytes, cells_from, AreInOrder}
+use Rattle.inf_area.specs.declared.references.Hole.{Hole}
+use Rattle.inf_area.specs.declared.references.Reference.{Reference}
+use Rattle.inf_area.specs.Words.{word, with_word}
+use Rattle.inf_opcode.specs.declared.cells.Special.{Special}
+use Rattle.inf_opcode.specs.declared.cells.Special.TheVariants.{Marks, Branches, Jumps, Refers}
+use Rattle.inf_opcode.specs.Cells.{Cell, Plain, Of, special_size}
+use Rattle.inf_assembler.specs.declared.routines.RoutineKind.{RoutineKind}
+use Rattle.inf_assembler.specs.Places.{Places, size_at, with_some, closed_special, joined, closed_bytes, hole_at, closed_holes}
+use Rattle.inf_assembler.specs.Routines.{Contents, long_places, places, closing, body_bytes, routine_holes}
+use Rattle.inf_assembler.proofs.Passes.{closed_size}
+use Rattle.inf_layout.specs.Code.{CodeCell, Known, Awaited, known, size, padded, number_in, cell_bytes, code_bytes, cells_from, AreInOrder, whole_bytes, cells_with, routine_cells}
+
+-- bytes whose holes are filled with the numbers of their references
+abbrev pub filled : (Reference → ℕ) → List Hole → List ℕ → List ℕ
+filled number_of [] bytes = bytes
+filled number_of (hole ∷ others) bytes = filled number_of others (with_word bytes hole.place (number_of hole.reference))
 
 -- the bytes of the padding behind so many bytes
 abbrev pub zeros_behind : ℕ → List ℕ
@@ -87,61 +88,62 @@ stands_for-append place middle holes more bytes new cells others at first second
 pub stands_for-known : (place : ℕ) (bytes : List ℕ) → StandsFor place [] bytes (known bytes)
 stands_for-known place bytes = record { in_order = omega arith; are = refl }
 
--- a hole and its two bytes
-stands_for-awaited : (place : ℕ) (reference : Reference) (high low : ℕ) → StandsFor place (record { area = Code; place = place; reference = reference } ∷ []) (high ∷ low ∷ []) (Awaited reference ∷ [])
-stands_for-awaited place reference high low =
-    let none : place - place ≡ 0 = omega arith in
-    let two : place + 2 - place ≡ 2 = omega arith in
-    let both = high ∷ low ∷ [] in
+-- holes that end before an end do so before a later one
+in_order-longer : (place middle end : ℕ) (holes : List Hole) → middle ≤ end → AreInOrder place holes middle → AreInOrder place holes end
+in_order-longer place middle end [] longer within = omega arith
+in_order-longer place middle end (hole ∷ holes) longer within = (within.0, in_order-longer (hole.place + 2) middle end holes longer within.1)
+
+-- what comes of something that may be none
+some_with : {A B : Type 0} (f : A → B) (o : Option A) (y : B) → with_some f o ≡ Some y → (x : A) × (o ≡ Some x) × (y ≡ f x)
+some_with f None y e = cc
+some_with f (Some x) y e = (x, refl, (cc))
+
+some_joined : (o others : Option (List ℕ)) (bytes : List ℕ) → joined o others ≡ Some bytes → (added : List ℕ) × (rest : List ℕ) × (o ≡ Some added) × (others ≡ Some rest) × (bytes ≡ added ++ rest)
+some_joined None others bytes e = cc
+some_joined (Some added) others bytes e =
+    let found = some_with (λ rest. added ++ rest) others bytes e in
+    (added, found.0, refl, found.1, found.2)
+
+-- the hole of a thing lies in its bytes
+hole_in_order : (long : Places) (old place : ℕ) (what : Special) → AreInOrder place (hole_at place what) (place + size_at long old what)
+hole_in_order long old place (Marks label) = omega arith
+hole_in_order long old place (Branches branch) = omega arith
+hole_in_order long old place (Jumps label) = omega arith
+hole_in_order long old place (Refers reference) = (omega arith, omega arith)
+
+-- the holes of cells lie in their bytes, in order
+closed-in_order : (long places : Places) (old new : ℕ) (cells : List Cell) (bytes : List ℕ) → closed_bytes long places old new cells ≡ Some bytes → AreInOrder new (closed_holes long old new cells) (new + length bytes)
+closed-in_order long places old new [] bytes e = omega arith
+closed-in_order long places old new ((Plain byte) ∷ cells) bytes e =
+    let found = some_with (λ rest. byte ∷ rest) (closed_bytes long places (old + 1) (new + 1) cells) bytes e in
+    let others = closed-in_order long places (old + 1) (new + 1) cells found.0 found.1 in
+    let end : new + 1 + length found.0 ≡ new + length bytes = omega (arith, ap length found.2) in
+    let first : AreInOrder new [] (new + 1) = omega arith in
+    in_order-append new (new + 1) (new + length bytes) [] (closed_holes long (old + 1) (new + 1) cells) first
+    (subst (λ n. AreInOrder (new + 1) (closed_holes long (old + 1) (new + 1) cells) n) end others)
+closed-in_order long places old new ((Of what) ∷ cells) bytes e =
+    let later = old + special_size what in
+    let next = new + size_at long old what in
+    let found = some_joined (closed_special long places old new what) (closed_bytes long places later next cells) bytes e in
+    let others = closed-in_order long places later next cells found.1 found.3 in
+    let here : length found.0 ≡ size_at long old what = closed_size long places old new what found.0 found.2 in
+    let end : next + length found.1 ≡ new + length bytes = omega (arith, here, ap length found.4, length-append found.0 found.1) in
+    in_order-append new next (new + length bytes) (hole_at new what) (closed_holes long later next cells) (hole_in_order long old new what)
+    (subst (λ n. AreInOrder next (closed_holes long later next cells) n) end others)
+
+-- a closed routine
+stands_for-routine : (place : ℕ) (kind : RoutineKind) (contents : Contents) (body : List ℕ) → body_bytes place contents ≡ Some body → StandsFor place (routine_holes place contents) (whole_bytes kind contents body) (routine_cells place kind contents)
+stands_for-routine place kind contents body is =
+    let holes = routine_holes place contents in
+    let whole = whole_bytes kind contents body in
+    let items = closed-in_order (long_places place contents) (places place contents) (place + 1) (place + 1) contents.cells body is in
+    let long : place + 1 + length body ≤ place + length whole = omega (arith, length-append (contents.locals ∷ body) (closing kind contents)) in
+    let first : AreInOrder place [] (place + 1) = omega arith in
     record {
-      in_order = (omega arith, omega arith);
-      are = ap (λ n. known (take n both) ++ Awaited reference ∷ known (drop (place + 2 - place) both)) none
-          ∙ ap (λ n. Awaited reference ∷ known (drop n both)) two;
+      in_order =
+          in_order-append place (place + 1) (place + length whole) [] holes first (in_order-longer (place + 1) (place + 1 + length body) (place + length whole) holes long items);
+      are = sym (ap (cells_with place kind contents) is);
     }
-
--- operands, one and more
-stands_for-operand : (place : ℕ) (operand : Operand) → StandsFor place (operand_holes place operand) (operand_bytes operand) (operand_cells operand)
-stands_for-operand place (Large number) = stands_for-known place (word number)
-stands_for-operand place (Small number) = stands_for-known place (number ∷ [])
-stands_for-operand place (Variable number) = stands_for-known place (number ∷ [])
-stands_for-operand place (Later reference) = stands_for-awaited place reference (0 / 256) (0 % 256)
-
-stands_for-operands : (place : ℕ) (operands : List Operand) → StandsFor place (operands_holes place operands) (flat_map operand_bytes operands) (flat_map operand_cells operands)
-stands_for-operands place [] = stands_for-known place []
-stands_for-operands place (operand ∷ others) =
-    let next = place + operand_size operand in
-    let at : next ≡ place + length (operand_bytes operand) = ap (λ n. place + n) (sym (length-operand operand)) in
-    stands_for-append place next (operand_holes place operand) (operands_holes next others) (operand_bytes operand) (flat_map operand_bytes others) (operand_cells operand) (flat_map operand_cells others) at
-    (stands_for-operand place operand) (stands_for-operands next others)
-
--- instructions, one and more, and a routine of them
-stands_for-item : (place : ℕ) (item : Parts) → StandsFor place (item_holes place item) (bytes item) (item_cells item)
-stands_for-item place item =
-    let head = heading (row_of item.opcode) item.operands in
-    let middle = place + length head in
-    let inner = flat_map operand_bytes item.operands in
-    let holes = operands_holes middle item.operands in
-    let cells = flat_map operand_cells item.operands in
-    let tail = tail_bytes item in
-    let behind = stands_for-append middle (middle + length inner) holes [] inner tail cells (known tail) refl (stands_for-operands middle item.operands) (stands_for-known (middle + length inner) tail) in
-    let here : StandsFor middle holes (inner ++ tail) (cells ++ known tail) =
-    subst (λ hs. StandsFor middle hs (inner ++ tail) (cells ++ known tail)) (append-nil holes) behind in
-    stands_for-append place middle [] holes head (inner ++ tail) (known head) (cells ++ known tail) refl (stands_for-known place head) here
-
-stands_for-items : (place : ℕ) (items : List Parts) → StandsFor place (items_holes place items) (flat_map bytes items) (flat_map item_cells items)
-stands_for-items place [] = stands_for-known place []
-stands_for-items place (item ∷ items) =
-    let next = place + long_size item in
-    let at : next ≡ place + length (bytes item) = ap (λ n. place + n) (sym (length-bytes item)) in
-    stands_for-append place next (item_holes place item) (items_holes next items) (bytes item) (flat_map bytes items) (item_cells item) (flat_map item_cells items) at
-    (stands_for-item place item) (stands_for-items next items)
-
-stands_for-routine : (start : ℕ) (kind : RoutineKind) (contents : Contents) → StandsFor start (routine_holes start kind contents) (routine_bytes kind contents) (routine_cells kind contents)
-stands_for-routine start kind contents =
-    let items = closed_items kind contents.items in
-    let first = contents.locals ∷ [] in
-    stands_for-append start (start + 1) [] (items_holes (start + 1) items) first (flat_map bytes items) (known first) (flat_map item_cells items) refl
-    (stands_for-known start first) (stands_for-items (start + 1) items)
 
 -- cells have as many bytes as those that they stand for
 size-append : (cells others : List CodeCell) → size (cells ++ others) ≡ size cells + size others
@@ -170,14 +172,14 @@ size-stands_for : (place : ℕ) (holes : List Hole) (bytes : List ℕ) (cells : 
 size-stands_for place holes bytes cells stands = ap size (sym stands.are) ∙ size-cells_from place holes bytes stands.in_order
 
 -- a routine, and the zeros behind it
-stands_for-padded : (start : ℕ) (kind : RoutineKind) (contents : Contents) → StandsFor start (routine_holes start kind contents) (routine_bytes kind contents ++ zeros_behind (length (routine_bytes kind contents))) (padded (routine_cells kind contents))
-stands_for-padded start kind contents =
-    let code = routine_bytes kind contents in
-    let cells = routine_cells kind contents in
-    let holes = routine_holes start kind contents in
+stands_for-padded : (start : ℕ) (kind : RoutineKind) (contents : Contents) (body : List ℕ) → body_bytes start contents ≡ Some body → StandsFor start (routine_holes start contents) (whole_bytes kind contents body ++ zeros_behind (length (whole_bytes kind contents body))) (padded (routine_cells start kind contents))
+stands_for-padded start kind contents body is =
+    let code = whole_bytes kind contents body in
+    let cells = routine_cells start kind contents in
+    let holes = routine_holes start contents in
     let zeros = zeros_behind (length code) in
     let end = start + length code in
-    let routine = stands_for-routine start kind contents in
+    let routine = stands_for-routine start kind contents body is in
     let behind = stands_for-append start end holes [] code zeros cells (known zeros) refl routine (stands_for-known end zeros) in
     let here : StandsFor start holes (code ++ zeros) (cells ++ known zeros) =
     subst (λ hs. StandsFor start hs (code ++ zeros) (cells ++ known zeros)) (append-nil holes) behind in
@@ -185,24 +187,30 @@ stands_for-padded start kind contents =
     subst (λ n. StandsFor start holes (code ++ zeros) (cells ++ known (zeros_behind n))) same here
 
 -- the same behind what was closed before, as it is written
-pub stands_for-closed : (kind : RoutineKind) (contents : Contents) (holes listed : List Hole) (area written whole : List ℕ) (count : ℕ) → AreInOrder 0 holes (length area)
-    → listed ≡ holes ++ routine_holes (length area) kind contents → written ≡ area ++ routine_bytes kind contents
-    → count ≡ length (routine_bytes kind contents) → whole ≡ written ++ zeros_behind count
-    → StandsFor 0 listed whole (cells_from 0 holes area ++ padded (routine_cells kind contents))
-stands_for-closed kind contents holes listed area written whole count within are_listed are_written counted is_whole =
-    let start = length area in
-    let code = routine_bytes kind contents in
-    let more = routine_holes start kind contents in
+pub stands_for-closed : (kind : RoutineKind) (contents : Contents) (body : List ℕ) (holes listed : List Hole) (area written whole : List ℕ) (start count : ℕ) → start ≡ length area → body_bytes start contents ≡ Some body → AreInOrder 0 holes start
+    → listed ≡ holes ++ routine_holes start contents → written ≡ area ++ contents.locals ∷ body ++ closing kind contents
+    → count ≡ length (whole_bytes kind contents body) → whole ≡ written ++ zeros_behind count
+    → StandsFor 0 listed whole (cells_from 0 holes area ++ padded (routine_cells start kind contents))
+stands_for-closed kind contents body holes listed area written whole start count at is within are_listed are_written counted is_whole =
+    let code = whole_bytes kind contents body in
+    let more = routine_holes start contents in
     let new = code ++ zeros_behind (length code) in
-    let cells = padded (routine_cells kind contents) in
-    let at : start ≡ 0 + start = omega arith in
-    let before : StandsFor 0 holes area (cells_from 0 holes area) = record { in_order = subst (λ n. AreInOrder 0 holes n) at within; are = refl } in
+    let cells = padded (routine_cells start kind contents) in
+    let end : start ≡ 0 + length area = omega (arith, at) in
+    let before : StandsFor 0 holes area (cells_from 0 holes area) = record { in_order = subst (λ n. AreInOrder 0 holes n) end within; are = refl } in
     let all : StandsFor 0 (holes ++ more) (area ++ new) (cells_from 0 holes area ++ cells) =
-    stands_for-append 0 start holes more area new (cells_from 0 holes area) cells at before (stands_for-padded start kind contents) in
+    stands_for-append 0 start holes more area new (cells_from 0 holes area) cells end before (stands_for-padded start kind contents body is) in
+    let routine : written ≡ area ++ code = are_written ∙ append_assoc area (contents.locals ∷ body) (closing kind contents) in
     let bytes_are : area ++ new ≡ whole =
-    sym (is_whole ∙ ap (λ xs. xs ++ zeros_behind count) are_written ∙ ap (λ n. (area ++ code) ++ zeros_behind n) counted ∙ append_assoc area code (zeros_behind (length code))) in
+    sym (is_whole ∙ ap (λ xs. xs ++ zeros_behind count) routine ∙ ap (λ n. (area ++ code) ++ zeros_behind n) counted ∙ append_assoc area code (zeros_behind (length code))) in
     subst (λ xs. StandsFor 0 listed xs (cells_from 0 holes area ++ cells)) bytes_are
     (subst (λ hs. StandsFor 0 hs (area ++ new) (cells_from 0 holes area ++ cells)) (sym are_listed) all)
+
+-- bytes without those behind a place
+pub cut_is : (n : ℕ) (bytes : List ℕ) → n ≤ length bytes → take n bytes ++ drop (n + (length bytes - n)) bytes ≡ take n bytes
+cut_is n bytes within =
+    let all : n + (length bytes - n) ≡ length bytes = omega arith in
+    ap (λ k. take n bytes ++ drop k bytes) all ∙ ap (λ xs. take n bytes ++ xs) (drop_all (length bytes) bytes (omega arith)) ∙ append-nil (take n bytes)
 
 -- bytes stay as they are
 code_bytes-known : (numbers bytes : List ℕ) → code_bytes numbers (known bytes) ≡ bytes

@@ -4,7 +4,7 @@ use Rattle.std.specs.Prelude.{Option, Some, None, option_map, unwrap_or, slice_g
 use Rattle.std.specs.List.{flat_map}
 use Rattle.std.proofs.lemmas.Grind.{flat_map-append}
 use Rattle.byteorder.specs.Endian.{big_bytes}
-use Rattle.inf_asm.specs.Words.{word as two_bytes}
+use Rattle.inf_area.specs.Words.{word as two_bytes}
 use Rattle.inf_text.specs.Packing.{packed, longest, character_zs}
 use Rattle.inf_layout.specs.Code.{CodeCell, Known, Awaited, cell_bytes, code_bytes}
 use Rattle.inf_symbol.specs.Names.{packed_address}

@@ -1,3 +1,5 @@
 pub mod Fixed
 pub mod StoryLaws
 pub mod CodeLemmas
+pub mod Straight
+pub mod CodeSteps

@@ -1,17 +1,17 @@
--- The code of a story: bytes, and the numbers that are known later.
-use Rattle.std.specs.Prelude.{ℕ, ◌+◌, ◌-◌, ◌%◌, ◌≤◌, List, [], ◌∷◌, ◌++◌, map, take, drop, slice_get}
+-- The code of a story: finished routines, as bytes and the numbers that are known later, and the routine that is open.
+use Rattle.std.specs.Prelude.{◌≡◌, ℕ, ◌+◌, ◌-◌, ◌%◌, ◌≤◌, Bool, true, false, List, [], ◌∷◌, ◌++◌, length, map, take, drop, slice_get, Option, Some, None}
 use Rattle.std.specs.List.{flat_map}
 use Rattle.std.specs.Option.{unwrap_or}
-use Rattle.inf_asm.specs.declared.instructions.Operand.{Operand}
-use Rattle.inf_asm.specs.declared.instructions.Operand.TheVariants.{Large, Small, Variable, Later}
-use Rattle.inf_asm.specs.declared.references.Hole.{Hole}
-use Rattle.inf_asm.specs.declared.references.Reference.{Reference}
-use Rattle.inf_asm.specs.declared.routines.RoutineKind.{RoutineKind}
-use Rattle.inf_asm.specs.Opcodes.{row_of}
-use Rattle.inf_asm.specs.Instructions.{Parts, heading, operand_bytes, tail_bytes}
-use Rattle.inf_asm.specs.Contents.{Contents}
-use Rattle.inf_asm.specs.Routines.{closed_items}
-use Rattle.inf_asm.specs.Words.{word}
+use Rattle.inf_area.specs.declared.references.Hole.{Hole}
+use Rattle.inf_area.specs.declared.references.Reference.{Reference}
+use Rattle.inf_area.specs.Words.{word}
+use Rattle.inf_opcode.specs.Cells.{label_count}
+use Rattle.inf_opcode.specs.Instructions.{Parts, instruction_cells}
+use Rattle.inf_opcode.specs.Opcodes.{row_of}
+use Rattle.inf_assembler.specs.declared.routines.CloseFault.{CloseFault}
+use Rattle.inf_assembler.specs.declared.routines.CloseFault.TheVariants as close_fault
+use Rattle.inf_assembler.specs.declared.routines.RoutineKind.{RoutineKind}
+use Rattle.inf_assembler.specs.Routines.{State, Contents, IsOpen, contents_of, with_cells, body_bytes, closing, routine_holes}
 
 -- a byte, or the two bytes that a reference's number takes
 pub data CodeCell : Type 0 where
@@ -30,22 +30,6 @@ cell_size (Awaited reference) = 2
 abbrev pub size : List CodeCell → ℕ
 size [] = 0
 size (cell ∷ cells) = cell_size cell + size cells
-
--- an operand; one that is known later awaits its number
-abbrev pub operand_cells : Operand → List CodeCell
-operand_cells (Large number) = known (operand_bytes (Large number))
-operand_cells (Small number) = known (operand_bytes (Small number))
-operand_cells (Variable number) = known (operand_bytes (Variable number))
-operand_cells (Later reference) = Awaited reference ∷ []
-
--- an instruction (Z-Machine Standard 1.1, section 4)
-abbrev pub item_cells : Parts → List CodeCell
-item_cells item =
-    known (heading (row_of item.opcode) item.operands) ++ (flat_map operand_cells item.operands ++ known (tail_bytes item))
-
--- a routine: its number of locals, and its items with what closes them (section 5.2)
-abbrev pub routine_cells : RoutineKind → Contents → List CodeCell
-routine_cells kind contents = Known contents.locals ∷ flat_map item_cells (closed_items kind contents.items)
 
 -- the zeros behind so many bytes that fill them up to a multiple of 4
 abbrev pub padding : ℕ → List CodeCell
@@ -78,3 +62,72 @@ cells_from place (hole ∷ holes) bytes =
 abbrev pub AreInOrder : ℕ → List Hole → ℕ → Type 0
 AreInOrder place [] end = place ≤ end
 AreInOrder place (hole ∷ holes) end = (place ≤ hole.place) × AreInOrder (hole.place + 2) holes end
+
+-- a routine that stands at a place, whose items have these bytes: its number of locals, these, and what returns where control
+-- runs past the last (Z-Machine Standard 1.1, section 5)
+abbrev pub whole_bytes : RoutineKind → Contents → List ℕ → List ℕ
+whole_bytes kind contents body = contents.locals ∷ body ++ closing kind contents
+
+abbrev pub cells_with : ℕ → RoutineKind → Contents → Option (List ℕ) → List CodeCell
+cells_with place kind contents None = []
+cells_with place kind contents (Some body) = cells_from place (routine_holes place contents) (whole_bytes kind contents body)
+
+-- The routine, with the bytes and the references that it has when it is closed; nothing where an offset does not fit.
+abbrev pub routine_cells : ℕ → RoutineKind → Contents → List CodeCell
+routine_cells place kind contents = cells_with place kind contents (body_bytes place contents)
+
+-- the routines of a story: the finished ones, and the one that is open, if any
+pub record Routines : Type 0 where
+  pub finished : List CodeCell
+  pub opened : Option Contents
+
+-- an instruction more in a routine, and in the one that is open
+abbrev pub with_instruction : Parts → Contents → Contents
+with_instruction parts contents = with_cells (instruction_cells parts) (row_of parts.opcode).is_final contents
+
+abbrev pub with_item : Parts → Option Contents → Option Contents
+with_item parts None = None
+with_item parts (Some contents) = Some (with_instruction parts contents)
+
+-- the cells that the open routine becomes behind so many bytes, filled up to a multiple of 4
+abbrev pub closed_cells : RoutineKind → ℕ → Option Contents → List CodeCell
+closed_cells kind place None = []
+closed_cells kind place (Some contents) = padded (routine_cells place kind contents)
+
+-- the routines after the open one is closed
+abbrev pub with_closed : RoutineKind → Routines → Routines
+with_closed kind routines =
+    record { finished = routines.finished ++ closed_cells kind (size routines.finished) routines.opened; opened = None }
+
+-- the routines after the open one is given up
+abbrev pub with_none_open : Routines → Routines
+with_none_open routines = record routines { opened = None }
+
+-- the items of an open routine, by the bytes of its area
+abbrev pub open_in : List ℕ → Option State → Option Contents
+open_in bytes None = None
+open_in bytes (Some routine) = Some (contents_of routine bytes)
+
+-- that an open routine stands behind so many bytes, up to the end of the area, and has no label, branch or jump
+pub record StandsBehind (place : ℕ) (bytes : List ℕ) (routine : State) : Type 0 where
+  pub start : routine.start ≡ place
+  pub open_still : IsOpen routine bytes
+  pub straight : label_count (contents_of routine bytes).cells ≡ 0
+
+abbrev pub IsBehind : ℕ → List ℕ → Option State → Type 0
+IsBehind place bytes None = Unit {0}
+IsBehind place bytes (Some routine) = StandsBehind place bytes routine
+
+-- what code is: finished routines of so many bytes, holes in them, and an open routine
+pub record IsCode (finished : ℕ) (holes : List Hole) (bytes : List ℕ) (routine : Option State) : Type 0 where
+  pub within : finished ≤ length bytes
+  pub in_order : AreInOrder 0 holes finished
+  pub behind : IsBehind finished bytes routine
+
+-- whether a routine that has no label, branch or jump may be refused so: for want of room
+abbrev pub is_of_room : CloseFault → Bool
+is_of_room (close_fault.LabelMissing label) = false
+is_of_room (close_fault.LabelTwice label) = false
+is_of_room close_fault.TooFar = false
+is_of_room (close_fault.Full setting) = true
+is_of_room close_fault.Memory = true

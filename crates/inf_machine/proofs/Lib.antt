@@ -2,6 +2,9 @@ pub mod Sets
 pub mod Rows
 pub mod Deciding
 pub mod Taking
+pub mod Ways
+pub mod Opened
 pub mod TokenLaws
+pub mod ReadOn
 pub mod Ending
 pub mod SourcePieces

@@ -88,6 +88,25 @@ module _ {A : Type 0} where
       cond-false (fits g k atom r.parts) r.parts (row_for g k atom other rows) (fits_is_begun g k atom r.parts ∙ parts.0)
       ∙ none_chooses_other g k atom other rows parts.1
 
+  -- the row that an atom begins is the same whatever the other one is
+  pub begun_whatever : (g : Grammar A) (k : Known) (atom : ℕ) (one other : List (Symbol A)) (rows : List (Row A)) → has (all_beginnings g k rows) atom ≡ true → row_for g k atom one rows ≡ row_for g k atom other rows
+  begun_whatever g k atom one other [] h = absurd (both_ways (has 0 atom) (has_zero atom) h)
+  begun_whatever g k atom one other (r ∷ rows) h = by_test (λ e. begun_whatever g k atom one other rows e) (fits g k atom r.parts) refl
+    where
+      rest : fits g k atom r.parts ≡ false → has (all_beginnings g k rows) atom ≡ true
+      rest f = elim (or_cases (has (beginning g k r.parts) atom) (has (all_beginnings g k rows) atom) (sym (has_or (beginning g k r.parts) (all_beginnings g k rows) atom) ∙ h)) [
+        | inl b ↦ absurd (both_ways (fits g k atom r.parts) f (fits_is_begun g k atom r.parts ∙ b))
+        | inr b ↦ b
+      ]
+
+      by_test : (has (all_beginnings g k rows) atom ≡ true → row_for g k atom one rows ≡ row_for g k atom other rows) → (b : Bool) → fits g k atom r.parts ≡ b → row_for g k atom one (r ∷ rows) ≡ row_for g k atom other (r ∷ rows)
+      by_test in_rest true e =
+          cond-true (fits g k atom r.parts) r.parts (row_for g k atom one rows) e ∙ sym (cond-true (fits g k atom r.parts) r.parts (row_for g k atom other rows) e)
+      by_test in_rest false e =
+          cond-false (fits g k atom r.parts) r.parts (row_for g k atom one rows) e
+          ∙ in_rest (rest e)
+          ∙ sym (cond-false (fits g k atom r.parts) r.parts (row_for g k atom other rows) e)
+
   -- a row with what it is chosen for
   pub record Begun (g : Grammar A) (k : Known) (atom : ℕ) (rows : List (Row A)) (parts : List (Symbol A)) : Type 0 where
     pub row : Row A

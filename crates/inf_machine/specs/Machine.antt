@@ -42,6 +42,26 @@ row_for g k atom other (row ∷ rows) = if fits g k atom row.parts then row.part
 abbrev pub chosen : {A : Type 0} → Grammar A → Known → ℕ → ℕ → List (Symbol A)
 chosen g k atom rule = row_for g k atom (empty_row k (g.rows_of rule)) (g.rows_of rule)
 
+-- whether symbols that can be empty have no action on the way through them, looked at so many rules deep
+abbrev pub is_silent : {A : Type 0} → Grammar A → Known → ℕ → List (Symbol A) → Bool
+is_silent g k n [] = true
+is_silent g k n (Token class ∷ symbols) = false
+is_silent g k n (Act a ∷ symbols) = false
+is_silent g k zero (Rule rule ∷ symbols) = false
+is_silent g k (suc n) (Rule rule ∷ symbols) = is_silent g k n (empty_row k (g.rows_of rule)) && is_silent g k (suc n) symbols
+
+-- how deep silence is looked for
+abbrev pub depth : ℕ
+depth = 4
+
+-- what stands for a rule that is passed over: nothing where its empty row is silent
+abbrev pub passed_row : {A : Type 0} → Grammar A → Known → List (Row A) → List (Symbol A)
+passed_row g k rows = if is_silent g k depth (empty_row k rows) then [] else empty_row k rows
+
+-- what the machine puts in place of a rule before an atom: the row that the atom begins, else what stands for the rule passed over
+abbrev pub way : {A : Type 0} → Grammar A → Known → ℕ → ℕ → List (Symbol A)
+way g k atom rule = row_for g k atom (passed_row g k (g.rows_of rule)) (g.rows_of rule)
+
 -- what taking a token gives: the actions on the way to it, and the symbols behind it
 pub record Taken (A : Type 0) : Type 0 where
   pub actions : List A
@@ -68,6 +88,10 @@ work k atom (Rule rule ∷ symbols) = k.steps rule + (if has (k.begins rule) ato
 -- what taking an atom that fits does
 abbrev pub taken : {A : Type 0} → Grammar A → Known → ℕ → List (Symbol A) → Taken A
 taken g k atom symbols = stepped g k atom (work k atom symbols) symbols
+
+-- what taking an atom does to a rule that it begins, whatever stands behind the rule
+abbrev pub opened : {A : Type 0} → Grammar A → Known → ℕ → ℕ → Taken A
+opened g k rule atom = taken g k atom (Rule rule ∷ [])
 
 -- the events of some actions and a token behind them
 abbrev pub events_of : {A : Type 0} → List A → ℕ → List (Event A)

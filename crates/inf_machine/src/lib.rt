@@ -8,6 +8,8 @@
 
 mod laws;
 mod machine;
+mod opening;
+mod openings;
 mod reading;
 mod stack;
 mod symbols;

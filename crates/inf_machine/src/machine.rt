@@ -1,7 +1,9 @@
 //! The machine that reads tokens by a grammar.
 ghost use Rattle.std.specs.Prelude.{◌≡◌, [], ◌∷◌, ◌++◌, ◌↔◌, IsTrue, OnOk, OnErr, take, vec_len, true, reverse};
 ghost use Rattle.inf_machine.specs.Machine.{fits, can_end, taken};
+ghost use Rattle.inf_machine.specs.Stacks.{stacked};
 
+use crate::openings::Openings;
 use crate::reading;
 use crate::stack::Stack;
 use crate::symbols::Symbol;
@@ -11,11 +13,12 @@ use std::marker::Model;
 
 /// What is still to be read: in contracts a list of symbols, the one at hand first.
 #[derive(Drop)]
-pub struct Machine<A> {
+pub struct Machine<A: Table> {
     stack: Stack<A>,
+    openings: Openings<A>,
 }
 
-impl<A> Model for Machine<A> {
+impl<A: Table> Model for Machine<A> {
     ghost use Rattle.std.specs.Prelude.{◌≡◌, List};
     ghost use Rattle.inf_machine.specs.declared.symbols.Symbol.{Symbol};
 
@@ -33,6 +36,7 @@ impl<A: Table> Machine<A> {
     {
         Machine {
             stack: Stack::new(alloc),
+            openings: Openings::new(alloc),
         }
     }
 
@@ -90,10 +94,7 @@ impl<A: Table> Machine<A> {
         ensures same_actions { OnErr result (actions.new.items ≡ actions.old.items) }
     {
         let before = actions.len();
-        let taken = match reach(&mut self.stack, atom, actions) {
-            Ok(()) => self.stack.settle(),
-            Err(fault) => Err(fault),
-        };
+        let taken = reach(&mut self.stack, &mut self.openings, atom, actions);
         if taken.is_err() {
             self.stack.back();
             actions.truncate(before);
@@ -102,19 +103,35 @@ impl<A: Table> Machine<A> {
     }
 }
 
-/// Goes on to behind a token that fits, with the actions on the way to it.
-fn reach<A: Table>(stack: &mut Stack<A>, atom: u8, actions: &mut Vec<A>) -> Result<(), AllocError>
+/// Goes on to behind a token that fits, with the actions on the way to it, and settles that.
+fn reach<A: Table>(
+    stack: &mut Stack<A>,
+    openings: &mut Openings<A>,
+    atom: u8,
+    actions: &mut Vec<A>,
+) -> Result<(), AllocError>
     requires { fits A.grammar A.known atom stack.old.current ≡ true }
-    ensures left { OnOk result (stack.new ≡ record stack.old { current = (taken A.grammar A.known atom stack.old.current).left }) }
+    ensures left { OnOk result (stack.new ≡ stacked (taken A.grammar A.known atom stack.old.current).left) }
     ensures actions { OnOk result (actions.new.items ≡ actions.old.items ++ (taken A.grammar A.known atom stack.old.current).actions) }
-    ensures settled { stack.new.settled ≡ stack.old.settled }
+    ensures settled { OnErr result (stack.new.settled ≡ stack.old.settled) }
     ensures before { take (vec_len actions.old) actions.new.items ≡ actions.old.items }
 {
     while let Some(symbol) = stack.pop() {
         match symbol {
-            Symbol::Token(_) => return Ok(()),
+            Symbol::Token(_) => {
+                stack.settle()?;
+                return Ok(());
+            }
             Symbol::Act(action) => actions.push(action)?,
-            Symbol::Rule(rule) => stack.add_all(A::chosen(rule, atom))?,
+            Symbol::Rule(rule) => {
+                if A::begins(rule, atom) {
+                    let opening = openings.find(rule, atom)?;
+                    actions.extend_from_slice(opening.actions())?;
+                    stack.settle_with(opening.left())?;
+                    return Ok(());
+                }
+                stack.add_all(A::passed(rule))?;
+            }
         }
     }
     Ok(())

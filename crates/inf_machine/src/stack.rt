@@ -83,6 +83,9 @@ impl<A: Copy> Stack<A> {
         ensures ok { OnOk result (self.new ≡ record self.old { current = reverse symbols.now ++ self.old.current }) }
         ensures err { OnErr result (self.new ≡ self.old) }
     {
+        if symbols.is_empty() {
+            return Ok(());
+        }
         self.opened.extend_from_slice(symbols)
     }
 
@@ -93,7 +96,27 @@ impl<A: Copy> Stack<A> {
     {
         self.symbols.reserve(self.opened.len())?;
         self.symbols.truncate(self.rest);
-        self.symbols.extend_from_slice(&self.opened)?;
+        if !self.opened.is_empty() {
+            self.symbols.extend_from_slice(&self.opened)?;
+        }
+        self.back();
+        Ok(())
+    }
+
+    /// Settles what is on it now with some symbols put on that, of which the last is the new top.
+    pub(crate) fn settle_with(&mut self, symbols: &[Symbol<A>]) -> Result<(), AllocError>
+        ensures ok { OnOk result (self.new ≡ stacked (reverse symbols.now ++ self.old.current)) }
+        ensures err { OnErr result (self.new.settled ≡ self.old.settled) }
+    {
+        if !self.opened.is_empty() {
+            self.add_all(symbols)?;
+            return self.settle();
+        }
+        self.symbols.reserve(symbols.len())?;
+        self.symbols.truncate(self.rest);
+        if !symbols.is_empty() {
+            self.symbols.extend_from_slice(symbols)?;
+        }
         self.back();
         Ok(())
     }
@@ -103,6 +126,13 @@ impl<A: Copy> Stack<A> {
         ensures { reverse result.now ≡ self.now.settled }
     {
         &self.symbols
+    }
+
+    /// What it goes back to, the top last, as its own.
+    pub(crate) fn into_symbols(self) -> Vec<Symbol<A>>
+        ensures { reverse result.items ≡ self.settled }
+    {
+        self.symbols
     }
 
     /// Takes all symbols off.

@@ -2,7 +2,7 @@
 ghost use Rattle.std.specs.Prelude.{◌≡◌, reverse};
 ghost use Rattle.inf_machine.specs.Grammar.{Grammar, has};
 ghost use Rattle.inf_machine.specs.Laws.{IsDecided};
-ghost use Rattle.inf_machine.specs.Machine.{Known, chosen};
+ghost use Rattle.inf_machine.specs.Machine.{Known, passed_row, way};
 
 use crate::symbols::Symbol;
 
@@ -26,9 +26,14 @@ pub trait Table: Copy + 'static {
     fn can_be_empty(rule: u8) -> bool
         ensures { result ≡ known.is_empty rule };
 
-    /// The row of a rule that an atom chooses, its last part first.
-    fn chosen(rule: u8, atom: u8) -> &'static [Symbol<Self>]
-        ensures { reverse result.now ≡ chosen grammar known atom rule };
+    /// What stands for a rule before an atom, its last part first: the row that the atom begins; where it begins none, the one that
+    /// can be empty, or nothing where there is no action on the way through that.
+    fn way(rule: u8, atom: u8) -> &'static [Symbol<Self>]
+        ensures { reverse result.now ≡ way grammar known atom rule };
+
+    /// What stands for a rule that can be empty before an atom that does not begin it, its last part first.
+    fn passed(rule: u8) -> &'static [Symbol<Self>]
+        ensures { reverse result.now ≡ passed_row grammar known (grammar.rows_of rule) };
 
     /// One token decides.
     ghost decided: { IsDecided grammar known };

@@ -18,13 +18,14 @@ use Rattle.inf_machine.specs.Machine.{fits, taken, read, Read}
 use Rattle.inf_grammar.specs.Evaluated.{language_is_decided}
 use Rattle.inf_machine.proofs.TokenLaws.{bad_tokens_begin_nothing, texts_are_taken}
 use Rattle.inf_reader.specs.Tests.{longest_name, characters, fit_characters, text_fault_of, fault_of_kind, name_atom, text_atom, bad_atom, end_atom, atom_of_kind, atom_of}
-use Rattle.inf_reader.specs.Selection.{Unit, no_unit, unit_behind, begins_piece, has_come, have_come, is_piece_come}
+use Rattle.inf_unit.specs.Statements.{Unit, no_unit, unit_behind}
+use Rattle.inf_reader.specs.Selection.{begins_piece, has_come, have_come, is_piece_come}
 use Rattle.inf_reader.specs.Reading.{Reading, State, Stand, piece_rule, piece_begun, took, bad, judged, read_at, step_in, stand, turn, run}
 use Rattle.inf_reader.specs.Pieces.{IsPiece, BeginsPiece, front, at_hand_by, at_hand, taking, AllAreTaken, Leads, ToItsEnd, ToABadToken, PiecesAreRead, PiecesBegin, FrontsBegin, FaultyTokensFitNothing, TurnsAreRead}
 use Rattle.inf_reader.specs.declared.mode.Mode.TheVariants as mode
 use Rattle.inf_reader.proofs.Turns.{next_moves, less_behind}
 use Rattle.inf_reader.proofs.Misfits.{bad_fits_nothing, end_fits_nothing}
-use Rattle.inf_reader.proofs.ReadOn.{OneMore, read_on, read_append, reads_one, reads_none}
+use Rattle.inf_machine.proofs.ReadOn.{OneMore, read_on, read_append, reads_one, reads_none}
 
 pub turns_are_read : TurnsAreRead
 turns_are_read file zero s going = refl

@@ -7,8 +7,8 @@ use Rattle.inf_token.specs.declared.spelling.TokenKind.TheVariants as kind
 use Rattle.inf_token.proofs.Progress.{of_both, gap_le, token_lt}
 use Rattle.inf_grammar.specs.declared.actions.Action.{Action}
 use Rattle.inf_machine.specs.declared.symbols.Symbol.{Symbol}
+use Rattle.inf_unit.specs.Actions.{Work}
 use Rattle.inf_reader.specs.Selection.{has_come}
-use Rattle.inf_reader.specs.Actions.{Work}
 use Rattle.inf_reader.specs.Reading.{Reading, State, Stand, bad, took, judged, read_at, step_in, step, taken_at, is_mode_ended, has_ended, turn, run, compiled, start, turns_of}
 use Rattle.inf_reader.specs.declared.mode.Mode.{Mode}
 use Rattle.inf_reader.specs.declared.mode.Mode.TheVariants as mode

@@ -1,7 +1,5 @@
 pub mod Tests
 pub mod Selection
-pub mod Units
-pub mod Actions
 pub mod Reading
 pub mod Pieces
 pub mod Sessions

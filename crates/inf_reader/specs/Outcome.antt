@@ -30,8 +30,8 @@ is_clean r = not r.is_over && (r.errors == 0)
 -- the story of the routines, where it is not too long; messages about it stand at the first line
 abbrev pub laid : List ℕ → List ℕ → ℕ → State → Reported → Ending
 laid serial file main s r =
-    if is_too_long main (places s.work.names) s.work.output.code then refused (with_fatal file 1 StoryTooLong r)
-    else record { messages = (with_closing r).lines; story = Some (story serial main (places s.work.names) s.work.output.code); status = status.Success }
+    if is_too_long main (places s.work.names) s.work.output.code.finished then refused (with_fatal file 1 StoryTooLong r)
+    else record { messages = (with_closing r).lines; story = Some (story serial main (places s.work.names) s.work.output.code.finished); status = status.Success }
 
 -- the routine with which a story begins
 abbrev pub main_name : List ℕ

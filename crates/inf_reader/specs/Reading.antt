@@ -14,9 +14,10 @@ use Rattle.inf_machine.specs.declared.symbols.Symbol.TheVariants.{Rule}
 use Rattle.inf_machine.specs.Machine.{fits, taken}
 use Rattle.inf_grammar.specs.Routines.{is_in_routine}
 use Rattle.inf_grammar.specs.Language.{grammar, known}
-use Rattle.inf_reader.specs.Tests.{atom_of, complaint_of}
-use Rattle.inf_reader.specs.Selection.{Unit, no_unit, unit_behind, begins_piece, has_come}
-use Rattle.inf_reader.specs.Actions.{Work, no_work, gathering, acted}
+use Rattle.inf_unit.specs.Statements.{Unit, no_unit, unit_behind}
+use Rattle.inf_unit.specs.Actions.{Gathered, Work, no_work, acted}
+use Rattle.inf_reader.specs.Tests.{atom_of, complaint_of, read_of}
+use Rattle.inf_reader.specs.Selection.{begins_piece, has_come}
 use Rattle.inf_reader.specs.declared.mode.Mode.{Mode}
 use Rattle.inf_reader.specs.declared.mode.Mode.TheVariants as mode
 
@@ -83,6 +84,10 @@ bad file t r w = record {
   reading = between (passed (skip_of r.stack) t.kind);
   work = record w { report = with_error file t.line t.line (complaint_of t) w.report };
 }
+
+-- what is gathered behind a token that was taken
+abbrev pub gathering : Spelled → Gathered → Gathered
+gathering t g = record g { read = read_of t }
 
 -- A token that fits is taken: first the actions on the way to it act.
 abbrev pub took : List ℕ → Spelled → Reading → Work → Stand

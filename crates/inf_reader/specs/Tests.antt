@@ -1,6 +1,5 @@
 -- Tests of a token, what is wrong with one by itself, and how the grammar sees one.
 use Rattle.std.specs.Prelude.{ℕ, ◌+◌, List, ◌&&◌, length, Bool, false, not, nat_le, if◌then◌else◌, Option, Some, None, Result, Ok, Err, unwrap_or, is_some}
-use Rattle.std.specs.Str.{str_eq_ignore_ascii_case}
 use Rattle.inf_characters.specs.Reading.{text_of}
 use Rattle.inf_characters.specs.declared.characters.CharSet.TheVariants as set
 use Rattle.inf_characters.specs.declared.reading.Mode.TheVariants as mode
@@ -29,14 +28,6 @@ is_fit_name_kind _ bytes = false
 
 abbrev pub is_fit_name : Spelled → Bool
 is_fit_name t = is_fit_name_kind t.kind t.bytes
-
--- a word of the language, in any case
-abbrev pub is_word_kind : List ℕ → TokenKind → List ℕ → Bool
-is_word_kind word kind.Name bytes = str_eq_ignore_ascii_case bytes word
-is_word_kind word _ bytes = false
-
-abbrev pub is_word : List ℕ → Spelled → Bool
-is_word word t = is_word_kind word t.kind t.bytes
 
 -- a name that may stand for a routine or a local variable in a statement: not has, in, or and the like
 abbrev pub is_operand : Spelled → Bool

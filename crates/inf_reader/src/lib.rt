@@ -3,13 +3,10 @@
 
 mod laws;
 mod mode;
-mod operands;
 pub mod outcome;
-mod output;
 mod reader;
 mod selection;
 pub mod session;
 mod tokens;
-mod work;
 
 pub use laws::{pieces_are_read, sources_are_read, sources_have_these_outcomes};

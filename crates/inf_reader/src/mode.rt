@@ -1,8 +1,9 @@
 ghost use Rattle.std.specs.Prelude.{◌≡◌};
 ghost use Rattle.inf_reader.specs.Reading.{passed};
 
-use crate::tokens::{is_end, is_mark};
+use crate::tokens::is_end;
 use inf_token::spelling::{Mark, TokenKind};
+use inf_unit::tokens::is_mark;
 
 /// How the next token of a source is read.
 #[derive(Clone, Copy, Debug, PartialEq, Eq)]

@@ -7,9 +7,9 @@ ghost use Rattle.inf_reader.specs.Sessions.{reading};
 ghost use Rattle.inf_reader.specs.declared.mode.Mode.TheVariants as mode;
 
 use crate::mode::{Mode, passed};
-use crate::selection::Unit;
 use inf_grammar::{Action, Machine, PIECE};
 use inf_token::spelling::TokenKind;
+use inf_unit::unit::Unit;
 use std::alloc::{AllocError, Global};
 
 /// How the next token is read, what of the piece at hand is still to come, and the unit at hand.

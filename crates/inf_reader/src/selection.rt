@@ -1,35 +1,15 @@
 //! What of the grammar of the whole language is read so far.
-ghost use Rattle.std.specs.Prelude.{◌≡◌, OnOk, map, option_map};
+ghost use Rattle.std.specs.Prelude.{◌≡◌, map, option_map};
 ghost use Rattle.std.specs.List.{list_any};
 ghost use Rattle.std.specs.Str.{str_eq_ignore_ascii_case};
-ghost use Rattle.inf_reader.specs.Selection.{no_unit, unit_behind, statement_of, is_later_word, begins_statement, is_closed, goes_on_print, goes_on_call, has_come, begins_piece};
-ghost use Rattle.inf_reader.specs.Sessions.{unit};
+ghost use Rattle.inf_reader.specs.Selection.{is_later_word, begins_statement, is_closed, goes_on_print, goes_on_call, has_come, begins_piece};
+ghost use Rattle.inf_unit.specs.Works.{unit};
 ghost use Rattle.inf_token.specs.Tokens.{spelled};
 
-use crate::tokens::{is_mark, is_operand, is_word};
+use crate::tokens::is_operand;
 use inf_token::spelling::{Mark, Token, TokenKind};
-use std::alloc::{AllocError, Global};
-
-/// What a statement is, told by its first token.
-#[derive(Clone, Copy, Debug, PartialEq, Eq)]
-pub enum Statement {
-    Print,
-    Return,
-    NewLine,
-    Quit,
-    ReturnTrue,
-    ReturnFalse,
-    /// A call of a routine: the first token is no keyword.
-    Call,
-}
-
-/// The tokens of the unit at hand so far.
-#[derive(Drop)]
-pub struct Unit<'a> {
-    pub tokens: Vec<Token<'a>>,
-    /// The last of them.
-    pub last: Option<Token<'a>>,
-}
+use inf_unit::tokens::is_mark;
+use inf_unit::unit::{Statement, Unit, statement_of};
 
 /// The words of the statements that have not come.
 const LATER_WORDS: [&str; 17] = [
@@ -59,27 +39,6 @@ pub fn begins_piece(token: Token<'_>) -> bool
     is_mark(token.kind, Mark::OpenBracket)
 }
 
-/// What a statement is that begins with a token.
-pub fn statement_of(token: Token<'_>) -> Statement
-    ensures { result ≡ statement_of (spelled token.entry) }
-{
-    if is_word(token, b"print") {
-        Statement::Print
-    } else if is_word(token, b"return") {
-        Statement::Return
-    } else if is_word(token, b"new_line") {
-        Statement::NewLine
-    } else if is_word(token, b"quit") {
-        Statement::Quit
-    } else if is_word(token, b"rtrue") {
-        Statement::ReturnTrue
-    } else if is_word(token, b"rfalse") {
-        Statement::ReturnFalse
-    } else {
-        Statement::Call
-    }
-}
-
 /// Whether a name is the word of a statement that has not come, in any case.
 fn is_later_word(name: &[u8]) -> bool
     ensures { result ≡ is_later_word name.now }
@@ -105,55 +64,22 @@ fn begins_statement(token: Token<'_>) -> bool
     }
 }
 
-impl<'a> Unit<'a> {
-    /// No tokens. It takes no memory until `add`.
-    pub fn new(alloc: Global) -> Unit<'a>
-        ensures { unit result ≡ no_unit }
-    {
-        Unit {
-            tokens: Vec::new(alloc),
-            last: None,
-        }
+/// Whether a token may go on with a unit, as far as what has come goes. Whether it fits the grammar
+/// there is another question.
+pub fn has_come(at_hand: &Unit<'_>, token: Token<'_>) -> bool
+    ensures { result ≡ has_come (unit at_hand.now) (spelled token.entry) }
+{
+    let Some((first, rest)) = at_hand.tokens.as_slice().split_first() else {
+        return begins_statement(token);
+    };
+    if is_mark(first.kind, Mark::OpenBracket) {
+        return true;
     }
-
-    /// Forgets its tokens.
-    pub fn clear(&mut self)
-        ensures { unit self.new ≡ no_unit }
-    {
-        self.tokens.clear();
-        self.last = None;
-    }
-
-    /// A token is taken: one more, or the one that ends the unit.
-    pub fn add(&mut self, token: Token<'a>) -> Result<(), AllocError>
-        ensures { OnOk result (unit self.new ≡ unit_behind (spelled token.entry) (unit self.old)) }
-    {
-        if is_mark(token.kind, Mark::Semicolon) || is_mark(token.kind, Mark::CloseBracket) {
-            self.clear();
-            return Ok(());
-        }
-        self.tokens.push(token)?;
-        self.last = Some(token);
-        Ok(())
-    }
-
-    /// Whether a token may go on with it, as far as what has come goes. Whether it fits the grammar
-    /// there is another question.
-    pub fn has_come(&self, token: Token<'_>) -> bool
-        ensures { result ≡ has_come (unit self.now) (spelled token.entry) }
-    {
-        let Some((first, rest)) = self.tokens.as_slice().split_first() else {
-            return begins_statement(token);
-        };
-        if is_mark(first.kind, Mark::OpenBracket) {
-            return true;
-        }
-        match statement_of(*first) {
-            Statement::Print => goes_on_print(rest, token),
-            Statement::Return => is_operand(token) || is_mark(token.kind, Mark::Semicolon),
-            Statement::Call => goes_on_call(rest, self.last, token),
-            _ => is_mark(token.kind, Mark::Semicolon),
-        }
+    match statement_of(*first) {
+        Statement::Print => goes_on_print(rest, token),
+        Statement::Return => is_operand(token) || is_mark(token.kind, Mark::Semicolon),
+        Statement::Call => goes_on_call(rest, at_hand.last, token),
+        _ => is_mark(token.kind, Mark::Semicolon),
     }
 }
 

@@ -11,9 +11,8 @@ ghost use Rattle.inf_reader.specs.Outcome.{outcome, missing, finished, refused};
 use crate::mode::{Mode, passed};
 use crate::outcome::{Status, Translation};
 use crate::reader::Reader;
-use crate::selection::begins_piece;
+use crate::selection::{begins_piece, has_come};
 use crate::tokens::{atom_at, complaint_of, is_end, text_of};
-use crate::work::Work;
 use inf_grammar::Action;
 use inf_layout::code::Code;
 use inf_layout::layout::story;
@@ -21,6 +20,7 @@ use inf_symbol::messages::Message;
 use inf_symbol::names::Names;
 use inf_symbol::report::Report;
 use inf_token::spelling::{Lexer, Token};
+use inf_unit::work::Work;
 use std::alloc::{AllocError, Global};
 
 /// Where the messages about a whole source stand.
@@ -41,25 +41,27 @@ pub struct Session<'a> {
 
 impl<'a> Session<'a> {
     ghost use Rattle.inf_reader.specs.Reading.{start, run, turns_of, taken_at, read_at, judged, bad, stand};
-    ghost use Rattle.inf_reader.specs.Sessions.{state, reading, unit, work};
+    ghost use Rattle.inf_reader.specs.Sessions.{state, reading};
+    ghost use Rattle.inf_unit.specs.Works.{work};
     ghost use Rattle.inf_token.specs.Tokens.{HasRoom, cursor};
 
-    /// At the front of a source, which has fewer than 2^32 - 1 bytes.
-    pub fn new(alloc: Global, file: &'a [u8], source: &'a [u8]) -> Result<Session<'a>, AllocError>
+    /// At the front of a source, which has fewer than 2^32 - 1 bytes. It takes no memory until
+    /// something is read.
+    pub fn new(alloc: Global, file: &'a [u8], source: &'a [u8]) -> Session<'a>
         requires { length source.now + 1 < 2 ^ 32 }
-        ensures state { IfOk result (λ session. state session ≡ start file.now source.now) }
-        ensures room { IfOk result (λ session. HasRoom session.lexer) }
-        ensures file { IfOk result (λ session. session.file.now ≡ file.now) }
+        ensures state { state result ≡ start file.now source.now }
+        ensures room { HasRoom result.lexer }
+        ensures file { result.file.now ≡ file.now }
     {
-        Ok(Session {
+        Session {
             alloc,
             file,
             source,
             lexer: Lexer::new(source),
             reader: Reader::new(alloc),
             actions: Vec::new(alloc),
-            work: Work::new(alloc)?,
-        })
+            work: Work::new(alloc),
+        }
     }
 
     /// Whether there is nothing left to read.
@@ -118,8 +120,8 @@ impl<'a> Session<'a> {
         ensures same { (self.new.lexer ≡ self.old.lexer) × (self.new.file ≡ self.old.file) }
     {
         if !self.reader.machine.is_done() {
-            let has_come = self.reader.unit.has_come(token);
-            return self.judge(token, has_come);
+            let may_come = has_come(&self.reader.unit, token);
+            return self.judge(token, may_come);
         }
         if is_end(token.kind) {
             self.reader.mode = Mode::Ended;
@@ -203,9 +205,9 @@ fn story_of(
     names: &Names<'_>,
     code: Code,
 ) -> Result<Option<Vec<u8>>, AllocError>
-    ensures long { IfOk result (λ o. is_none o ≡ is_too_long main (places (name_list names.now)) code) }
+    ensures long { IfOk result (λ o. is_none o ≡ is_too_long main (places (name_list names.now)) code.finished) }
     ensures bytes { IfOk result (λ o. IfSome o (λ v.
-        v.items ≡ story serial.now main (places (name_list names.now)) code)) }
+        v.items ≡ story serial.now main (places (name_list names.now)) code.finished)) }
 {
     let addresses = names.packed_addresses(alloc)?;
     let routines = code.fill(addresses.as_slice());
@@ -235,7 +237,7 @@ pub fn translate(
     requires { length source.now + 1 < 2 ^ 32 }
     ensures { IfOk result (λ t. seen t ≡ (outcome serial.now file.now (Some source.now)).ending) }
 {
-    let mut session = Session::new(alloc, file, source)?;
+    let mut session = Session::new(alloc, file, source);
     session.read()?;
     session.finish(serial)
 }

@@ -1,6 +1,6 @@
 ghost use Rattle.std.specs.Prelude.{◌≡◌, IfOk, Some, Ok, Err, is_some};
-ghost use Rattle.inf_reader.specs.Tests.{is_fit_name, is_operand, is_word, complaint_of, text_fault_of, read_of, grammar_mark, atom_of};
-ghost use Rattle.inf_token.specs.Spelling.{is_mark, is_end};
+ghost use Rattle.inf_reader.specs.Tests.{is_fit_name, is_operand, complaint_of, text_fault_of, read_of, grammar_mark, atom_of};
+ghost use Rattle.inf_token.specs.Spelling.{is_end};
 ghost use Rattle.inf_token.specs.Tokens.{spelled};
 ghost use Rattle.inf_symbol.specs.Reports.{meant};
 
@@ -13,15 +13,6 @@ use std::alloc::{AllocError, Global};
 
 /// The longest name that the language has.
 const LONGEST_NAME: usize = 32;
-
-pub fn is_mark(kind: TokenKind, mark: Mark) -> bool
-    ensures { result ≡ is_mark mark kind }
-{
-    match kind {
-        TokenKind::Mark(found) => found == mark,
-        _ => false,
-    }
-}
 
 pub fn is_end(kind: TokenKind) -> bool
     ensures { result ≡ is_end kind }
@@ -40,13 +31,6 @@ pub fn is_operand(token: Token<'_>) -> bool
     ensures { result ≡ is_operand (spelled token.entry) }
 {
     is_fit_name(token) && !is_condition_word(token.bytes)
-}
-
-/// Whether a token is a word of the language, in any case.
-pub fn is_word(token: Token<'_>, word: &[u8]) -> bool
-    ensures { result ≡ is_word word.now (spelled token.entry) }
-{
-    matches!(token.kind, TokenKind::Name) && token.bytes.eq_ignore_ascii_case(word)
 }
 
 /// The message of a fault of a text by itself, or want of memory.

@@ -9,15 +9,15 @@ use Rattle.inf_reader.proofs.session.story_of.Goals as goal
 pub returns-clause-long : goal.returns-clause-long
 returns-clause-long c =
     let numbers = c.as_slice.ensures.value ∙ c.in_ok-addresses.ensures in
-    let bytes = c.as_slice-2.ensures ∙ c.fill-routines.ensures ∙ ap (λ n. code_bytes n c.args.code) numbers in
+    let bytes = c.as_slice-2.ensures ∙ c.fill-routines.ensures ∙ ap (λ n. code_bytes n c.args.code.finished) numbers in
     let Over : List ℕ → Type 0 = λ r. IfOk c.story.result (λ o. is_none o ≡ is_over_long c.args.main r) in
     let Is : Bool → Type 0 = λ b. IfOk c.story.result (λ o. is_none o ≡ b) in
-    subst Is (sym (too_long_is c.args.main (places (named c.args.names.now)) c.args.code)) (subst Over bytes c.story.ensures.long)
+    subst Is (sym (too_long_is c.args.main (places (named c.args.names.now)) c.args.code.finished)) (subst Over bytes c.story.ensures.long)
 
 pub returns-clause-bytes : goal.returns-clause-bytes
 returns-clause-bytes c =
     let numbers = c.as_slice.ensures.value ∙ c.in_ok-addresses.ensures in
-    let bytes = c.as_slice-2.ensures ∙ c.fill-routines.ensures ∙ ap (λ n. code_bytes n c.args.code) numbers in
+    let bytes = c.as_slice-2.ensures ∙ c.fill-routines.ensures ∙ ap (λ n. code_bytes n c.args.code.finished) numbers in
     let Of : List ℕ → Type 0 = λ r. IfOk c.story.result (λ o. IfSome o (λ v. v.items ≡ story_bytes c.args.serial.now c.args.main r)) in
     let Is : List ℕ → Type 0 = λ b. IfOk c.story.result (λ o. IfSome o (λ v. v.items ≡ b)) in
-    subst Is (sym (story_is c.args.serial.now c.args.main (places (named c.args.names.now)) c.args.code)) (subst Of bytes c.story.ensures.bytes)
+    subst Is (sym (story_is c.args.serial.now c.args.main (places (named c.args.names.now)) c.args.code.finished)) (subst Of bytes c.story.ensures.bytes)

@@ -1,18 +1,44 @@
--- What stands behind the old code is the routine and its padding.
-use Rattle.std.proofs.Common.{◌≡◌, ◌+◌, ◌++◌, ◌∙◌, ap, subst, arith, length}
-use Rattle.inf_layout.specs.Code.{routine_cells, padded, AreInOrder}
-use Rattle.inf_layout.proofs.CodeLemmas.{stands_for-closed}
+-- What stands behind the finished routines is the closed one and its padding.
+use Rattle.std.proofs.Common.{◌≡◌, List, ◌++◌, length, take, Option, Some, None, sym, ◌∙◌, ap, subst}
+use Rattle.inf_assembler.specs.Routines.{State, contents_of}
+use Rattle.inf_layout.specs.Code.{CodeCell, Routines, IsCode, cells_from, size, open_in, closed_cells, with_closed}
+use Rattle.inf_layout.proofs.CodeSteps.{code_after, finished_closed}
+use Rattle.inf_layout.proofs.Straight.{room_lacks}
 use Rattle.inf_layout.proofs.code.Code.close.Goals as goal
 
-pub invariant_of-self-in_default : goal.invariant_of-self-in_default
-invariant_of-self-in_default c =
-    let written = c.in-Ok.ensures in
-    let stands = stands_for-closed c.args.kind c.args.routine _ _ _ _ _ _ c.self.invariant written.refs written.area written.len c.in_default.ensures.ok in
-    let end : 0 + length c.append.new.area ≡ length c.append.new.area = omega arith in
-    subst (λ n. AreInOrder 0 c.close.new.refs n) end stands.in_order
+pub lacking-requires : goal.lacking-requires
+lacking-requires c =
+    let inside = c.self.inside in
+    let routine = c.in-Some.routine in
+    let some : inside.routine ≡ Some routine = sym c.take.ensures.value ∙ c.in-Some.is in
+    let is : IsCode inside.finished inside.refs.list inside.area (Some routine) = subst (IsCode inside.finished inside.refs.list inside.area) some c.self.invariant in
+    room_lacks routine.start c.args.kind (contents_of routine inside.area) routine.limits inside.refs c.in-Err.fault is.behind.straight c.in-Err.ensures.fault
+
+pub invariant_of-self-2 : goal.invariant_of-self-2
+invariant_of-self-2 c =
+    let inside = c.self.inside in
+    let routine = c.in-Some.routine in
+    let some : inside.routine ≡ Some routine = sym c.take.ensures.value ∙ c.in-Some.is in
+    let is : IsCode inside.finished inside.refs.list inside.area (Some routine) = subst (IsCode inside.finished inside.refs.list inside.area) some c.self.invariant in
+    let whole = c.append.new.self in
+    let listed = c.close.new.refs in
+    let after = code_after c.args.kind inside.finished inside.refs listed inside.area c.close.new.area whole routine c.in-Ok.closed is c.in-Ok.ensures.ok c.in_default-append.ensures.ok in
+    let none : IsCode (length whole) listed.list whole c.take.new.self = subst (IsCode (length whole) listed.list whole) (sym c.take.ensures.after) after in
+    subst (λ n. IsCode n listed.list whole c.take.new.self) (sym c.len-self-inside.ensures) none
 
 pub returns-clause-ok : goal.returns-clause-ok
 returns-clause-ok c =
-    let written = c.in-Ok.ensures in
-    let stands = stands_for-closed c.args.kind c.args.routine _ _ _ _ _ _ c.self.invariant written.refs written.area written.len c.in_default.ensures.ok in
-    stands.are ∙ ap (λ cells. cells ++ padded (routine_cells c.args.kind c.args.routine)) c.self.view_is
+    let inside = c.self.inside in
+    let routine = c.in-Some.routine in
+    let kind = c.args.kind in
+    let some : inside.routine ≡ Some routine = sym c.take.ensures.value ∙ c.in-Some.is in
+    let is : IsCode inside.finished inside.refs.list inside.area (Some routine) = subst (IsCode inside.finished inside.refs.list inside.area) some c.self.invariant in
+    let whole = c.append.new.self in
+    let listed = c.close.new.refs in
+    let before = cells_from 0 inside.refs.list (take inside.finished inside.area) in
+    let closed = finished_closed kind inside.finished inside.refs listed inside.area c.close.new.area whole routine c.in-Ok.closed is c.in-Ok.ensures.ok c.in_default-append.ensures.ok in
+    let Of : List CodeCell → Option State → Routines = λ cells r. record { finished = cells; opened = open_in whole r } in
+    let With : Option State → Routines = λ r. record { finished = before ++ closed_cells kind (size before) (open_in inside.area r); opened = None } in
+    ap (λ n. Of (cells_from 0 listed.list (take n whole)) c.take.new.self) c.len-self-inside.ensures
+    ∙ ap (Of (cells_from 0 listed.list (take (length whole) whole))) c.take.ensures.after
+    ∙ ap (λ cells. Of cells None) closed ∙ ap With (sym some) ∙ ap (with_closed kind) c.self.view_is

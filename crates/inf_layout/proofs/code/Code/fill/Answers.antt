@@ -1,19 +1,23 @@
 -- The holes that are left are filled as the cells say.
-use Rattle.std.proofs.Common.{◌∙◌, ap, sym, length, subst}
-use Rattle.inf_asm.specs.Known.{filled}
-use Rattle.inf_layout.specs.Code.{number_in, code_bytes, AreInOrder}
-use Rattle.inf_layout.proofs.CodeLemmas.{filled-area, within-at}
+use Rattle.std.proofs.Common.{◌∙◌, ap, sym, length, subst, take}
+use Rattle.inf_layout.specs.Code.{Routines, number_in, code_bytes, AreInOrder}
+use Rattle.inf_layout.proofs.CodeLemmas.{filled, filled-area, within-at}
+use Rattle.inf_layout.proofs.CodeSteps.{order_finished}
 use Rattle.inf_layout.proofs.code.Code.fill.Goals as goal
 
 pub loop-hole-init : goal.loop-hole-init
 loop-hole-init c =
     let numbers = c.args.numbers.now in
-    let area = c.self.inside.area in
-    let holes = c.self.inside.refs in
-    let same = c.as_slice-hole-items.ensures in
+    let inside = c.self.inside in
+    let area = take inside.finished inside.area in
+    let holes = inside.refs.list in
+    let order = order_finished inside.finished holes inside.area inside.routine c.self.invariant in
+    let listed = c.as_slice-hole-items.ensures in
+    let cut = c.cut_back.ensures in
     record {
-      within = (0, subst (λ hs. AreInOrder 0 hs (length area)) (sym same) c.self.invariant);
-      all = ap (λ hs. filled (number_in numbers) hs area) same ∙ filled-area numbers holes area c.self.invariant ∙ ap (code_bytes numbers) c.self.view_is;
+      within = (0, subst (λ xs. AreInOrder 0 c.as_slice-hole-items.result.now (length xs)) (sym cut) (subst (λ hs. AreInOrder 0 hs (length area)) (sym listed) order));
+      all = ap (λ hs. filled (number_in numbers) hs c.cut_back.new.area) listed ∙ ap (filled (number_in numbers) holes) cut ∙ filled-area numbers holes area order
+          ∙ ap (λ (r : Routines). code_bytes numbers r.finished) c.self.view_is;
     }
 
 pub patch_word-requires : goal.patch_word-requires

@@ -1,7 +1,6 @@
 use Rattle.std.proofs.Common.{◌≡◌, length, drop}
-use Rattle.inf_asm.specs.Known.{filled}
 use Rattle.inf_layout.specs.Code.{number_in, code_bytes}
-use Rattle.inf_layout.proofs.CodeLemmas.{AreWithin}
+use Rattle.inf_layout.proofs.CodeLemmas.{AreWithin, filled}
 use Rattle.inf_layout.proofs.code.Code.fill.Given as goal
 
 -- what is filled, with the holes that are left, is all
@@ -10,5 +9,5 @@ invariant-loop-hole l =
     let left = drop l.hole-index l.hole-items in
     record {
       within : AreWithin left (length l.area);
-      all : filled (number_in l.numbers) left l.area ≡ code_bytes l.numbers l.fn.self;
+      all : filled (number_in l.numbers) left l.area ≡ code_bytes l.numbers l.fn.self.finished;
     }

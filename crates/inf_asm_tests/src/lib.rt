@@ -1,5 +1,0 @@
-//! Tests of the assembler.
-#![tactic(auto)]
-
-#[cfg(test)]
-mod cases;

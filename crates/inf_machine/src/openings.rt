@@ -1,0 +1,55 @@
+//! The openings that were met.
+ghost use Rattle.std.specs.Prelude.{◌≡◌, IfOk, true};
+ghost use Rattle.inf_machine.specs.Grammar.{has};
+
+use crate::opening::Opening;
+use crate::table::Table;
+use std::alloc::{AllocError, Global};
+
+/// How many openings are kept at most.
+const PLACES: usize = 1024;
+
+/// The openings that were met, each at the place of its rule and atom. One that is met takes the place of another.
+#[derive(Drop)]
+pub(crate) struct Openings<A: Table> {
+    alloc: Global,
+    places: Vec<Option<Opening<A>>>,
+}
+
+/// The place of an opening. Those that come often in a source have places of their own.
+fn place_of(rule: u8, atom: u8) -> usize {
+    (rule as usize * 37 + atom as usize) % PLACES
+}
+
+impl<A: Table> Openings<A> {
+    /// None was met. It takes no memory until one is.
+    pub(crate) fn new(alloc: Global) -> Openings<A> {
+        Openings {
+            alloc,
+            places: Vec::new(alloc),
+        }
+    }
+
+    /// How an atom opens a rule that it begins.
+    pub(crate) fn find(&mut self, rule: u8, atom: u8) -> Result<&Opening<A>, AllocError>
+        requires { has (A.known.begins rule) atom ≡ true }
+        ensures { IfOk result (λ opening. opening.now ≡ (rule, atom)) }
+    {
+        let place = place_of(rule, atom);
+        while self.places.len() <= place {
+            self.places.push(None)?;
+        }
+        let kept = &mut self.places[place];
+        let is_kept = match kept {
+            Some(opening) => opening.is_of(rule, atom),
+            None => false,
+        };
+        if !is_kept {
+            *kept = Some(Opening::of(self.alloc, rule, atom)?);
+        }
+        match kept {
+            Some(opening) => Ok(opening),
+            None => unreachable!(),
+        }
+    }
+}

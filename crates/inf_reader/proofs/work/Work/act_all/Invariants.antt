@@ -1,9 +1,0 @@
-use Rattle.std.proofs.Common.{◌≡◌, drop}
-use Rattle.inf_reader.specs.Actions.{acted}
-use Rattle.inf_reader.specs.Sessions.{unit, work}
-use Rattle.inf_reader.proofs.work.Work.act_all.Given as goal
-
--- the actions that are left lead from here to where all lead
-abbrev pub invariant-loop-action : goal.invariant-loop-action
-invariant-loop-action l =
-    acted l.file (unit l.at_hand) l.line (drop l.action-index l.actions) (work l.self) ≡ acted l.file (unit l.at_hand) l.line l.actions (work l.fn.self)

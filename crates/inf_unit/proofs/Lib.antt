@@ -1,0 +1,2 @@
+pub mod TextWords
+pub mod Emitting

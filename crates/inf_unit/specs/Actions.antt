@@ -1,0 +1,161 @@
+-- What the actions of the grammar do. While a unit is read they gather its parts, and at its end it acts, as a whole.
+use Rattle.std.specs.Prelude.{ℕ, List, [], ◌∷◌, ◌++◌, length, Bool, false, if◌then◌else◌, Option, Some, None, is_some}
+use Rattle.inf_characters.specs.declared.texts.TextItem.{TextItem}
+use Rattle.inf_opcode.specs.declared.opcodes.Opcode.TheVariants as opcode
+use Rattle.inf_opcode.specs.declared.instructions.Operand.{Operand}
+use Rattle.inf_opcode.specs.Instructions.{Parts, bare}
+use Rattle.inf_assembler.specs.declared.routines.RoutineKind.TheVariants as routine_kind
+use Rattle.inf_assembler.specs.Routines.{fresh}
+use Rattle.inf_token.specs.Spelling.{Spelled}
+use Rattle.inf_symbol.specs.Messages.{Blame, Reported, nothing_reported, with_error, with_fault}
+use Rattle.inf_symbol.specs.Names.{Named, folded}
+use Rattle.inf_symbol.specs.Locals.{Local, Headed, with_all_named, with_locals, no_locals, with_all_unused}
+use Rattle.inf_layout.specs.Code.{Routines, size, with_item, with_closed, with_none_open}
+use Rattle.inf_grammar.specs.declared.actions.Action.{Action}
+use Rattle.inf_grammar.specs.declared.actions.Action.TheVariants as action
+use Rattle.inf_unit.specs.Statements.{Unit, statement_of}
+use Rattle.inf_unit.specs.Units.{name_fault, with_name, header_fault, operand_fault, call_fault, with_operands, printing, calling, returning}
+use Rattle.inf_unit.specs.declared.unit.Statement.{Statement}
+use Rattle.inf_unit.specs.declared.unit.Statement.TheVariants as statement
+
+-- What the unit at hand gathered: its operands, its texts, and the characters of its last token, if that is a text.
+pub record Gathered : Type 0 where
+  pub operands : List Spelled
+  pub texts : List (List TextItem)
+  pub read : Option (List TextItem)
+
+abbrev pub nothing_gathered : Gathered
+nothing_gathered = record { operands = []; texts = []; read = None }
+
+-- The finished routines and the open one, if any, and whether the header of the one opened last had an error.
+pub record Output : Type 0 where
+  pub code : Routines
+  pub is_lost : Bool
+
+abbrev pub no_output : Output
+no_output = record { code = record { finished = []; opened = None }; is_lost = false }
+
+-- What was compiled so far: the parts of the unit at hand, the locals of the open routine, the names of the source, the code, and
+-- the messages.
+pub record Work : Type 0 where
+  pub gathered : Gathered
+  pub locals : List Local
+  pub names : List Named
+  pub output : Output
+  pub report : Reported
+
+abbrev pub no_work : Work
+no_work = record { gathered = nothing_gathered; locals = []; names = []; output = no_output; report = nothing_reported }
+
+-- The parts of a unit
+
+-- the last token is an operand
+abbrev pub with_operand_at : Option Spelled → Gathered → Gathered
+with_operand_at (Some t) g = record g { operands = g.operands ++ t ∷ [] }
+with_operand_at None g = g
+
+-- it is a text
+abbrev pub with_text : Option (List TextItem) → Gathered → Gathered
+with_text (Some text) g = record g { texts = g.texts ++ text ∷ []; read = None }
+with_text None g = g
+
+-- The code
+
+-- one instruction more in the open routine
+abbrev pub emitted : Parts → Output → Output
+emitted item o = record o { code = record o.code { opened = with_item item o.code.opened } }
+
+-- a routine is opened with so many locals
+abbrev pub opened : ℕ → Bool → Output → Output
+opened locals is_lost o = record { code = record o.code { opened = Some (fresh locals) }; is_lost = is_lost }
+
+-- the open routine is finished: its code stays unless its header had an error
+abbrev pub closed : Output → Output
+closed o = record o { code = if o.is_lost then with_none_open o.code else with_closed routine_kind.Plain o.code }
+
+-- some texts are printed one after the other
+abbrev pub printed : List (List TextItem) → Output → Output
+printed [] o = o
+printed (text ∷ texts) o = printed texts (emitted (printing text) o)
+
+-- A routine
+
+-- A header, which begins on this line, opens a routine with its locals. With an error it still declares its name, where that
+-- is free, and its locals. Z-Machine Standard 1.1, section 5.2.
+abbrev pub header_with : List ℕ → ℕ → Spelled → List ℕ → Headed → Work → Work
+header_with file line name key h w =
+    let of_name = name_fault key name w.names in
+    let fault = header_fault line of_name h in
+    record w {
+      names = with_name key name (size w.output.code.finished) of_name w.names;
+      locals = h.locals;
+      output = opened (length h.locals) (is_some fault) w.output;
+      report = with_fault file line fault w.report;
+    }
+
+-- behind its bracket a header has the name of its routine and the locals
+abbrev pub header : List ℕ → List Spelled → Work → Work
+header file (bracket ∷ name ∷ locals) w =
+    header_with file bracket.line name (folded name.bytes) (with_locals locals no_locals) w
+header file _ w = w
+
+-- The end of a routine, on this line: its unused locals are told.
+abbrev pub close : List ℕ → ℕ → Work → Work
+close file line w = record w { output = closed w.output; report = with_all_unused file line w.locals w.report }
+
+-- Statements, which begin on this line
+
+abbrev pub with_instruction : Parts → Work → Work
+with_instruction item w = record w { output = emitted item w.output }
+
+-- A unit names some names: a local is named then, also where the unit has an error. Without one the names are used, and the
+-- operands make an instruction.
+abbrev pub instructed : List ℕ → ℕ → (List Operand → Parts) → List Spelled → Option Blame → Work → Work
+instructed file line instruction tokens (Some b) w = record w {
+  locals = with_all_named tokens w.locals;
+  report = with_error file b.line line b.message w.report;
+}
+instructed file line instruction tokens None w =
+    let o = with_operands w.locals tokens (record { names = w.names; operands = [] }) in
+    record w {
+      locals = with_all_named tokens w.locals;
+      names = o.names;
+      output = emitted (instruction o.operands) w.output;
+    }
+
+-- the operands of a call are what is called and its arguments
+abbrev pub call : List ℕ → ℕ → List Spelled → Work → Work
+call file line [] w = w
+call file line (t ∷ arguments) w = instructed file line calling (t ∷ arguments) (call_fault line w.locals t arguments) w
+
+abbrev pub return_of : List ℕ → ℕ → List Spelled → Work → Work
+return_of file line [] w = with_instruction (bare opcode.Rtrue) w
+return_of file line (t ∷ more) w = instructed file line returning (t ∷ []) (operand_fault w.locals t) w
+
+abbrev pub finish : Statement → List ℕ → ℕ → Work → Work
+finish statement.Print file line w = record w { output = printed w.gathered.texts w.output }
+finish statement.Return file line w = return_of file line w.gathered.operands w
+finish statement.NewLine file line w = with_instruction (bare opcode.NewLine) w
+finish statement.Quit file line w = with_instruction (bare opcode.Quit) w
+finish statement.ReturnTrue file line w = with_instruction (bare opcode.Rtrue) w
+finish statement.ReturnFalse file line w = with_instruction (bare opcode.Rfalse) w
+finish statement.Call file line w = call file line w.gathered.operands w
+
+-- a statement of these tokens; one of none does nothing
+abbrev pub statement_end : List ℕ → List Spelled → Work → Work
+statement_end file [] w = w
+statement_end file (first ∷ rest) w = finish (statement_of first) file first.line w
+
+-- What an action does, the unit at hand having these tokens, and the next token standing on this line.
+abbrev pub act : List ℕ → Unit → ℕ → Action → Work → Work
+act file unit line action.Begin w = record w { gathered = nothing_gathered }
+act file unit line action.Name w = record w { gathered = with_operand_at unit.last w.gathered }
+act file unit line action.PrintText w = record w { gathered = with_text w.gathered.read w.gathered }
+act file unit line action.EndLocals w = header file unit.tokens w
+act file unit line action.EndStatement w = statement_end file unit.tokens w
+act file unit line action.EndRoutine w = close file line w
+act file unit line _ w = w
+
+abbrev pub acted : List ℕ → Unit → ℕ → List Action → Work → Work
+acted file unit line [] w = w
+acted file unit line (a ∷ actions) w = acted file unit line actions (act file unit line a w)

@@ -1,0 +1,5 @@
+pub mod Tests
+pub mod Statements
+pub mod Units
+pub mod Actions
+pub mod Works

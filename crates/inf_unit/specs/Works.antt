@@ -1,0 +1,30 @@
+-- What the parts of the code's work stand for.
+use Rattle.std.specs.Prelude.{map, option_map}
+use Rattle.inf_token.specs.Tokens.{spelled}
+use Rattle.inf_symbol.specs.Reported.{reported}
+use Rattle.inf_symbol.specs.NameMap.{named}
+use Rattle.inf_symbol.specs.LocalList.{listed}
+use Rattle.inf_unit.specs.Statements.{Unit}
+use Rattle.inf_unit.specs.Actions.{Gathered, Output, Work}
+use Rattle.inf_unit.specs.declared.unit.Unit.{Unit as CodeUnit}
+use Rattle.inf_unit.specs.declared.work.Gathered.{Gathered as CodeGathered}
+use Rattle.inf_unit.specs.declared.work.Work.{Work as CodeWork}
+use Rattle.inf_unit.specs.declared.output.Output.{Output as CodeOutput}
+
+abbrev pub unit : CodeUnit → Unit
+unit u = record { tokens = map spelled u.tokens.items; last = option_map spelled u.last }
+
+abbrev pub gathered : CodeGathered → Gathered
+gathered g = record { operands = map spelled g.operands.items; texts = g.texts.items; read = g.read }
+
+abbrev pub output : CodeOutput → Output
+output o = record { code = o.code; is_lost = o.is_lost }
+
+abbrev pub work : CodeWork → Work
+work w = record {
+  gathered = gathered w.gathered;
+  locals = listed w.locals;
+  names = named w.names;
+  output = output w.output;
+  report = reported w.report;
+}

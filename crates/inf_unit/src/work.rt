@@ -1,0 +1,299 @@
+//! What the actions of the grammar do: they gather the parts of a unit, which acts at its end.
+ghost use Rattle.std.specs.Prelude.{◌≡◌, IfNone, None, OnOk, map, option_map};
+ghost use Rattle.inf_token.specs.Tokens.{spelled};
+ghost use Rattle.inf_symbol.specs.Reports.{blamed};
+ghost use Rattle.inf_symbol.specs.LocalList.{headed as as_headed};
+ghost use Rattle.inf_symbol.specs.NameMap.{named as name_list};
+ghost use Rattle.inf_unit.specs.Units.{header_fault};
+
+use crate::instructions::{calling, returning};
+use crate::operands::{call_fault, operand_fault, operands_of};
+use crate::output::Output;
+use crate::unit::{Statement, Unit, statement_of};
+use inf_grammar::Action;
+use inf_opcode::Opcode;
+use inf_symbol::locals::{Headed, Locals};
+use inf_symbol::messages::{Blame, Message};
+use inf_symbol::names::{Declaration, Names, folded, is_system_name};
+use inf_symbol::report::Report;
+use inf_text::Text;
+use inf_token::spelling::Token;
+use std::alloc::{AllocError, Global};
+
+/// The parts of the unit at hand.
+#[derive(Drop)]
+pub struct Gathered<'a> {
+    operands: Vec<Token<'a>>,
+    texts: Vec<Text>,
+    /// The characters of the last token, if it is a text.
+    read: Option<Text>,
+}
+
+impl<'a> Gathered<'a> {
+    ghost use Rattle.inf_unit.specs.Actions.{nothing_gathered, with_operand_at, with_text};
+    ghost use Rattle.inf_unit.specs.Works.{gathered};
+
+    /// Nothing. It takes no memory until something is gathered.
+    fn new(alloc: Global) -> Gathered<'a>
+        ensures { gathered result ≡ nothing_gathered }
+    {
+        Gathered {
+            operands: Vec::new(alloc),
+            texts: Vec::new(alloc),
+            read: None,
+        }
+    }
+
+    /// A unit begins.
+    fn clear(&mut self)
+        ensures { gathered self.new ≡ nothing_gathered }
+    {
+        self.operands.clear();
+        self.texts.clear();
+        self.read = None;
+    }
+
+    /// The last token is an operand.
+    fn add_operand(&mut self, last: Option<Token<'a>>) -> Result<(), AllocError>
+        ensures { OnOk result (gathered self.new
+            ≡ with_operand_at (option_map spelled last.entry) (gathered self.old)) }
+    {
+        if let Some(token) = last {
+            self.operands.push(token)?;
+        }
+        Ok(())
+    }
+
+    /// The last token is a text.
+    fn add_text(&mut self) -> Result<(), AllocError>
+        ensures { let before = gathered self.old in
+            OnOk result (gathered self.new ≡ with_text before.read before) }
+    {
+        if let Some(text) = self.read.take() {
+            self.texts.push(text)?;
+        }
+        Ok(())
+    }
+}
+
+/// What was compiled so far.
+#[derive(Drop)]
+pub struct Work<'a> {
+    alloc: Global,
+    gathered: Gathered<'a>,
+    /// The locals of the routine that was opened last.
+    locals: Locals<'a>,
+    pub names: Names<'a>,
+    pub output: Output,
+    pub report: Report,
+}
+
+impl<'a> Work<'a> {
+    ghost use Rattle.inf_symbol.specs.Names.{declaration_of, folded};
+    ghost use Rattle.inf_unit.specs.Actions.{no_work, header, header_with, close, statement_end, call, return_of, act, acted};
+    ghost use Rattle.inf_unit.specs.Works.{gathered, unit, work};
+    ghost use Rattle.inf_unit.specs.Units.{name_fault};
+
+    /// Before the first unit. It takes no memory until something is read.
+    pub fn new(alloc: Global) -> Work<'a>
+        ensures { work result ≡ no_work }
+    {
+        Work {
+            alloc,
+            gathered: Gathered::new(alloc),
+            locals: Locals::new(),
+            names: Names::new(alloc),
+            output: Output::new(alloc),
+            report: Report::new(alloc),
+        }
+    }
+
+    /// A token was taken, which has these characters if it is a text.
+    pub fn gather(&mut self, text: Option<Text>)
+        ensures { let before = work self.old in work self.new
+            ≡ record before { gathered = record before.gathered { read = text } } }
+    {
+        self.gathered.read = text;
+    }
+
+    /// Carries out some actions, before a token on this line.
+    pub fn act_all(
+        &mut self,
+        file: &[u8],
+        at_hand: &Unit<'a>,
+        line: u32,
+        actions: &[Action],
+    ) -> Result<(), AllocError>
+        ensures { OnOk result (work self.new ≡ acted file.now (unit at_hand.now) line actions.now (work self.old)) }
+    {
+        for action in actions {
+            self.act(file, at_hand, line, *action)?;
+        }
+        Ok(())
+    }
+
+    /// Carries out an action.
+    fn act(
+        &mut self,
+        file: &[u8],
+        at_hand: &Unit<'a>,
+        line: u32,
+        action: Action,
+    ) -> Result<(), AllocError>
+        ensures { OnOk result (work self.new ≡ act file.now (unit at_hand.now) line action (work self.old)) }
+    {
+        match action {
+            Action::Begin => {
+                self.gathered.clear();
+                Ok(())
+            }
+            Action::Name => self.gathered.add_operand(at_hand.last),
+            Action::PrintText => self.gathered.add_text(),
+            Action::EndLocals => self.header(file, at_hand.tokens.as_slice()),
+            Action::EndStatement => self.end_statement(file, at_hand.tokens.as_slice()),
+            Action::EndRoutine => self.close(file, line),
+            _ => Ok(()),
+        }
+    }
+
+    /// The header of a routine, which ends here.
+    fn header(&mut self, file: &[u8], tokens: &[Token<'a>]) -> Result<(), AllocError>
+        ensures { OnOk result (work self.new ≡ header file.now (map spelled tokens.now) (work self.old)) }
+    {
+        let Some((bracket, names)) = tokens.split_first() else {
+            return Ok(());
+        };
+        let Some((name, locals)) = names.split_first() else {
+            return Ok(());
+        };
+        self.open(file, bracket.line, *name, Headed::of(locals))
+    }
+
+    /// Opens the routine of a header that begins on a line. Its code begins with the number of its
+    /// locals (Z-Machine Standard 1.1, section 5.2).
+    fn open(
+        &mut self,
+        file: &[u8],
+        line: u32,
+        name: Token<'a>,
+        headed: Headed<'a>,
+    ) -> Result<(), AllocError>
+        ensures { let key = folded name.entry.bytes.now in
+            OnOk result (work self.new ≡ header_with file.now line
+            (spelled name.entry) key (as_headed headed.entry) (work self.old)) }
+    {
+        let key = folded(self.alloc, name.bytes)?;
+        let of_name = self.name_fault(key.as_slice(), name);
+        let fault = header_fault(line, of_name, &headed);
+        if of_name.is_none() {
+            let declaration = Declaration {
+                line: name.line,
+                place: self.output.code.len(),
+            };
+            self.names.declare(key, declaration)?;
+        }
+        self.output
+            .open(self.alloc, headed.locals.count(), fault.is_some())?;
+        self.locals = headed.locals;
+        self.report.fault(file, line, fault)
+    }
+
+    /// What is wrong with declaring a name, given without case too.
+    fn name_fault<'t>(&self, key: &[u8], name: Token<'t>) -> Option<Blame<'t>>
+        ensures fault { option_map blamed result
+            ≡ name_fault key.now (spelled name.entry) (name_list self.now.names) }
+        ensures undeclared { IfNone result (declaration_of key.now (name_list self.now.names) ≡ None) }
+    {
+        if is_system_name(name.bytes) {
+            return Some(Blame {
+                line: name.line,
+                message: Message::SystemName(name.bytes),
+            });
+        }
+        let first = self.names.find(key)?;
+        Some(Blame {
+            line: name.line,
+            message: Message::Declared(name.bytes, first.line),
+        })
+    }
+
+    /// Ends the open routine at a line: tells its unused locals, and finishes its code.
+    fn close(&mut self, file: &[u8], line: u32) -> Result<(), AllocError>
+        ensures { OnOk result (work self.new ≡ close file.now line (work self.old)) }
+    {
+        self.locals.tell_unused(file, line, &mut self.report)?;
+        self.output.close()
+    }
+
+    /// A statement of these tokens ends.
+    fn end_statement(&mut self, file: &[u8], tokens: &[Token<'a>]) -> Result<(), AllocError>
+        ensures { OnOk result (work self.new
+            ≡ statement_end file.now (map spelled tokens.now) (work self.old)) }
+    {
+        let Some((first, _)) = tokens.split_first() else {
+            return Ok(());
+        };
+        match statement_of(*first) {
+            Statement::Print => self
+                .output
+                .print_all(self.alloc, self.gathered.texts.as_slice()),
+            Statement::Return => self.end_return(file, first.line),
+            Statement::NewLine => self.output.emit_bare(Opcode::NewLine),
+            Statement::Quit => self.output.emit_bare(Opcode::Quit),
+            Statement::ReturnTrue => self.output.emit_bare(Opcode::Rtrue),
+            Statement::ReturnFalse => self.output.emit_bare(Opcode::Rfalse),
+            Statement::Call => self.call(file, first.line),
+        }
+    }
+
+    /// Calls the first operand of the unit with the others.
+    fn call(&mut self, file: &[u8], line: u32) -> Result<(), AllocError>
+        ensures { let names = (gathered self.old.gathered).operands in
+            OnOk result (work self.new ≡ call file.now line names (work self.old)) }
+    {
+        let names = self.gathered.operands.as_slice();
+        let Some((called, arguments)) = names.split_first() else {
+            return Ok(());
+        };
+        if let Some(blame) = call_fault(line, &self.locals, *called, arguments) {
+            self.locals.name_all(names);
+            return self.report.error(file, blame.line, line, blame.message);
+        }
+        let operands = operands_of(self.alloc, &self.locals, &mut self.names, names)?;
+        self.locals.name_all(names);
+        self.output.emit(calling(operands.as_slice()))
+    }
+
+    /// Returns true, or the operand of the unit.
+    fn end_return(&mut self, file: &[u8], line: u32) -> Result<(), AllocError>
+        ensures { let names = (gathered self.old.gathered).operands in
+            OnOk result (work self.new ≡ return_of file.now line names (work self.old)) }
+    {
+        let Some((name, _)) = self.gathered.operands.as_slice().split_first() else {
+            return self.output.emit_bare(Opcode::Rtrue);
+        };
+        let names = [*name];
+        if let Some(blame) = operand_fault(&self.locals, *name) {
+            self.locals.name_all(&names);
+            return self.report.error(file, blame.line, line, blame.message);
+        }
+        let operands = operands_of(self.alloc, &self.locals, &mut self.names, &names)?;
+        self.locals.name_all(&names);
+        self.output.emit(returning(operands.as_slice()))
+    }
+}
+
+/// The first error of a header by its place: too many locals, which stands at its bracket, its
+/// name, a local named again.
+fn header_fault<'a>(line: u32, of_name: Option<Blame<'a>>, headed: &Headed<'a>) -> Option<Blame<'a>>
+    ensures { option_map blamed result
+        ≡ header_fault line (option_map blamed of_name.entry) (as_headed headed.entry.now) }
+{
+    if headed.are_too_many {
+        return Some(Blame {
+            line,
+            message: Message::TooManyLocals,
+        });
+    }
+    of_name.or(headed.repeated)
+}
