@@ -112,15 +112,16 @@ fn accent_place(table: &[char], character: u32) -> Option<usize>
     table.iter().position(|x| u32::from(*x) == character)
 }
 
-/// Whether a byte ends a line.
-pub(crate) fn is_line_end(byte: u8) -> bool
+/// Whether a byte ends a line: line feed and carriage return.
+pub fn is_line_end(byte: u8) -> bool
     ensures { result ≡ is_line_end byte }
 {
     matches!(byte, b'\n' | b'\r')
 }
 
-/// Whether a byte is white space.
-pub(crate) fn is_white(set: CharSet, byte: u8) -> bool
+/// Whether a byte is white space: tab, line feed, form feed, carriage return and space, under `Latin1`
+/// also 160.
+pub fn is_white(set: CharSet, byte: u8) -> bool
     ensures { result ≡ is_white set byte }
 {
     match byte {

@@ -9,6 +9,6 @@ mod numbers;
 mod reading;
 mod texts;
 
-pub use characters::{CharSet, Zscii, source_char};
+pub use characters::{CharSet, Zscii, is_line_end, is_white, source_char};
 pub use reading::{Mode, TextFault, read_text};
 pub use texts::{Text, TextItem};

@@ -1,5 +1,5 @@
 -- What the innermost source gives, reading by reading.
-use Rattle.std.proofs.Common.{◌≡◌, ℕ, suc, ◌+◌, ◌-◌, ◌<◌, zero, List, [], ◌∷◌, ◌++◌, length, take, drop, get_or, Some, unwrap_or, refl, sym, ap, subst, ◌∙◌, arith, append-nil, append_assoc, length-append}
+use Rattle.std.proofs.Common.{◌≡◌, ℕ, suc, ◌+◌, ◌-◌, ◌<◌, zero, List, [], ◌∷◌, ◌++◌, length, take, drop, get_or, Bool, true, false, IsTrue, Some, unwrap_or, refl, sym, ap, subst, ◌∙◌, arith, append-nil, append_assoc, length-append}
 use Rattle.std.specs.Prelude.{slice_get, slice_set}
 use Rattle.std.proofs.lemmas.List.{length-set, drop-take, drop-drop}
 use Rattle.std.proofs.Math.Seq.{get_or-append_seam}
@@ -98,21 +98,24 @@ gave_of sources old new bytes g =
       others = λ i other. ap (λ os. slice_get os i) all ∙ set_else old.all g.place _ i (λ e. other (e ∙ sym here));
     }
 
--- Where the innermost source gives nothing, it is at its end.
-pub nothing_left : (sources : Sources) (old new : Openings) (bytes : List ℕ) → GivesInnermost sources old new bytes → bytes ≡ [] → unread sources new ≡ []
+-- Where the innermost source gives nothing, it is at its end, and that was read.
+pub nothing_left : (sources : Sources) (old new : Openings) (bytes : List ℕ) → GivesInnermost sources old new bytes → bytes ≡ []
+    → (unread sources new ≡ []) × ((innermost new).is_read_out ≡ true)
 nothing_left sources old new bytes g none =
     let places : new.open_places ≡ old.open_places = ap (λ (o : Openings). o.open_places) g.after in
     let all : new.all ≡ slice_set old.all g.place (after_bytes g.before bytes) = ap (λ (o : Openings). o.all) g.after in
     let here_new : innermost_place new ≡ g.place = ap (λ (places : List ℕ). get_or places (length places - 1) 0) (places ∙ g.innermost) ∙ last_place g.outer g.place in
     let is : innermost new ≡ after_bytes g.before bytes =
     ap (λ n. get_or new.all n (opened [])) here_new ∙ ap (λ os. get_or os g.place (opened [])) all
-    ∙ set_at old.all g.place g.before (after_bytes g.before bytes) g.was_opened in
-    ap (λ o. unread_of sources o) is
-    ∙ ap (λ n. drop (length (after_bytes g.before bytes).given) (unwrap_or (sources n) [])) (after_name g.before bytes)
-    ∙ ap (λ given. drop (length given) (unwrap_or (sources g.before.name) [])) (after_given g.before bytes)
-    ∙ ap (λ w. drop (length (g.before.given ++ bytes)) w) (ap (λ o. unwrap_or o []) g.gives.is_source ∙ g.gives.in_order)
-    ∙ drop_front (g.before.given ++ bytes) g.gives.rest
-    ∙ g.gives.end_only none
+    ∙ set_at old.all g.place g.before (after_bytes g.before bytes) g.was_opened in (
+      ap (λ o. unread_of sources o) is
+          ∙ ap (λ n. drop (length (after_bytes g.before bytes).given) (unwrap_or (sources n) [])) (after_name g.before bytes)
+          ∙ ap (λ given. drop (length given) (unwrap_or (sources g.before.name) [])) (after_given g.before bytes)
+          ∙ ap (λ w. drop (length (g.before.given ++ bytes)) w) (ap (λ o. unwrap_or o []) g.gives.is_source ∙ g.gives.in_order)
+          ∙ drop_front (g.before.given ++ bytes) g.gives.rest
+          ∙ g.gives.end_only none,
+      ap (λ (o : Opening). o.is_read_out) is ∙ ap (λ bs. (after_bytes g.before bs).is_read_out) none,
+    )
 
 -- a window with one byte less
 pub window_behind : (next end : ℕ) (buffer : List ℕ) → next < end → take (end - (next + 1)) (drop (next + 1) buffer) ≡ drop 1 (take (end - next) (drop next buffer))
@@ -123,10 +126,15 @@ window_behind next end buffer some =
     ∙ ap (λ n. drop 1 (take n (drop next buffer))) (sym size)
 
 -- what a reading into an empty window brings
-pub reads_first : (sources : Sources) (old new : Openings) (before after : View) (bytes : List ℕ) → before.left ≡ [] → Gave sources old new bytes
-    → after.left ≡ bytes → after.given ≡ before.given + length bytes → ReadsOn sources old new before after
-reads_first sources old new before after bytes empty gave left given =
-    record { bytes = bytes; gave = gave; left = left ∙ ap (λ l. l ++ bytes) (sym empty); given = given }
+pub reads_first : (is_honest : Bool) (sources : Sources) (old new : Openings) (before after : View) (bytes : List ℕ) → before.left ≡ [] → before.is_over ≡ false
+    → (IsTrue is_honest → Gave sources old new bytes) → after.left ≡ bytes → after.given ≡ before.given + length bytes → ReadsOn is_honest sources old new before after
+reads_first is_honest sources old new before after bytes empty on gave left given = record {
+  bytes = bytes;
+  left = left ∙ ap (λ l. l ++ bytes) (sym empty);
+  given = given;
+  stops = λ over. cc;
+  gave = gave;
+}
 
 pub gave_same : (sources : Sources) (old new : Openings) → new ≡ old → Gave sources old new []
 gave_same sources old new e = subst (λ o. Gave sources old o []) (sym e) (gave_nothing sources old)

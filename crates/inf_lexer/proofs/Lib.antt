@@ -1,7 +1,8 @@
 pub mod Giving
-pub mod Quoted
+pub mod Hearing
+pub mod Taken
 pub mod Scanned
 pub mod NameLists
 pub mod FileNames
 pub mod Candidates
-pub mod SpellingLaws
+pub mod AnswerLaws

@@ -1,31 +1,12 @@
 -- One step of reading a token, with what is in view and what is behind it.
-use Rattle.std.proofs.Common.{◌≡◌, ◌<◌, ℕ, List, [], ◌∷◌, ◌++◌, length, drop, Some, None, sym, ap, ◌∙◌, append_assoc, length-append, arith}
-use Rattle.inf_token.specs.Files.{Sources, Openings}
+use Rattle.std.proofs.Common.{◌≡◌, ◌<◌, ℕ, List, [], ◌∷◌, ◌++◌, length, drop, arith, Some, None, sym, ap, ◌∙◌}
 use Rattle.inf_characters.specs.declared.characters.CharSet.{CharSet}
-use Rattle.inf_lexer.specs.Unread.{View, ReadsOn, Along, first_of, to_come, unread}
-use Rattle.inf_lexer.specs.Scanning.{Sight, Found, turn, find, at_end, marked}
-use Rattle.inf_lexer.specs.declared.scanner.State.{State}
-use Rattle.inf_lexer.specs.declared.scanner.Ending.{Ending}
-use Rattle.inf_lexer.specs.declared.scanner.Turn.{Turn}
-use Rattle.inf_lexer.specs.declared.scanner.Turn.TheVariants as turn_to
-use Rattle.inf_lexer.proofs.Giving.{gave_nothing, gave_more}
-
--- what is to come stays the same when more of it comes into view
-pub same_to_come : (sources : Sources) (old new : Openings) (before after : View) → ReadsOn sources old new before after
-    → to_come sources old before.left ≡ to_come sources new after.left
-same_to_come sources old new before after r =
-    ap (λ u. before.left ++ u) r.gave.next ∙ sym (append_assoc before.left r.bytes (unread sources new)) ∙ ap (λ l. l ++ unread sources new) (sym r.left)
-
-pub along_none : (sources : Sources) (o : Openings) (given : ℕ) → Along sources o o given given
-along_none sources o given = record { bytes = []; gave = gave_nothing sources o; count = omega arith }
-
-pub along_more : (sources : Sources) (start old new : Openings) (given : ℕ) (before after : View) → Along sources start old given before.given
-    → ReadsOn sources old new before after → Along sources start new given after.given
-along_more sources start old new given before after a r = record {
-  bytes = a.bytes ++ r.bytes;
-  gave = gave_more sources start old new a.bytes r.bytes a.gave r.gave;
-  count = omega (arith, a.count, r.given, length-append a.bytes r.bytes);
-}
+use Rattle.inf_lexer.specs.Unread.{first_of}
+use Rattle.inf_scanner.specs.Scanning.{Sight, Found, turn, find, at_end, marked}
+use Rattle.inf_scanner.specs.declared.scanner.State.{State}
+use Rattle.inf_scanner.specs.declared.scanner.Ending.{Ending}
+use Rattle.inf_scanner.specs.declared.scanner.Turn.{Turn}
+use Rattle.inf_scanner.specs.declared.scanner.Turn.TheVariants as turn_to
 
 abbrev after_turn : CharSet → ℕ → Turn × Sight → ℕ → List ℕ → Found
 after_turn set limit t b bs =

@@ -3,8 +3,7 @@ use Rattle.std.specs.Prelude.{◌≡◌, ℕ, ◌<◌, ◌≤◌, ◌⊎◌, Lis
 use Rattle.std.specs.List.{list_any}
 use Rattle.inf_token.specs.Files.{Sources, Openings, opened}
 use Rattle.inf_lexer.specs.Names.{Nest, entered, number_of}
-use Rattle.inf_lexer.specs.Readers.{Reader}
-use Rattle.inf_lexer.specs.Tokens.{at_front}
+use Rattle.inf_lexer.specs.Readers.{Reader, at_front}
 use Rattle.inf_lexer.specs.declared.enter_faults.EnterFault.{EnterFault}
 use Rattle.inf_lexer.specs.declared.enter_faults.EnterFault.TheVariants as fault
 

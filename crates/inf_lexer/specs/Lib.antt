@@ -1,11 +1,5 @@
-pub mod Marks
-pub mod Kept
-pub mod Lines
-pub mod Scanning
 pub mod Unread
-pub mod Kinds
 pub mod Readers
-pub mod Tokens
 pub mod Names
 pub mod Entering
-pub mod SpellingLaws
+pub mod AnswerLaws

@@ -1,9 +1,15 @@
 -- What a lexer is.
-use Rattle.std.specs.Prelude.{ℕ, Bool}
+use Rattle.std.specs.Prelude.{◌≡◌, ◌+◌, ◌<◌, ◌≤◌, ◌⊎◌, ℕ, List, [], length, Bool, true, false}
 use Rattle.inf_characters.specs.declared.characters.CharSet.{CharSet}
-use Rattle.inf_lexer.specs.Kept.{Kept}
-use Rattle.inf_lexer.specs.Unread.{View}
-use Rattle.inf_lexer.specs.declared.lines.Lines.{Lines}
+use Rattle.inf_scanner.specs.Kept.{Kept, nothing_kept}
+use Rattle.inf_scanner.specs.Lines.{first_line}
+use Rattle.inf_scanner.specs.TokenLaws.{is_run}
+use Rattle.inf_scanner.specs.Tokens.{Read}
+use Rattle.inf_scanner.specs.declared.lines.Lines.{Lines}
+use Rattle.inf_scanner.specs.declared.tokens.Token.{Token}
+use Rattle.inf_scanner.specs.declared.tokens.TokenKind.{TokenKind}
+use Rattle.inf_scanner.specs.declared.tokens.TokenKind.TheVariants as kind
+use Rattle.inf_lexer.specs.Unread.{IsAtEnd, View}
 
 -- A lexer: the character set, how many bytes a quoted token may have, the number of its file, what is in view of it, the bytes
 -- of the token that was read last, the line behind it, and whether it has refused.
@@ -15,3 +21,27 @@ pub record Reader : Type 0 where
   pub kept : Kept
   pub lines : Lines
   pub has_failed : Bool
+
+-- what a call read
+abbrev pub read_out : Token → Reader → List ℕ → Read
+read_out token reader rest = record { kind = token.kind; line = token.place.line; kept = reader.kept; lines = reader.lines; rest = rest }
+
+-- a lexer that has read nothing yet
+abbrev pub at_front : CharSet → ℕ → ℕ → Reader
+at_front set limit file = record {
+  set = set;
+  limit = limit;
+  file = file;
+  window = record { left = []; given = 0; is_over = false };
+  kept = nothing_kept;
+  lines = first_line;
+  has_failed = false;
+}
+
+-- What a token takes, with any reader: the end nothing, and each other a byte at least. At the end nothing more is to come, and
+-- then the end is read again. Of a name or a number at most 32 bytes are kept.
+pub record Took (k : TokenKind) (before after : View) (kept : Kept) : Type 0 where
+  pub one : (k ≡ kind.End) ⊎ (before.given + length after.left < after.given + length before.left)
+  pub last : k ≡ kind.End → IsAtEnd after
+  pub again : IsAtEnd before → k ≡ kind.End
+  pub short : is_run k ≡ true → length kept.bytes ≤ 32

@@ -1,5 +1,5 @@
 -- What a reader of files has not given yet of its innermost source.
-use Rattle.std.specs.Prelude.{◌≡◌, ℕ, ◌+◌, ◌-◌, List, [], ◌∷◌, ◌++◌, length, drop, get_or, unwrap_or, slice_get, Option, Some, None}
+use Rattle.std.specs.Prelude.{◌≡◌, ℕ, ◌+◌, ◌-◌, List, [], ◌∷◌, ◌++◌, length, drop, get_or, unwrap_or, slice_get, Bool, true, IsTrue, if◌then◌else◌, Option, Some, None}
 use Rattle.inf_token.specs.Files.{Sources, Opening, Openings, opened}
 
 -- the place of the innermost source among the openings
@@ -26,21 +26,50 @@ pub record Gave (sources : Sources) (old new : Openings) (bytes : List ℕ) : Ty
   pub count : length new.all ≡ length old.all
   pub others : (i : ℕ) → (i ≡ innermost_place old → ⊥) → slice_get new.all i ≡ slice_get old.all i
 
--- What is seen of a source: the bytes that were given and not taken yet, and how many were given in all.
+-- What is seen of a source: the bytes that were given and not taken yet, how many were given in all, and whether the end was
+-- read. Behind the end nothing is read any more.
 pub record View : Type 0 where
   pub left : List ℕ
   pub given : ℕ
+  pub is_over : Bool
 
--- The source gave more, which is in view.
-pub record ReadsOn (sources : Sources) (old new : Openings) (before after : View) : Type 0 where
+-- Between two moments these bytes came into view, and none behind the end. Of a reader that keeps to its sources they are the
+-- next of the innermost one.
+pub record ReadsOn (is_honest : Bool) (sources : Sources) (old new : Openings) (before after : View) : Type 0 where
   pub bytes : List ℕ
-  pub gave : Gave sources old new bytes
   pub left : after.left ≡ before.left ++ bytes
   pub given : after.given ≡ before.given + length bytes
+  pub stops : before.is_over ≡ true → (bytes ≡ []) × (after.is_over ≡ true)
+  pub gave : IsTrue is_honest → Gave sources old new bytes
+
+-- what can follow what is in view: behind the end that was read nothing, and any bytes before
+abbrev pub CanFollow : View → List ℕ → Type 0
+CanFollow view behind = view.is_over ≡ true → behind ≡ []
+
+-- Between two moments these bytes were given, and none behind the end. Of a reader that keeps to its sources they are the next of
+-- the innermost one. What all that is still to come is now, it was before, whatever follows these bytes.
+pub record Heard (T : Type 0) (is_honest : Bool) (sources : Sources) (old new : Openings) (before after : View) (now was : List ℕ → T) : Type 0 where
+  pub bytes : List ℕ
+  pub given : after.given ≡ before.given + length bytes
+  pub stops : before.is_over ≡ true → (bytes ≡ []) × (after.is_over ≡ true)
+  pub gave : IsTrue is_honest → Gave sources old new bytes
+  pub same : (behind : List ℕ) → CanFollow after behind → now (after.left ++ behind) ≡ was (before.left ++ (bytes ++ behind))
+
+-- what a source has behind what is in view: nothing where its end was read
+abbrev pub behind_view : Sources → Openings → View → List ℕ
+behind_view sources o view = if view.is_over then [] else unread sources o
 
 -- all that is still to come: what is in view, and what was not given
-abbrev pub to_come : Sources → Openings → List ℕ → List ℕ
-to_come sources o left = left ++ unread sources o
+abbrev pub to_come : Sources → Openings → View → List ℕ
+to_come sources o view = view.left ++ behind_view sources o view
+
+-- Where the end was read, the innermost source has nothing more, and it is known that it was read to its end.
+abbrev pub Ends : Sources → Openings → View → Type 0
+Ends sources o view = view.is_over ≡ true → (unread sources o ≡ []) × ((innermost o).is_read_out ≡ true)
+
+-- nothing more is to come
+abbrev pub IsAtEnd : View → Type 0
+IsAtEnd view = (view.left ≡ []) × (view.is_over ≡ true)
 
 abbrev pub first_of : List ℕ → Option ℕ
 first_of [] = None

@@ -1,17 +1,14 @@
 //! The tokens of an open source, one after another.
 ghost use Rattle.std.specs.Prelude.{◌≡◌, ◌+◌, ◌-◌, ◌<◌, ◌≤◌, ◌⊎◌, [], false, true, length, min, is_err, IsTrue, IsErrOf, IfOk, OnOk, Err};
 ghost use Rattle.inf_token.specs.Files.{Rose, last_count};
-ghost use Rattle.inf_lexer.specs.Unread.{Along, to_come};
-ghost use Rattle.inf_lexer.specs.Scanning.{begun, find, is_quoted, sight};
-ghost use Rattle.inf_lexer.specs.Tokens.{next_token, read_out, at_front};
+ghost use Rattle.inf_lexer.specs.Unread.{Along, Ends, Heard, to_come};
+ghost use Rattle.inf_scanner.specs.Scanning.{Found, begun, find, is_quoted, sight};
+ghost use Rattle.inf_scanner.specs.Tokens.{Read, next_token};
+ghost use Rattle.inf_lexer.specs.Readers.{Took, at_front, read_out};
 
 use crate::faults::LexFault;
-use crate::kinds::kind_of;
-use crate::lines::Lines;
-use crate::scanner::{Ending, Seen, State, Turn};
-use crate::spelling::Spelling;
-use crate::tokens::{Place, Token};
 use crate::window::Window;
+use inf_scanner::{Ending, Place, Seen, State, Token, Turn, kind_of};
 use inf_text::CharSet;
 use inf_token::files::Files;
 use std::alloc::{AllocError, Global};
@@ -29,9 +26,11 @@ fn scan<F: Files>(
     requires few { window.old.given ≤ 16777216 }
     requires room { seen.old.lines.line + length window.old.left ≤ window.old.given + 1 }
     requires window { length window.old.left ≤ 4096 }
-    ensures token { IsTrue (F.is_honest files.old) → IfOk result (λ e.
-        record { ending = e; seen = sight seen.new; rest = to_come (F.sources files.old) (F.openings files.new) window.new.left }
-        ≡ find set limit State.Gap (begun seen.old.lines) (to_come (F.sources files.old) (F.openings files.old) window.old.left)) }
+    ensures heard { IfOk result (λ e. Heard Found (F.is_honest files.old) (F.sources files.old)
+        (F.openings files.old) (F.openings files.new) window.old window.new
+        (λ rest. record { ending = e; seen = sight seen.new; rest = rest }) (find set limit State.Gap (begun seen.old.lines))) }
+    ensures end { IsTrue (F.is_honest files.old) → Ends (F.sources files.old) (F.openings files.old) window.old →
+        Ends (F.sources files.old) (F.openings files.new) window.new }
     ensures gave { IsTrue (F.is_honest files.old) →
         Along (F.sources files.old) (F.openings files.old) (F.openings files.new) window.old.given window.new.given }
     ensures room { seen.new.lines.line + length window.new.left ≤ window.new.given + 1 }
@@ -41,7 +40,7 @@ fn scan<F: Files>(
     ensures cause { IsErrOf result LexFault.Read →
         Rose (F.faults files.old) (F.faults files.new) ⊎ (16777216 < window.new.given) }
     ensures memory { IsErrOf result LexFault.Memory → IsTrue (F.is_honest files.old) →
-        is_quoted (find set limit State.Gap (begun seen.old.lines) (to_come (F.sources files.old) (F.openings files.old) window.old.left)).ending ≡ true }
+        is_quoted (find set limit State.Gap (begun seen.old.lines) (to_come (F.sources files.old) (F.openings files.old) window.old)).ending ≡ true }
     ensures given { min (F.given files.old + (window.new.given - window.old.given)) last_count ≤ F.given files.new }
     ensures depth { F.depth files.new ≡ F.depth files.old }
     ensures faults { F.faults files.old ≤ F.faults files.new }
@@ -121,11 +120,7 @@ impl Lexer {
             limit,
             file,
             window: Window::new(),
-            seen: Seen {
-                first: 1,
-                spelling: Spelling::new(alloc)?,
-                lines: Lines::first(),
-            },
+            seen: Seen::new(alloc)?,
             has_failed: false,
         })
     }
@@ -140,9 +135,18 @@ impl Lexer {
 
         // With an honest reader it is the next token of what is still to come.
         ensures token { IsTrue (F.is_honest files.old) → IfOk result (λ token.
-            read_out token self.new (to_come (F.sources files.old) (F.openings files.new) self.new.window.left)
+            read_out token self.new (to_come (F.sources files.old) (F.openings files.new) self.new.window)
             ≡ next_token self.old.set self.old.limit self.old.lines
-            (to_come (F.sources files.old) (F.openings files.old) self.old.window.left)) }
+            (to_come (F.sources files.old) (F.openings files.old) self.old.window)) }
+
+        // With any reader it is the next token of what is in view and the bytes that were given, whatever follows
+        // them, and nothing is read any more once the reader told the end.
+        ensures heard { IfOk result (λ token. Heard Read (F.is_honest files.old) (F.sources files.old)
+            (F.openings files.old) (F.openings files.new) self.old.window self.new.window
+            (read_out token self.new) (next_token self.old.set self.old.limit self.old.lines)) }
+        ensures took { IfOk result (λ token. Took token.kind self.old.window self.new.window self.new.kept) }
+        ensures end { IsTrue (F.is_honest files.old) → Ends (F.sources files.old) (F.openings files.old) self.old.window →
+            Ends (F.sources files.old) (F.openings files.new) self.new.window }
         ensures file { IfOk result (λ token. token.place.file ≡ self.old.file) }
         ensures same { (self.new.set ≡ self.old.set) × (self.new.limit ≡ self.old.limit) × (self.new.file ≡ self.old.file) }
 
@@ -159,7 +163,7 @@ impl Lexer {
             ⊎ (Rose (F.faults files.old) (F.faults files.new) ⊎ (16777216 < self.new.window.given)) }
         ensures memory { IsErrOf result LexFault.Memory → IsTrue (F.is_honest files.old) →
             is_quoted (find self.old.set self.old.limit State.Gap (begun self.old.lines)
-            (to_come (F.sources files.old) (F.openings files.old) self.old.window.left)).ending ≡ true }
+            (to_come (F.sources files.old) (F.openings files.old) self.old.window)).ending ≡ true }
         ensures failed { self.new.has_failed ≡ is_err result }
         ensures over { self.old.has_failed ≡ true → result ≡ Err LexFault.Read }
         ensures depth { F.depth files.new ≡ F.depth files.old }

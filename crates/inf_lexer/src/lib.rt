@@ -5,19 +5,13 @@
 mod enter_faults;
 mod faults;
 mod include_names;
-mod kinds;
 pub mod laws;
 mod lexer;
-mod lines;
-mod marks;
-mod scanner;
-mod spelling;
 mod stack;
-mod tokens;
 mod window;
 
 pub use enter_faults::EnterFault;
 pub use faults::LexFault;
+pub use inf_scanner::{BadToken, DictionaryWord, Mark, Place, Token, TokenKind};
 pub use lexer::Lexer;
 pub use stack::Stack;
-pub use tokens::{BadToken, DictionaryWord, Mark, Place, Token, TokenKind};

@@ -1,7 +1,7 @@
 //! A source seen through a window.
-ghost use Rattle.std.specs.Prelude.{◌≡◌, ◌+◌, ◌-◌, ◌<◌, ◌≤◌, ◌^◌, ◌⊎◌, ◌∷◌, [], drop, length, min, IsTrue, IsErr, IfOk, IfErr, Ok, None};
+ghost use Rattle.std.specs.Prelude.{◌≡◌, ◌+◌, ◌-◌, ◌<◌, ◌≤◌, ◌^◌, ◌⊎◌, ◌∷◌, [], drop, length, min, false, true, IsTrue, IsErr, IfOk, IfErr, Ok, None};
 ghost use Rattle.inf_token.specs.Files.{Rose, last_count};
-ghost use Rattle.inf_lexer.specs.Unread.{ReadsOn, first_of, unread};
+ghost use Rattle.inf_lexer.specs.Unread.{Ends, ReadsOn, first_of};
 
 use crate::faults::LexFault;
 use inf_token::files::Files;
@@ -13,13 +13,15 @@ const MOST_SOURCE_BYTES: usize = 16_777_216;
 /// How many bytes are in view at most.
 const SIZE: usize = 4096;
 
-/// The bytes of a source that were given and not taken yet, at most 4,096, and how many were given in all.
+/// The bytes of a source that were given and not taken yet, at most 4,096, how many were given in all, and whether
+/// the end was read. Behind the end nothing is read any more.
 #[derive(Drop)]
 pub(crate) struct Window {
     buffer: [u8; SIZE],
     next: usize,
     end: usize,
     given: usize,
+    is_over: bool,
 }
 
 impl Model for Window {
@@ -28,7 +30,7 @@ impl Model for Window {
 
     ghost Value = { View };
 
-    ghost view = { λ w. record { left = take (w.end - w.next) (drop w.next w.buffer); given = w.given } };
+    ghost view = { λ w. record { left = take (w.end - w.next) (drop w.next w.buffer); given = w.given; is_over = w.is_over } };
 
     ghost invariant = { λ w. (w.next ≤ w.end) × (w.end ≤ 4096) × (w.end ≤ w.given + w.next) };
 }
@@ -36,13 +38,14 @@ impl Model for Window {
 impl Window {
     /// Nothing was given yet.
     pub(crate) fn new() -> Window
-        ensures { result ≡ record { left = []; given = 0 } }
+        ensures { result ≡ record { left = []; given = 0; is_over = false } }
     {
         Window {
             buffer: [0; SIZE],
             next: 0,
             end: 0,
             given: 0,
+            is_over: false,
         }
     }
 
@@ -51,10 +54,11 @@ impl Window {
         requires is_open { 0 < F.depth files.old }
         requires given { self.old.given ≤ 16777216 }
         ensures first { IfOk result (λ byte. byte ≡ first_of self.new.left) }
-        ensures reads { IsTrue (F.is_honest files.old) →
-            ReadsOn (F.sources files.old) (F.openings files.old) (F.openings files.new) self.old self.new }
-        ensures end { IsTrue (F.is_honest files.old) → result ≡ Ok None →
-            unread (F.sources files.old) (F.openings files.new) ≡ [] }
+        ensures reads { ReadsOn (F.is_honest files.old) (F.sources files.old)
+            (F.openings files.old) (F.openings files.new) self.old self.new }
+        ensures over { result ≡ Ok None → self.new.is_over ≡ true }
+        ensures end { IsTrue (F.is_honest files.old) → Ends (F.sources files.old) (F.openings files.old) self.old →
+            Ends (F.sources files.old) (F.openings files.new) self.new }
         ensures window { length self.new.left ≤ 4096 }
         ensures ahead { length self.new.left ≤ self.new.given }
         ensures taken { self.new.given + length self.old.left ≡ self.old.given + length self.new.left }
@@ -70,8 +74,8 @@ impl Window {
         ensures sources { F.sources files.new ≡ F.sources files.old }
         ensures honesty { F.is_honest files.new ≡ F.is_honest files.old }
     {
-        if self.next < self.end {
-            return Ok(Some(self.buffer[self.next]));
+        if self.next < self.end || self.is_over {
+            return Ok(self.first());
         }
         self.fill(files)?;
         Ok(self.first())
@@ -93,10 +97,11 @@ impl Window {
         requires is_open { 0 < F.depth files.old }
         requires given { self.old.given ≤ 16777216 }
         requires empty { self.old.left ≡ [] }
-        ensures reads { IsTrue (F.is_honest files.old) →
-            ReadsOn (F.sources files.old) (F.openings files.old) (F.openings files.new) self.old self.new }
-        ensures end { IsTrue (F.is_honest files.old) → IfOk result (λ _. self.new.left ≡ [] →
-            unread (F.sources files.old) (F.openings files.new) ≡ []) }
+        requires on { self.old.is_over ≡ false }
+        ensures reads { ReadsOn (F.is_honest files.old) (F.sources files.old)
+            (F.openings files.old) (F.openings files.new) self.old self.new }
+        ensures over { IfOk result (λ _. self.new.left ≡ [] → self.new.is_over ≡ true) }
+        ensures end { IsTrue (F.is_honest files.old) → Ends (F.sources files.old) (F.openings files.new) self.new }
         ensures window { length self.new.left ≤ 4096 }
         ensures ahead { length self.new.left ≤ self.new.given }
         ensures taken { self.new.given ≡ self.old.given + length self.new.left }
@@ -118,6 +123,7 @@ impl Window {
         };
         self.end = count;
         self.given += count;
+        self.is_over = count == 0;
         if self.given > MOST_SOURCE_BYTES {
             return Err(LexFault::Read);
         }
@@ -129,6 +135,7 @@ impl Window {
         requires { 0 < length self.old.left }
         ensures left { self.new.left ≡ drop 1 self.old.left }
         ensures given { self.new.given ≡ self.old.given }
+        ensures over { self.new.is_over ≡ self.old.is_over }
     {
         self.next += 1;
     }

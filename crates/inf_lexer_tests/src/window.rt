@@ -1,5 +1,5 @@
 //! Lines, the edge of the window, and readers that give few bytes or fail.
-use crate::readers::{Metered, Spaces, folder, read_all};
+use crate::readers::{Metered, Resumed, Spaces, folder, read_all};
 use inf_lexer::{BadToken, LexFault, Mark, Stack, TokenKind};
 use inf_text::CharSet;
 use std::alloc::{AllocError, Global};
@@ -108,6 +108,20 @@ fn few_bytes_are_given_ahead(rt: HostRuntime) -> Result<(), Fail> {
     }
     assert!(rt; lexer.next(&mut files)?.kind == TokenKind::End);
     assert_eq!(rt; files.count, 20_000);
+    Ok(())
+}
+
+#[test]
+fn nothing_is_read_behind_the_end(rt: HostRuntime) -> Result<(), Fail> {
+    let mut files = Resumed::new();
+    let mut stack = Stack::new(rt.alloc(), CharSet::Ascii, 100);
+    let mut lexer = stack.enter_main(&mut files, "t.inf")?;
+    assert!(rt; lexer.next(&mut files)?.kind == TokenKind::Name);
+    assert!(rt; lexer.spelling() == b"ab".as_slice());
+    'ends: for _ in 0..5 {
+        assert!(rt; lexer.next(&mut files)?.kind == TokenKind::End);
+    }
+    assert_eq!(rt; files.reads, 2);
     Ok(())
 }
 

@@ -1,4 +1,4 @@
-use Rattle.inf_lexer.proofs.SpellingLaws.{tokens_are_the_sources}
+use Rattle.inf_lexer.proofs.AnswerLaws.{tokens_are_the_sources}
 use Rattle.inf_lexer.proofs.laws.tokens_are_the_sources.Goals as goal
 
 pub returns : goal.returns

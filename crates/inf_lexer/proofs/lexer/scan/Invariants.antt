@@ -1,8 +1,8 @@
 use Rattle.std.proofs.Common.{◌≡◌, ◌+◌, ◌-◌, ◌≤◌, length, min, IsTrue}
 use Rattle.inf_token.specs.Files.{last_count}
-use Rattle.inf_lexer.specs.Unread.{Along, to_come}
-use Rattle.inf_lexer.specs.Scanning.{begun, find, sight}
-use Rattle.inf_lexer.specs.declared.scanner.State.TheVariants as state
+use Rattle.inf_lexer.specs.Unread.{Ends, Heard}
+use Rattle.inf_scanner.specs.Scanning.{Found, begun, find, sight}
+use Rattle.inf_scanner.specs.declared.scanner.State.TheVariants as state
 use Rattle.inf_lexer.proofs.lexer.scan.Given as goal
 
 -- what is read from here is the token from the start, and what was given since is in view or was taken
@@ -11,9 +11,9 @@ invariant-loop-byte g l =
     let files = g.F.Files in
     let sources = files.sources l.fn.files in
     record {
-      token : IsTrue (files.is_honest l.fn.files) → find l.set l.limit l.state (sight l.seen) (to_come sources (files.openings l.files) l.window.left)
-          ≡ find l.set l.limit state.Gap (begun l.fn.seen.lines) (to_come sources (files.openings l.fn.files) l.fn.window.left);
-      gave : IsTrue (files.is_honest l.fn.files) → Along sources (files.openings l.fn.files) (files.openings l.files) l.fn.window.given l.window.given;
+      heard : Heard Found (files.is_honest l.fn.files) sources (files.openings l.fn.files) (files.openings l.files) l.fn.window l.window
+          (find l.set l.limit l.state (sight l.seen)) (find l.set l.limit state.Gap (begun l.fn.seen.lines));
+      end : IsTrue (files.is_honest l.fn.files) → Ends sources (files.openings l.fn.files) l.fn.window → Ends sources (files.openings l.files) l.window;
       room : l.seen.lines.line + length l.window.left ≤ l.window.given + 1;
       window : length l.window.left ≤ 4096;
       few : l.window.given ≤ 16777216;

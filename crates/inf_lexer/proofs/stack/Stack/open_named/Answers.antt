@@ -4,7 +4,7 @@ use Rattle.std.specs.String.{string_bytes, string_eq}
 use Rattle.indexmap.specs.IndexSet.{insert_key}
 use Rattle.inf_lexer.specs.Entering.{IsEntered, with_opened}
 use Rattle.inf_lexer.specs.Names.{Nest, number_of, with_name}
-use Rattle.inf_lexer.specs.Tokens.{at_front}
+use Rattle.inf_lexer.specs.Readers.{at_front}
 use Rattle.inf_lexer.proofs.Candidates.{there_alone}
 use Rattle.inf_lexer.proofs.NameLists.{added_to, of_ok}
 use Rattle.inf_lexer.proofs.stack.Stack.open_named.Goals as goal

@@ -1,28 +1,24 @@
 use Rattle.std.proofs.Common.{◌≡◌, [], take, refl, sym, ap, ◌∙◌, arith, add-zero, length-take}
 use Rattle.inf_lexer.specs.Unread.{View}
-use Rattle.inf_lexer.proofs.Giving.{gave_same, gave_of, nothing_left, reads_first, whole_window}
+use Rattle.inf_lexer.proofs.Giving.{gave_same, gave_of, reads_first, whole_window}
 use Rattle.inf_lexer.proofs.window.Window.fill.Goals as goal
 
 pub returns-in_default-clause-reads : goal.returns-in_default-clause-reads
-returns-in_default-clause-reads g c = λ honest.
-    reads_first _ _ _ c.args.self.now _ [] c.requires.empty (gave_same _ _ _ (c.in_default.ensures.reads honest)) refl
+returns-in_default-clause-reads g c =
+    reads_first _ _ _ _ c.args.self.now _ [] c.requires.empty c.requires.on (λ honest. gave_same _ _ _ (c.in_default.ensures.reads honest)) refl
     (ap (λ (v : View). v.given) c.self.view_is ∙ sym (add-zero _))
 
 pub returns-then-self-gt-MOST_SOURCE_BYTES-clause-reads :
     goal.returns-then-self-gt-MOST_SOURCE_BYTES-clause-reads
-returns-then-self-gt-MOST_SOURCE_BYTES-clause-reads g c = λ honest.
+returns-then-self-gt-MOST_SOURCE_BYTES-clause-reads g c =
     let given : c.self.inside.given ≡ c.args.self.now.given = ap (λ (v : View). v.given) c.self.view_is in
-    reads_first _ _ _ c.args.self.now _ (take c.in-Ok.count c.read.new.to) c.requires.empty (gave_of _ _ _ _ (c.in-Ok.ensures.reads honest))
+    reads_first _ _ _ _ c.args.self.now _ (take c.in-Ok.count c.read.new.to) c.requires.empty c.requires.on (λ honest. gave_of _ _ _ _ (c.in-Ok.ensures.reads honest))
     (whole_window c.in-Ok.count c.read.new.to)
     (omega (arith, given, c.in-Ok.ensures.count, length-take c.in-Ok.count c.read.new.to))
 
 pub returns-clause-reads : goal.returns-clause-reads
-returns-clause-reads g c = λ honest.
+returns-clause-reads g c =
     let given : c.self.inside.given ≡ c.args.self.now.given = ap (λ (v : View). v.given) c.self.view_is in
-    reads_first _ _ _ c.args.self.now _ (take c.in-Ok.count c.read.new.to) c.requires.empty (gave_of _ _ _ _ (c.in-Ok.ensures.reads honest))
+    reads_first _ _ _ _ c.args.self.now _ (take c.in-Ok.count c.read.new.to) c.requires.empty c.requires.on (λ honest. gave_of _ _ _ _ (c.in-Ok.ensures.reads honest))
     (whole_window c.in-Ok.count c.read.new.to)
     (omega (arith, given, c.in-Ok.ensures.count, length-take c.in-Ok.count c.read.new.to))
-
-pub returns-clause-end : goal.returns-clause-end
-returns-clause-end g c = λ honest none.
-    nothing_left _ _ _ _ (c.in-Ok.ensures.reads honest) (sym (whole_window c.in-Ok.count c.read.new.to) ∙ none)

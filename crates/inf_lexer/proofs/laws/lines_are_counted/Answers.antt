@@ -1,5 +1,0 @@
-use Rattle.inf_lexer.proofs.SpellingLaws.{lines_are_counted}
-use Rattle.inf_lexer.proofs.laws.lines_are_counted.Goals as goal
-
-pub returns : goal.returns
-returns c = lines_are_counted

@@ -1,0 +1,16 @@
+-- The code finds what the definition finds.
+use Rattle.std.proofs.Common.{sym, ◌∙◌, ap}
+use Rattle.std.specs.Prelude.{option_map}
+use Rattle.inf_names.specs.Entries.{standing}
+use Rattle.inf_names.specs.Symbols.{Table, standing_of, folded}
+use Rattle.inf_names.proofs.Putting.{standing-copied, standing_of-lookup}
+use Rattle.inf_names.proofs.symbols.Symbols.entry_of.Goals as goal
+
+pub returns : goal.returns
+returns g c =
+    let es = c.self.inside.entries.entries in
+    standing-copied c.get.result
+    ∙ ap (option_map standing) c.get.ensures.value
+    ∙ sym (standing_of-lookup c.folded-key.result.items es)
+    ∙ ap (λ (t : Table _). standing_of c.folded-key.result.items t.names) c.self.view_is
+    ∙ ap (λ k. standing_of k c.args.self.now.names) c.folded-key.ensures

@@ -1,0 +1,3 @@
+pub mod SystemNames
+pub mod Symbols
+pub mod Entries

@@ -1,0 +1,85 @@
+-- The names that the language has from the start, and what they stand for (Inform Designer's Manual, fourth edition).
+use Rattle.std.specs.Prelude.{ℕ, Bool, true, false, ◌||◌, List, [], ◌∷◌, Option, Some, None, find, codes, if◌then◌else◌}
+use Rattle.std.specs.Str.{str_eq_ignore_ascii_case}
+use Rattle.inf_names.specs.declared.meanings.Function.TheVariants as function
+use Rattle.inf_names.specs.declared.meanings.Meaning.{Meaning}
+use Rattle.inf_names.specs.declared.meanings.Meaning.TheVariants as meaning
+use Rattle.inf_names.specs.declared.system_names.SystemName.{SystemName}
+use Rattle.inf_names.specs.declared.system_names.SystemName.TheVariants as name
+
+-- how each is spelled
+abbrev pub name_of : SystemName → List ℕ
+name_of name.True = codes "true"
+name_of name.False = codes "false"
+name_of name.Nothing = codes "nothing"
+name_of name.Null = codes "null"
+name_of name.WordSize = codes "wordsize"
+name_of name.TargetZcode = codes "target_zcode"
+name_of name.Name = codes "name"
+name_of name.Class = codes "class"
+name_of name.Object = codes "object"
+name_of name.Routine = codes "routine"
+name_of name.String = codes "string"
+name_of name.Child = codes "child"
+name_of name.Parent = codes "parent"
+name_of name.Sibling = codes "sibling"
+name_of name.Children = codes "children"
+name_of name.Random = codes "random"
+name_of name.Indirect = codes "indirect"
+name_of name.OwnObject = codes "self"
+name_of name.Sender = codes "sender"
+name_of name.SwitchVariable = codes "sw__var"
+name_of name.TemporaryGlobal = codes "temp_global"
+name_of name.Debug = codes "debug"
+
+-- what each stands for: numbers; the first property, which is additive; the first four objects, which are classes; functions;
+-- and variables
+abbrev pub meaning_of : SystemName → Meaning
+meaning_of name.True = meaning.Number 1
+meaning_of name.False = meaning.Number 0
+meaning_of name.Nothing = meaning.Number 0
+meaning_of name.Null = meaning.Number 65535
+meaning_of name.WordSize = meaning.Number 2
+meaning_of name.TargetZcode = meaning.Number 0
+meaning_of name.Name = meaning.Property 1 true
+meaning_of name.Class = meaning.Class 1
+meaning_of name.Object = meaning.Class 2
+meaning_of name.Routine = meaning.Class 3
+meaning_of name.String = meaning.Class 4
+meaning_of name.Child = meaning.Function function.Child
+meaning_of name.Parent = meaning.Function function.Parent
+meaning_of name.Sibling = meaning.Function function.Sibling
+meaning_of name.Children = meaning.Function function.Children
+meaning_of name.Random = meaning.Function function.Random
+meaning_of name.Indirect = meaning.Function function.Indirect
+meaning_of name.OwnObject = meaning.Variable 253
+meaning_of name.Sender = meaning.Variable 252
+meaning_of name.SwitchVariable = meaning.Variable 251
+meaning_of name.TemporaryGlobal = meaning.Variable 255
+meaning_of name.Debug = meaning.Number 0
+
+unfoldable pub system_names : List SystemName
+system_names =
+    name.True ∷ name.False ∷ name.Nothing ∷ name.Null ∷ name.WordSize ∷ name.TargetZcode ∷ name.Name ∷ name.Class ∷
+    name.Object ∷ name.Routine ∷ name.String ∷ name.Child ∷ name.Parent ∷ name.Sibling ∷ name.Children ∷ name.Random ∷
+    name.Indirect ∷ name.OwnObject ∷ name.Sender ∷ name.SwitchVariable ∷ name.TemporaryGlobal ∷ name.Debug ∷ []
+
+-- whether a name is spelled so, in any case
+abbrev pub has_name : List ℕ → SystemName → Bool
+has_name spelling known = str_eq_ignore_ascii_case spelling (name_of known)
+
+abbrev pub named : List ℕ → Option SystemName
+named spelling = find (has_name spelling) system_names
+
+-- DEBUG is there only where debugging is on
+abbrev pub is_known : Bool → SystemName → Bool
+is_known debugging name.Debug = debugging
+is_known debugging known = true
+
+abbrev pub meaning_if : Bool → Option SystemName → Option Meaning
+meaning_if debugging None = None
+meaning_if debugging (Some known) = if is_known debugging known then Some (meaning_of known) else None
+
+-- what a name stands for from the start
+abbrev pub system_meaning : Bool → List ℕ → Option Meaning
+system_meaning debugging spelling = meaning_if debugging (named spelling)

@@ -1,0 +1,42 @@
+//! What a name stands for.
+
+/// A function that the language has from the start.
+#[derive(Clone, Copy, Debug, PartialEq, Eq)]
+pub enum Function {
+    Child,
+    Parent,
+    Sibling,
+    Children,
+    Random,
+    Indirect,
+}
+
+/// What a name stands for. What is laid out at the end stands here by its place among those of its kind, counted from 0.
+#[derive(Clone, Copy, Debug, PartialEq, Eq)]
+pub enum Meaning {
+    /// A constant whose number is known.
+    Number(u16),
+    /// A constant that is a string.
+    Text(usize),
+    /// A constant that is a dictionary word.
+    Word(usize),
+    /// A string for the low part of the memory.
+    LowString(usize),
+    /// A variable, by its number (Z-Machine Standard 1.1, section 4.2.2).
+    Variable(u8),
+    /// An attribute, by its number.
+    Attribute(u8),
+    /// A property that every object can have, by its number; the values of an additive one are joined with those of classes.
+    Property { number: u8, is_additive: bool },
+    /// A property of single objects, by its number.
+    IndividualProperty(u16),
+    /// An object, by its number.
+    Object(u16),
+    /// A class, by the number of its object.
+    Class(u16),
+    Array(usize),
+    Routine(usize),
+    /// An action that no grammar line names, by its number.
+    FakeAction(u16),
+    Function(Function),
+}

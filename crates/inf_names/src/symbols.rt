@@ -1,0 +1,302 @@
+//! The names that a source declares or uses.
+ghost use Rattle.std.specs.Prelude.{◌≡◌, ◌≤◌, ◌+◌, IfOk, OnOk, OnErr, MatchResult, None, Some, length, option_map};
+ghost use Rattle.inf_names.specs.Symbols.{folded};
+
+use crate::meanings::Meaning;
+use crate::system_names::system_meaning;
+use arrayvec::ArrayVec;
+use indexmap::IndexMap;
+use std::alloc::{AllocError, AllocFailed, Global};
+use std::marker::Model;
+
+/// The bytes of the longest name: 32 of one in a source, and three more behind the name of an action, whose routine is that with
+/// `Sub` at its end.
+pub const LONGEST_NAME: usize = 35;
+
+/// What looking for a name finds. `P` is a place in a source.
+#[derive(Clone, Copy, Debug, PartialEq, Eq)]
+pub enum Found<P> {
+    /// The language has it from the start.
+    System(Meaning),
+    /// It was declared, at this place.
+    Declared(Meaning, P),
+    /// It was used, and not declared so far.
+    Used,
+    Unknown,
+}
+
+/// Why a name was not declared.
+#[derive(Clone, Copy, Debug, PartialEq, Eq)]
+pub enum DeclareFault<P> {
+    /// It was declared at this place; without one, the language has it from the start.
+    Present(Option<P>),
+    /// There are as many names as there may be.
+    Full,
+    /// No memory was left.
+    Memory,
+}
+
+impl<P, T: Drop> From<AllocFailed<T>> for DeclareFault<P> {
+    ghost use Rattle.std.specs.Prelude.{◌≡◌};
+    ghost use Rattle.inf_names.specs.declared.symbols.DeclareFault.TheVariants.{Memory};
+
+    ghost from_gives = { λ _ fault. fault ≡ Memory };
+
+    fn from(_error: AllocFailed<T>) -> DeclareFault<P> {
+        DeclareFault::Memory
+    }
+}
+
+/// Why a name was not used.
+#[derive(Clone, Copy, Debug, PartialEq, Eq)]
+pub enum ReferFault {
+    /// There are as many names as there may be.
+    Full,
+    /// No memory was left.
+    Memory,
+}
+
+impl<T: Drop> From<AllocFailed<T>> for ReferFault {
+    ghost use Rattle.std.specs.Prelude.{◌≡◌};
+    ghost use Rattle.inf_names.specs.declared.symbols.ReferFault.TheVariants.{Memory};
+
+    ghost from_gives = { λ _ fault. fault ≡ Memory };
+
+    fn from(_error: AllocFailed<T>) -> ReferFault {
+        ReferFault::Memory
+    }
+}
+
+/// What is known of a name.
+#[derive(Debug, Drop)]
+pub enum Entry<P> {
+    /// It is the one of this number that was declared, counted from 0.
+    Declared(usize, Meaning, P),
+    /// It was used, as it is spelled there, at this place.
+    Used(ArrayVec<u8, LONGEST_NAME>, P),
+}
+
+/// The names that were declared or used so far, in the order in which they first came. The language's own are not among them.
+#[derive(Drop)]
+pub struct Symbols<P: Copy> {
+    entries: IndexMap<ArrayVec<u8, LONGEST_NAME>, Entry<P>>,
+    declared: usize,
+    limit: u32,
+    is_debugging: bool,
+}
+
+impl<P: Copy> Model for Symbols<P> {
+    ghost use Rattle.std.specs.Prelude.{◌≡◌, ◌≤◌, length, map};
+    ghost use Rattle.inf_names.specs.Symbols.{Table, declarations};
+    ghost use Rattle.inf_names.specs.Entries.{as_named};
+
+    ghost Value = { Table P };
+
+    ghost view = { λ s. record { names = map as_named s.entries.entries; declared = s.declared; limit = s.limit; is_debugging = s.is_debugging } };
+
+    ghost invariant = { λ s. (s.declared ≡ declarations (map as_named s.entries.entries)) × (length s.entries.entries ≤ s.limit) };
+}
+
+/// A name of at most 35 bytes, without case.
+fn folded(name: &[u8]) -> ArrayVec<u8, LONGEST_NAME>
+    requires { length name.now ≤ 35 }
+    ensures { result.items ≡ folded name.now }
+{
+    let mut key = ArrayVec::new();
+    for byte in name {
+        key.push(byte.to_ascii_lowercase());
+    }
+    key
+}
+
+/// A name of at most 35 bytes, as it is spelled.
+fn spelled(name: &[u8]) -> ArrayVec<u8, LONGEST_NAME>
+    requires { length name.now ≤ 35 }
+    ensures { result.items ≡ name.now }
+{
+    let mut spelling = ArrayVec::new();
+    if spelling.try_extend_from_slice(name).is_err() {
+        unreachable!()
+    }
+    spelling
+}
+
+impl<P: Copy> Symbols<P> {
+    ghost use Rattle.inf_names.specs.Symbols.{declare_fault, declare_refusal, declared_before, found_in, folded as key_of, is_full, meaning_in, no_names, number_among, number_of, refer_fault, refer_refusal, standing_at, standing_of, use_in, with_declared, with_used};
+    ghost use Rattle.inf_names.specs.Entries.{standing};
+
+    /// No names, of which there may be so many. With debugging the language has the name `DEBUG` from the start. It takes no
+    /// memory.
+    pub fn new(alloc: Global, limit: u32, is_debugging: bool) -> Symbols<P>
+        ensures { result ≡ no_names limit is_debugging }
+    {
+        Symbols {
+            entries: IndexMap::new(alloc),
+            declared: 0,
+            limit,
+            is_debugging,
+        }
+    }
+
+    /// How many names were declared or used.
+    pub fn len(&self) -> usize
+        ensures count { result ≡ length self.now.names }
+        ensures within { result ≤ self.now.limit }
+    {
+        self.entries.len()
+    }
+
+    /// How many names were declared.
+    pub fn declared(&self) -> usize
+        ensures { result ≡ self.now.declared }
+    {
+        self.declared
+    }
+
+    /// What is known of a name, in any case.
+    pub fn look(&self, name: &[u8]) -> Found<P>
+        requires { length name.now ≤ 35 }
+        ensures { result ≡ found_in name.now self.now }
+    {
+        match self.entry_of(name) {
+            Some(Entry::Declared(_, meaning, place)) => Found::Declared(*meaning, *place),
+            Some(Entry::Used(_, _)) => Found::Used,
+            None => match system_meaning(name, self.is_debugging) {
+                Some(meaning) => Found::System(meaning),
+                None => Found::Unknown,
+            },
+        }
+    }
+
+    /// Declares a name, given in any case, at a place. Answers how many names are then declared.
+    ///
+    /// Refuses a name that the language has or that was declared, then a new one where there are as many names as there may be,
+    /// then where memory runs out. The names then stay as they were.
+    pub fn declare(
+        &mut self,
+        name: &[u8],
+        place: P,
+        meaning: Meaning,
+    ) -> Result<usize, DeclareFault<P>>
+        requires { length name.now ≤ 35 }
+        ensures ok { OnOk result (self.new ≡ with_declared name.now place meaning self.old) }
+        ensures count { IfOk result (λ n. n ≡ self.old.declared + 1) }
+        ensures err { OnErr result (self.new ≡ self.old) }
+        ensures fault { let fault = declare_fault name.now self.old in
+            MatchResult result (λ _. fault ≡ None) (λ refused. refused ≡ declare_refusal fault) }
+    {
+        if let Some(fault) = self.declare_fault(name) {
+            return Err(fault);
+        }
+        let entry = Entry::Declared(self.declared, meaning, place);
+        self.entries.insert(folded(name), entry)?;
+        self.declared += 1;
+        Ok(self.declared)
+    }
+
+    /// Uses a name, as it is spelled at a place. Answers the number by which references name it: how many names came before it.
+    /// There is none for a name that the language has.
+    ///
+    /// Refuses a new name where there are as many as there may be, then where memory runs out. The names then stay as they were.
+    pub fn refer(&mut self, name: &[u8], place: P) -> Result<Option<usize>, ReferFault>
+        requires { length name.now ≤ 35 }
+        ensures ok { OnOk result (self.new ≡ with_used name.now place self.old) }
+        ensures number { IfOk result (λ n. n ≡ number_of name.now self.old) }
+        ensures err { OnErr result (self.new ≡ self.old) }
+        ensures fault { let fault = refer_fault name.now self.old in
+            MatchResult result (λ _. fault ≡ None) (λ refused. refused ≡ refer_refusal fault) }
+    {
+        if let Some(number) = self.number(name) {
+            return Ok(Some(number));
+        }
+        if system_meaning(name, self.is_debugging).is_some() {
+            return Ok(None);
+        }
+        if self.is_full() {
+            return Err(ReferFault::Full);
+        }
+        let number = self.len();
+        self.entries
+            .insert(folded(name), Entry::Used(spelled(name), place))?;
+        Ok(Some(number))
+    }
+
+    /// Whether a name, in any case, is one that the language has or one of the first `n` that were declared.
+    pub fn declared_before(&self, name: &[u8], n: usize) -> bool
+        requires { length name.now ≤ 35 }
+        ensures { result ≡ declared_before name.now n self.now }
+    {
+        match self.entry_of(name) {
+            Some(Entry::Declared(number, _, _)) => *number < n,
+            Some(Entry::Used(_, _)) => false,
+            None => system_meaning(name, self.is_debugging).is_some(),
+        }
+    }
+
+    /// What the name of a number was declared as; none where it was not, or where there is none of that number.
+    pub fn meaning_at(&self, number: usize) -> Option<Meaning>
+        ensures { result ≡ meaning_in (standing_at number self.now.names) }
+    {
+        match self.entry_at(number)? {
+            Entry::Declared(_, meaning, _) => Some(*meaning),
+            Entry::Used(_, _) => None,
+        }
+    }
+
+    /// Where the name of a number was first used, as it is spelled there, if it was not declared so far; none where it was, or
+    /// where there is none of that number.
+    pub fn use_at(&self, number: usize) -> Option<(&[u8], P)>
+        ensures { option_map (λ u. (u.0.now, u.1)) result ≡ use_in (standing_at number self.now.names) }
+    {
+        match self.entry_at(number)? {
+            Entry::Declared(_, _, _) => None,
+            Entry::Used(spelling, place) => Some((spelling, *place)),
+        }
+    }
+
+    /// What is known of a name, in any case.
+    fn entry_of(&self, name: &[u8]) -> Option<&Entry<P>>
+        requires { length name.now ≤ 35 }
+        ensures { option_map (λ e. standing e.now) result ≡ standing_of (key_of name.now) self.now.names }
+    {
+        let key = folded(name);
+        self.entries.get(&key)
+    }
+
+    /// What is known of the name of a number.
+    fn entry_at(&self, number: usize) -> Option<&Entry<P>>
+        ensures { option_map (λ e. standing e.now) result ≡ standing_at number self.now.names }
+    {
+        let (_, entry) = self.entries.get_index(number)?;
+        Some(entry)
+    }
+
+    /// How many names came before one that was declared or used.
+    fn number(&self, name: &[u8]) -> Option<usize>
+        requires { length name.now ≤ 35 }
+        ensures { result ≡ number_among (key_of name.now) self.now.names }
+    {
+        let key = folded(name);
+        self.entries.get_index_of(&key)
+    }
+
+    /// Whether there are as many names as there may be.
+    fn is_full(&self) -> bool
+        ensures { result ≡ is_full self.now }
+    {
+        self.len() >= self.limit as usize
+    }
+
+    /// Why a name cannot be declared, but for want of memory.
+    fn declare_fault(&self, name: &[u8]) -> Option<DeclareFault<P>>
+        requires { length name.now ≤ 35 }
+        ensures { result ≡ declare_fault name.now self.now }
+    {
+        match self.look(name) {
+            Found::System(_) => Some(DeclareFault::Present(None)),
+            Found::Declared(_, place) => Some(DeclareFault::Present(Some(place))),
+            Found::Unknown if self.is_full() => Some(DeclareFault::Full),
+            Found::Unknown | Found::Used => None,
+        }
+    }
+}

@@ -1,0 +1,161 @@
+//! The names that the language has from the start.
+ghost use Rattle.std.specs.Prelude.{◌≡◌, option_map};
+ghost use Rattle.inf_names.specs.SystemNames.{has_name, is_known, meaning_of, name_of, named, system_meaning, system_names};
+
+use crate::meanings::{Function, Meaning};
+
+/// A name that the language has from the start (Inform Designer's Manual, fourth edition).
+#[derive(Clone, Copy, Debug, PartialEq, Eq)]
+pub enum SystemName {
+    True,
+    False,
+    Nothing,
+    Null,
+    WordSize,
+    TargetZcode,
+    Name,
+    Class,
+    Object,
+    Routine,
+    String,
+    Child,
+    Parent,
+    Sibling,
+    Children,
+    Random,
+    Indirect,
+    OwnObject,
+    Sender,
+    SwitchVariable,
+    TemporaryGlobal,
+    /// Only where the words of the command ask for debugging.
+    Debug,
+}
+
+const SYSTEM_NAMES: [SystemName; 22] = [
+    SystemName::True,
+    SystemName::False,
+    SystemName::Nothing,
+    SystemName::Null,
+    SystemName::WordSize,
+    SystemName::TargetZcode,
+    SystemName::Name,
+    SystemName::Class,
+    SystemName::Object,
+    SystemName::Routine,
+    SystemName::String,
+    SystemName::Child,
+    SystemName::Parent,
+    SystemName::Sibling,
+    SystemName::Children,
+    SystemName::Random,
+    SystemName::Indirect,
+    SystemName::OwnObject,
+    SystemName::Sender,
+    SystemName::SwitchVariable,
+    SystemName::TemporaryGlobal,
+    SystemName::Debug,
+];
+
+/// All of them.
+fn all() -> &'static [SystemName]
+    ensures { result.now ≡ system_names }
+{
+    &SYSTEM_NAMES
+}
+
+impl SystemName {
+    /// The one that is spelled so, in any case.
+    pub fn by_name(name: &[u8]) -> Option<SystemName>
+        ensures { result ≡ named name.now }
+    {
+        all().iter().copied().find(|known| known.has_name(name))
+    }
+
+    /// Whether it is spelled so, in any case.
+    fn has_name(self, name: &[u8]) -> bool
+        ensures { result ≡ has_name name.now self }
+    {
+        name.eq_ignore_ascii_case(self.name().as_bytes())
+    }
+
+    /// How it is spelled, in small letters.
+    pub fn name(self) -> &'static str
+        ensures { result.now ≡ name_of self }
+    {
+        match self {
+            SystemName::True => "true",
+            SystemName::False => "false",
+            SystemName::Nothing => "nothing",
+            SystemName::Null => "null",
+            SystemName::WordSize => "wordsize",
+            SystemName::TargetZcode => "target_zcode",
+            SystemName::Name => "name",
+            SystemName::Class => "class",
+            SystemName::Object => "object",
+            SystemName::Routine => "routine",
+            SystemName::String => "string",
+            SystemName::Child => "child",
+            SystemName::Parent => "parent",
+            SystemName::Sibling => "sibling",
+            SystemName::Children => "children",
+            SystemName::Random => "random",
+            SystemName::Indirect => "indirect",
+            SystemName::OwnObject => "self",
+            SystemName::Sender => "sender",
+            SystemName::SwitchVariable => "sw__var",
+            SystemName::TemporaryGlobal => "temp_global",
+            SystemName::Debug => "debug",
+        }
+    }
+
+    /// What it stands for. The last global variables of the Z-machine are those that the language keeps for itself.
+    pub fn meaning(self) -> Meaning
+        ensures { result ≡ meaning_of self }
+    {
+        match self {
+            SystemName::True => Meaning::Number(1),
+            SystemName::False | SystemName::Nothing => Meaning::Number(0),
+            SystemName::TargetZcode | SystemName::Debug => Meaning::Number(0),
+            SystemName::Null => Meaning::Number(65535),
+            SystemName::WordSize => Meaning::Number(2),
+            SystemName::Name => Meaning::Property {
+                number: 1,
+                is_additive: true,
+            },
+            SystemName::Class => Meaning::Class(1),
+            SystemName::Object => Meaning::Class(2),
+            SystemName::Routine => Meaning::Class(3),
+            SystemName::String => Meaning::Class(4),
+            SystemName::Child => Meaning::Function(Function::Child),
+            SystemName::Parent => Meaning::Function(Function::Parent),
+            SystemName::Sibling => Meaning::Function(Function::Sibling),
+            SystemName::Children => Meaning::Function(Function::Children),
+            SystemName::Random => Meaning::Function(Function::Random),
+            SystemName::Indirect => Meaning::Function(Function::Indirect),
+            SystemName::OwnObject => Meaning::Variable(253),
+            SystemName::Sender => Meaning::Variable(252),
+            SystemName::SwitchVariable => Meaning::Variable(251),
+            SystemName::TemporaryGlobal => Meaning::Variable(255),
+        }
+    }
+}
+
+/// What a name stands for from the start, in any case; `DEBUG` only where debugging is on.
+pub fn system_meaning(name: &[u8], is_debugging: bool) -> Option<Meaning>
+    ensures { result ≡ system_meaning is_debugging name.now }
+{
+    let known = SystemName::by_name(name)?;
+    if is_known(known, is_debugging) {
+        Some(known.meaning())
+    } else {
+        None
+    }
+}
+
+/// Whether the language has a name, with or without debugging.
+fn is_known(name: SystemName, is_debugging: bool) -> bool
+    ensures { result ≡ is_known is_debugging name }
+{
+    is_debugging || !matches!(name, SystemName::Debug)
+}

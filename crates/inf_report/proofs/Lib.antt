@@ -1,0 +1,2 @@
+pub mod Writings
+pub mod Runs

@@ -1,0 +1,216 @@
+-- The messages of a compilation: what they say, what kind they are and their numbers in the table of messages.
+use Rattle.std.specs.Prelude.{ℕ, List, ◌++◌, codes, decimal}
+use Rattle.inf_settings.specs.declared.setting.Setting.{Setting}
+use Rattle.inf_settings.specs.Settings.{name_of}
+use Rattle.inf_symbol.specs.Messages.{place, quoted}
+use Rattle.inf_report.specs.OwnWords.{Words, shown}
+use Rattle.inf_report.specs.declared.messages.Kind.{Kind}
+use Rattle.inf_report.specs.declared.messages.Kind.TheVariants as kind
+use Rattle.inf_report.specs.declared.messages.Countable.{Countable}
+use Rattle.inf_report.specs.declared.messages.Countable.TheVariants as countable
+
+-- a line of a file
+pub record Location : Type 0 where
+  pub file : List ℕ
+  pub line : ℕ
+
+-- A token as messages name it: by its bytes, but a text by that word, and the end of a file.
+pub data Told : Type 0 where
+  Bytes : (bytes : List ℕ) → Told
+  Text : Told
+  End : Told
+
+pub data Message : Type 0 where
+  -- errors
+  Syntax : (token : Told) → Message
+  IllegalCharacter : Message
+  UnclosedQuote : Message
+  NumberOutOfRange : Message
+  UnknownEscape : Message
+  LongName : Message
+  NoZscii : Message
+  Declared : (name : List ℕ) (location : Location) → Message
+  SystemName : (name : List ℕ) → Message
+  WrongKind : (token : Told) → Message
+  Undeclared : (name : List ℕ) → Message
+  UsedBefore : (name : List ℕ) → Message
+  NotConstant : Message
+  ConstantOutOfRange : Message
+  TooManyArguments : Message
+  WrongOpcode : (name : List ℕ) → Message
+  LabelMissing : (name : List ℕ) → Message
+  LabelTwice : (name : List ℕ) → Message
+  NothingToLeave : Message
+  BranchTooFar : Message
+  TooMany : (what : Countable) → Message
+  MisplacedSwitches : Message
+  WrongAbbreviation : Message
+  WrongVerb : (token : Told) → Message
+  NoMain : Message
+  MisplacedDefault : Message
+  ErrorText : (words : Words) → Message
+  LoneConditional : Message
+  -- warnings
+  UnusedLocal : (name : List ℕ) → Message
+  WarningText : (words : Words) → Message
+  -- fatal errors
+  Exceeded : (setting : Setting) → Message
+  NoInclude : (name : List ℕ) → Message
+  TooManyFiles : Message
+  FatalText : (words : Words) → Message
+  TooManyErrors : Message
+  ReadableTooLong : Message
+  StoryTooLong : (bytes : ℕ) → Message
+  NoSource : (name : List ℕ) → Message
+  DeepNesting : Message
+
+-- how a token is told
+abbrev pub told : Told → List ℕ
+told (Bytes bytes) = quoted bytes
+told Text = codes "text"
+told End = codes "end of file"
+
+-- what there can be so many of, and no more
+abbrev pub most : Countable → List ℕ
+most countable.Locals = codes "15 locals"
+most countable.Globals = codes "235 globals"
+most countable.Attributes = codes "48 attributes"
+most countable.Properties = codes "60 properties"
+most countable.Values = codes "32 values"
+most countable.Abbreviations = codes "64 abbreviations"
+most countable.Verbs = codes "255 verbs"
+
+-- what a message says
+abbrev pub text : Message → List ℕ
+text (Syntax t) = codes "Syntax error at " ++ told t
+text IllegalCharacter = codes "Illegal character"
+text UnclosedQuote = codes "Unclosed or empty quote"
+text NumberOutOfRange = codes "Number out of range"
+text UnknownEscape = codes "Unknown escape"
+text LongName = codes "Name longer than 32"
+text NoZscii = codes "No ZSCII character"
+text (Declared name at) = quoted name ++ codes " was declared at " ++ place at.file at.line
+text (SystemName name) = quoted name ++ codes " is a system name"
+text (WrongKind t) = codes "Wrong kind: " ++ told t
+text (Undeclared name) = quoted name ++ codes " was never declared"
+text (UsedBefore name) = quoted name ++ codes " was used before its declaration"
+text NotConstant = codes "Not a constant known here"
+text ConstantOutOfRange = codes "Constant out of range"
+text TooManyArguments = codes "Too many arguments"
+text (WrongOpcode name) = codes "Wrong opcode or operands: " ++ quoted name
+text (LabelMissing name) = codes "Label " ++ quoted name ++ codes " is missing"
+text (LabelTwice name) = codes "Label " ++ quoted name ++ codes " is given twice"
+text NothingToLeave = codes "No loop or switch to leave or continue"
+text BranchTooFar = codes "Branch too far"
+text (TooMany what) = codes "More than " ++ most what
+text MisplacedSwitches = codes "Switches must come first and hold known switches"
+text WrongAbbreviation = codes "Abbreviation late, repeated or too short"
+text (WrongVerb t) = codes "Wrong verb: " ++ told t
+text NoMain = codes "No routine \"Main\""
+text MisplacedDefault = codes "default must come once and last"
+text (ErrorText words) = shown words
+text LoneConditional = codes "Conditional without its other end"
+text (UnusedLocal name) = codes "Local " ++ quoted name ++ codes " is unused"
+text (WarningText words) = shown words
+text (Exceeded setting) = name_of setting ++ codes " is exceeded"
+text (NoInclude name) = codes "No file " ++ quoted name
+text TooManyFiles = codes "More than 16 files open"
+text (FatalText words) = shown words
+text TooManyErrors = codes "Too many errors"
+text ReadableTooLong = codes "Readable memory is over 65534 bytes"
+text (StoryTooLong bytes) = codes "Story is over " ++ decimal bytes ++ codes " bytes"
+text (NoSource name) = codes "No file " ++ quoted name
+text DeepNesting = codes "Nesting over 64"
+
+abbrev pub kind_of : Message → Kind
+kind_of (Syntax _) = kind.Error
+kind_of IllegalCharacter = kind.Error
+kind_of UnclosedQuote = kind.Error
+kind_of NumberOutOfRange = kind.Error
+kind_of UnknownEscape = kind.Error
+kind_of LongName = kind.Error
+kind_of NoZscii = kind.Error
+kind_of (Declared _ _) = kind.Error
+kind_of (SystemName _) = kind.Error
+kind_of (WrongKind _) = kind.Error
+kind_of (Undeclared _) = kind.Error
+kind_of (UsedBefore _) = kind.Error
+kind_of NotConstant = kind.Error
+kind_of ConstantOutOfRange = kind.Error
+kind_of TooManyArguments = kind.Error
+kind_of (WrongOpcode _) = kind.Error
+kind_of (LabelMissing _) = kind.Error
+kind_of (LabelTwice _) = kind.Error
+kind_of NothingToLeave = kind.Error
+kind_of BranchTooFar = kind.Error
+kind_of (TooMany _) = kind.Error
+kind_of MisplacedSwitches = kind.Error
+kind_of WrongAbbreviation = kind.Error
+kind_of (WrongVerb _) = kind.Error
+kind_of NoMain = kind.Error
+kind_of MisplacedDefault = kind.Error
+kind_of (ErrorText _) = kind.Error
+kind_of LoneConditional = kind.Error
+kind_of (UnusedLocal _) = kind.Warning
+kind_of (WarningText _) = kind.Warning
+kind_of (Exceeded _) = kind.Fatal
+kind_of (NoInclude _) = kind.Fatal
+kind_of TooManyFiles = kind.Fatal
+kind_of (FatalText _) = kind.Fatal
+kind_of TooManyErrors = kind.Fatal
+kind_of ReadableTooLong = kind.Fatal
+kind_of (StoryTooLong _) = kind.Fatal
+kind_of (NoSource _) = kind.Fatal
+kind_of DeepNesting = kind.Fatal
+
+-- the number of a message among those of its kind: of two errors at one place the one with the lesser number is told
+abbrev pub number_of : Message → ℕ
+number_of (Syntax _) = 1
+number_of IllegalCharacter = 2
+number_of UnclosedQuote = 3
+number_of NumberOutOfRange = 4
+number_of UnknownEscape = 5
+number_of LongName = 6
+number_of NoZscii = 7
+number_of (Declared _ _) = 8
+number_of (SystemName _) = 8
+number_of (WrongKind _) = 9
+number_of (Undeclared _) = 10
+number_of (UsedBefore _) = 11
+number_of NotConstant = 12
+number_of ConstantOutOfRange = 13
+number_of TooManyArguments = 14
+number_of (WrongOpcode _) = 15
+number_of (LabelMissing _) = 16
+number_of (LabelTwice _) = 16
+number_of NothingToLeave = 17
+number_of BranchTooFar = 18
+number_of (TooMany _) = 19
+number_of MisplacedSwitches = 20
+number_of WrongAbbreviation = 21
+number_of (WrongVerb _) = 22
+number_of NoMain = 23
+number_of MisplacedDefault = 24
+number_of (ErrorText _) = 25
+number_of LoneConditional = 26
+number_of (UnusedLocal _) = 1
+number_of (WarningText _) = 2
+number_of (Exceeded _) = 1
+number_of (NoInclude _) = 2
+number_of TooManyFiles = 3
+number_of (FatalText _) = 4
+number_of TooManyErrors = 5
+number_of ReadableTooLong = 6
+number_of (StoryTooLong _) = 7
+number_of (NoSource _) = 8
+number_of DeepNesting = 9
+
+-- what stands between the place and the text
+abbrev pub severity : Kind → List ℕ
+severity kind.Error = codes ": Error: "
+severity kind.Warning = codes ": Warning: "
+severity kind.Fatal = codes ": Fatal error: "
+
+-- the line of a message of this kind, at a place
+abbrev pub line_of : Kind → Location → Message → List ℕ
+line_of k at m = place at.file at.line ++ severity k ++ text m ++ codes "\n"

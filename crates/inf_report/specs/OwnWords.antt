@@ -1,0 +1,34 @@
+-- Messages in the source's own words: how the bytes between the quotes are shown on a line.
+use Rattle.std.specs.Prelude.{ℕ, List, [], ◌∷◌, ◌++◌, codes, Bool, not, if◌then◌else◌}
+use Rattle.std.specs.List.{list_any}
+use Rattle.inf_characters.specs.Characters.{is_line_end, is_white}
+use Rattle.inf_characters.specs.declared.characters.CharSet.{CharSet}
+
+-- the bytes between the quotes, in their character set
+pub record Words : Type 0 where
+  pub bytes : List ℕ
+  pub set : CharSet
+
+abbrev pub has_line_end : List ℕ → Bool
+has_line_end bytes = list_any is_line_end bytes
+
+-- whether a byte is white space, or whether it is not
+abbrev pub is_alike : CharSet → Bool → ℕ → Bool
+is_alike set is_space b = if is_space then is_white set b else not (is_white set b)
+
+-- white space as a line shows it: with a line end in it, it is one space
+abbrev pub spaced : List ℕ → List ℕ
+spaced run = if has_line_end run then codes " " else run
+
+-- a run of white space, or of other bytes
+abbrev pub shown_run : Bool → List ℕ → List ℕ
+shown_run is_space run = if is_space then spaced run else run
+
+-- what is shown of bytes that stand behind white space
+abbrev pub shown_behind : CharSet → List ℕ → List ℕ → List ℕ
+shown_behind set run [] = spaced run
+shown_behind set run (b ∷ bs) =
+    if is_white set b then shown_behind set (run ++ b ∷ []) bs else spaced run ++ b ∷ shown_behind set [] bs
+
+abbrev pub shown : Words → List ℕ
+shown words = shown_behind words.set [] words.bytes

@@ -1,0 +1,56 @@
+-- The report of a compilation: the lines that it writes, and what it counts.
+use Rattle.std.specs.Prelude.{ℕ, ◌+◌, List, [], ◌++◌, codes, decimal, Bool, true, false, not, ◌||◌, ◌==◌, if◌then◌else◌}
+use Rattle.inf_symbol.specs.Messages.{closing, most_errors, one_warning_more}
+use Rattle.inf_report.specs.Messages.{Location, Message, TooManyErrors, line_of}
+use Rattle.inf_report.specs.OwnWords.{Words, shown}
+use Rattle.inf_report.specs.declared.messages.Kind.TheVariants as kind
+
+-- How many errors and warnings were told, whether a fatal one has ended them, and whether warnings are told at all.
+pub record Counts : Type 0 where
+  pub errors : ℕ
+  pub warnings : ℕ
+  pub is_over : Bool
+  pub has_warnings : Bool
+
+-- nothing was told yet
+abbrev pub no_counts : Bool → Counts
+no_counts has_warnings = record { errors = 0; warnings = 0; is_over = false; has_warnings = has_warnings }
+
+-- whether the next error is the last
+abbrev pub is_last : Counts → Bool
+is_last c = c.errors + 1 == most_errors
+
+-- An error at a place, of a unit that begins at another or the same: the last is followed by a fatal one there.
+abbrev pub error_lines : Location → Location → Message → Counts → List ℕ
+error_lines at unit m c =
+    if c.is_over then [] else
+    if is_last c then line_of kind.Error at m ++ line_of kind.Fatal unit TooManyErrors else line_of kind.Error at m
+
+abbrev pub with_error : Counts → Counts
+with_error c = if c.is_over then c else record c { errors = c.errors + 1; is_over = is_last c }
+
+-- a warning: where none are wanted it is not counted
+abbrev pub warning_lines : Location → Message → Counts → List ℕ
+warning_lines at m c = if c.is_over || not c.has_warnings then [] else line_of kind.Warning at m
+
+abbrev pub with_warning : Counts → Counts
+with_warning c = if c.is_over || not c.has_warnings then c else record c { warnings = one_warning_more c.warnings }
+
+-- a fatal error ends all
+abbrev pub fatal_lines : Location → Message → Counts → List ℕ
+fatal_lines at m c = if c.is_over then [] else line_of kind.Fatal at m
+
+abbrev pub with_fatal : Counts → Counts
+with_fatal c = if c.is_over then c else record c { is_over = true }
+
+-- a line of the source's own words alone
+abbrev pub plain_lines : Words → Counts → List ℕ
+plain_lines words c = if c.is_over then [] else shown words ++ codes "\n"
+
+-- a line of the statistics
+abbrev pub statistic_lines : List ℕ → ℕ → Counts → List ℕ
+statistic_lines word n c = if c.is_over then [] else word ++ codes ": " ++ decimal n ++ codes "\n"
+
+-- the last line
+abbrev pub closing_lines : Counts → List ℕ
+closing_lines c = if c.is_over then [] else closing c.errors c.warnings

@@ -1,0 +1,114 @@
+-- What a token is, by its bytes (Designer's Manual, fourth edition, sections 1.4 and 1.11).
+use Rattle.std.specs.Prelude.{ℕ, ◌+◌, ◌-◌, ◌*◌, List, [], ◌∷◌, length, take, drop, Bool, true, false, ◌&&◌, ◌||◌, ◌==◌, nat_le, nat_lt, if◌then◌else◌, Option, Some, None, Result, Ok, Err}
+use Rattle.inf_characters.specs.declared.characters.CharSet.{CharSet}
+use Rattle.inf_characters.specs.declared.reading.Mode.TheVariants as mode
+use Rattle.inf_characters.specs.declared.reading.TextFault.{TextFault}
+use Rattle.inf_characters.specs.declared.reading.TextFault.TheVariants as fault
+use Rattle.inf_characters.specs.declared.texts.TextItem.{TextItem}
+use Rattle.inf_characters.specs.declared.texts.TextItem.TheVariants as item
+use Rattle.inf_text.specs.Packing.{dictionary_bytes}
+use Rattle.inf_characters.specs.Reading.{text_of}
+use Rattle.inf_scanner.specs.Kept.{Kept}
+use Rattle.inf_scanner.specs.declared.scanner.Ending.{Ending}
+use Rattle.inf_scanner.specs.declared.scanner.Ending.TheVariants as ending
+use Rattle.std.specs.Str.{bytes_eq}
+use Rattle.std.specs.declared.alloc.AllocError.{AllocError}
+use Rattle.inf_scanner.specs.declared.kinds.Sign.{Sign}
+use Rattle.inf_scanner.specs.declared.kinds.Sign.TheVariants as sign
+use Rattle.inf_scanner.specs.declared.tokens.TokenKind.{TokenKind}
+use Rattle.inf_scanner.specs.declared.tokens.TokenKind.TheVariants as kind
+use Rattle.inf_scanner.specs.declared.tokens.BadToken.TheVariants as bad
+
+-- the value of a digit in base 2, 10 or 16
+abbrev pub digit_of : ℕ → ℕ → Option ℕ
+digit_of base b =
+    if b == 48 || b == 49 then Some (b - 48) else
+    if (nat_le 50 b && nat_le b 57) && nat_lt 2 base then Some (b - 48) else
+    if (nat_le 97 b && nat_le b 102) && nat_lt 10 base then Some (b - 97 + 10) else
+    if (nat_le 65 b && nat_le b 70) && nat_lt 10 base then Some (b - 65 + 10) else None
+
+-- the number that digits write behind others, up to 65535
+abbrev pub value_from : ℕ → ℕ → List ℕ → Option ℕ
+value_from base high [] = Some high
+value_from base high (b ∷ bs) =
+    elim (digit_of base b) [
+      | None ↦ None
+      | Some d ↦ if nat_lt 65535 (high * base + d) then None else value_from base (high * base + d) bs
+    ]
+
+abbrev pub value_of : ℕ → List ℕ → Option ℕ
+value_of base [] = None
+value_of base (b ∷ bs) = value_from base 0 (b ∷ bs)
+
+-- behind a `$`
+abbrev pub behind_dollar : List ℕ → Option ℕ
+behind_dollar [] = None
+behind_dollar (b ∷ bs) = if b == 36 then value_of 2 bs else value_of 16 (b ∷ bs)
+
+-- the number of a run: decimal, `$` and hexadecimal, or `$$` and binary
+abbrev pub number_of : List ℕ → Option ℕ
+number_of [] = None
+number_of (b ∷ bs) = if b == 36 then behind_dollar bs else value_of 10 (b ∷ bs)
+
+abbrev pub number_kind : Option ℕ → TokenKind
+number_kind (Some n) = kind.Number n
+number_kind None = kind.Bad bad.Number
+
+-- what can't be read
+abbrev pub refused : TextFault → TokenKind
+refused fault.UnknownEscape = kind.Bad bad.UnknownEscape
+refused fault.NoZscii = kind.Bad bad.NoZscii
+refused fault.BadCode = kind.Bad bad.BadCode
+refused fault.Memory = kind.Bad bad.BadCode
+
+-- what a call answers then
+abbrev pub refusal : TextFault → Result TokenKind AllocError
+refusal fault.Memory = Err (record {})
+refusal f = Ok (refused f)
+
+-- what a text is, if it can be read
+abbrev pub read_by : (List TextItem → TokenKind) → Result (List TextItem) TextFault → TokenKind
+read_by kind (Ok items) = kind items
+read_by kind (Err f) = refused f
+
+abbrev pub text_kind : CharSet → List ℕ → TokenKind
+text_kind set bytes = read_by (λ _. kind.Text) (text_of set mode.Text bytes)
+
+abbrev pub word_of : Bool → List TextItem → TokenKind
+word_of is_plural items = kind.Word (record { text = dictionary_bytes items; is_plural = is_plural })
+
+-- what the text of a quote is, by the sign behind it: without one a single character is itself
+abbrev pub quoted_kind : Sign → List TextItem → TokenKind
+quoted_kind sign.Plural items = word_of true items
+quoted_kind sign.Single items = word_of false items
+quoted_kind sign.None (item.Character c ∷ []) = kind.Char c
+quoted_kind sign.None items = word_of false items
+
+abbrev pub signed_kind : CharSet → Sign → List ℕ → TokenKind
+signed_kind set s bytes = read_by (quoted_kind s) (text_of set mode.Quote bytes)
+
+-- the last bytes, so many
+abbrev pub last : ℕ → List ℕ → List ℕ
+last n bytes = drop (length bytes - n) bytes
+
+abbrev pub front : ℕ → List ℕ → List ℕ
+front n bytes = take (length bytes - n) bytes
+
+-- what stands between single quotes: the sign `//` or `//p` at the end makes it a word
+abbrev pub quote_kind : CharSet → List ℕ → TokenKind
+quote_kind set bytes =
+    if length bytes == 0 then kind.Bad bad.EmptyQuote else
+    if bytes_eq (last 3 bytes) (47 ∷ 47 ∷ 112 ∷ []) then signed_kind set sign.Plural (front 3 bytes) else
+    if bytes_eq (last 2 bytes) (47 ∷ 47 ∷ []) then signed_kind set sign.Single (front 2 bytes) else
+    signed_kind set sign.None bytes
+
+-- what a token is, by its end and what is kept of it
+abbrev pub kind_of : CharSet → Ending → Kept → TokenKind
+kind_of set ending.End k = kind.End
+kind_of set ending.Unfit k = kind.Bad bad.Unfit
+kind_of set (ending.Mark m) k = kind.Mark m
+kind_of set (ending.Run false) k = if k.is_cut then kind.Bad bad.LongName else kind.Name
+kind_of set (ending.Run true) k = if k.is_cut then kind.Bad bad.Number else number_kind (number_of k.bytes)
+kind_of set ending.Unclosed k = if k.is_cut then kind.Bad bad.TooLong else kind.Bad bad.Unclosed
+kind_of set ending.Text k = if k.is_cut then kind.Bad bad.TooLong else text_kind set k.bytes
+kind_of set ending.Quote k = if k.is_cut then kind.Bad bad.TooLong else quote_kind set k.bytes

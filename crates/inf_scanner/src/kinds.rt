@@ -1,0 +1,165 @@
+//! What a token is, once its bytes are known.
+ghost use Rattle.std.specs.Prelude.{◌≡◌, ◌<◌, ◌≤◌, ◌+◌, ◌*◌, true, IsErr, IfOk, IfSome};
+ghost use Rattle.inf_scanner.specs.Scanning.{is_quoted};
+ghost use Rattle.inf_scanner.specs.Kinds.{digit_of, kind_of, number_of, quote_kind, quoted_kind, refusal, signed_kind, text_kind, value_from, value_of, word_of};
+
+use crate::scanner::Ending;
+use crate::spelling::Spelling;
+use crate::tokens::{BadToken, DictionaryWord, TokenKind};
+use inf_text::{CharSet, Mode, Text, TextFault, TextItem, dict_word, read_text};
+use std::alloc::{AllocError, Global};
+
+/// What stands at the end of a quote.
+#[derive(Clone, Copy)]
+enum Sign {
+    None,
+    /// `//`
+    Single,
+    /// `//p`
+    Plural,
+}
+
+/// The value of a digit in base 2, 10 or 16.
+fn digit_of(base: u32, byte: u8) -> Option<u32>
+    ensures value { result ≡ digit_of base byte }
+    ensures small { IfSome result (λ d. d < 16) }
+{
+    match byte {
+        b'0' | b'1' => Some(u32::from(byte - b'0')),
+        b'2'..=b'9' if base > 2 => Some(u32::from(byte - b'0')),
+        b'a'..=b'f' if base > 10 => Some(u32::from(byte - b'a') + 10),
+        b'A'..=b'F' if base > 10 => Some(u32::from(byte - b'A') + 10),
+        _ => None,
+    }
+}
+
+/// The number that digits write in base 2, 10 or 16, if there are any and it is at most 65535.
+fn value_of(base: u32, digits: &[u8]) -> Option<u16>
+    requires { base ≤ 16 }
+    ensures { result ≡ value_of base digits.now }
+{
+    if digits.is_empty() {
+        return None;
+    }
+    let mut value: u32 = 0;
+    for byte in digits {
+        value = value * base + digit_of(base, *byte)?;
+        if value > 65535 {
+            return None;
+        }
+    }
+    Some(value as u16)
+}
+
+/// The number that a run spells: decimal, `$` and hexadecimal, or `$$` and binary.
+fn number_of(run: &[u8]) -> Option<u16>
+    ensures { result ≡ number_of run.now }
+{
+    match run {
+        [b'$', b'$', digits @ ..] => value_of(2, digits),
+        [b'$', digits @ ..] => value_of(16, digits),
+        _ => value_of(10, run),
+    }
+}
+
+/// What a text or a quote is that can't be read.
+fn refused(fault: TextFault) -> Result<TokenKind, AllocError>
+    ensures { result ≡ refusal fault }
+{
+    match fault {
+        TextFault::UnknownEscape => Ok(TokenKind::Bad(BadToken::UnknownEscape)),
+        TextFault::NoZscii => Ok(TokenKind::Bad(BadToken::NoZscii)),
+        TextFault::BadCode => Ok(TokenKind::Bad(BadToken::BadCode)),
+        TextFault::Memory => Err(AllocError),
+    }
+}
+
+/// What the bytes between double quotes are.
+fn text_kind(alloc: Global, set: CharSet, bytes: &[u8]) -> Result<TokenKind, AllocError>
+    ensures ok { IfOk result (λ kind. kind ≡ text_kind set bytes.now) }
+{
+    let Err(fault) = read_text(alloc, bytes, set, Mode::Text) else {
+        return Ok(TokenKind::Text);
+    };
+    refused(fault)
+}
+
+fn word_of(text: &Text, is_plural: bool) -> TokenKind
+    ensures { result ≡ word_of is_plural text.now }
+{
+    TokenKind::Word(DictionaryWord {
+        text: dict_word(text),
+        is_plural,
+    })
+}
+
+/// What the text of a quote is, by the sign behind it: without one a single character is itself.
+fn quoted_kind(text: &Text, sign: Sign) -> TokenKind
+    ensures { result ≡ quoted_kind sign text.now }
+{
+    match (sign, text.as_slice()) {
+        (Sign::None, [TextItem::Character(code)]) => TokenKind::Char(*code),
+        (Sign::Plural, _) => word_of(text, true),
+        _ => word_of(text, false),
+    }
+}
+
+/// What the bytes between single quotes are, but for the sign at their end.
+fn signed_kind(
+    alloc: Global,
+    set: CharSet,
+    bytes: &[u8],
+    sign: Sign,
+) -> Result<TokenKind, AllocError>
+    ensures ok { IfOk result (λ kind. kind ≡ signed_kind set sign bytes.now) }
+{
+    match read_text(alloc, bytes, set, Mode::Quote) {
+        Ok(text) => Ok(quoted_kind(&text, sign)),
+        Err(fault) => refused(fault),
+    }
+}
+
+/// What the bytes between single quotes are: the sign `//` or `//p` at their end makes a word of them.
+fn quote_kind(alloc: Global, set: CharSet, bytes: &[u8]) -> Result<TokenKind, AllocError>
+    ensures ok { IfOk result (λ kind. kind ≡ quote_kind set bytes.now) }
+{
+    if bytes.is_empty() {
+        return Ok(TokenKind::Bad(BadToken::EmptyQuote));
+    }
+    if let Some(front) = bytes.strip_suffix(b"//p") {
+        return signed_kind(alloc, set, front, Sign::Plural);
+    }
+    if let Some(front) = bytes.strip_suffix(b"//") {
+        return signed_kind(alloc, set, front, Sign::Single);
+    }
+    signed_kind(alloc, set, bytes, Sign::None)
+}
+
+/// What a token is, by its end and its bytes.
+pub fn kind_of(
+    alloc: Global,
+    set: CharSet,
+    ending: Ending,
+    spelling: &Spelling,
+) -> Result<TokenKind, AllocError>
+    ensures ok { IfOk result (λ kind. kind ≡ kind_of set ending spelling.now) }
+    ensures memory { IsErr result → is_quoted ending ≡ true }
+{
+    let is_cut = spelling.is_cut();
+    match ending {
+        Ending::End => Ok(TokenKind::End),
+        Ending::Unfit => Ok(TokenKind::Bad(BadToken::Unfit)),
+        Ending::Mark(mark) => Ok(TokenKind::Mark(mark)),
+        Ending::Run(false) if is_cut => Ok(TokenKind::Bad(BadToken::LongName)),
+        Ending::Run(false) => Ok(TokenKind::Name),
+        Ending::Run(true) if is_cut => Ok(TokenKind::Bad(BadToken::Number)),
+        Ending::Run(true) => match number_of(spelling.as_slice()) {
+            Some(number) => Ok(TokenKind::Number(number)),
+            None => Ok(TokenKind::Bad(BadToken::Number)),
+        },
+        _ if is_cut => Ok(TokenKind::Bad(BadToken::TooLong)),
+        Ending::Unclosed => Ok(TokenKind::Bad(BadToken::Unclosed)),
+        Ending::Text => text_kind(alloc, set, spelling.as_slice()),
+        Ending::Quote => quote_kind(alloc, set, spelling.as_slice()),
+    }
+}

@@ -1,0 +1,64 @@
+//! The marks, byte by byte: each front of a mark is a mark.
+ghost use Rattle.std.specs.Prelude.{◌≡◌};
+ghost use Rattle.inf_scanner.specs.Marks.{first_mark, longer_mark};
+
+use crate::tokens::Mark;
+
+/// The mark of one byte.
+pub(crate) fn first_mark(byte: u8) -> Option<Mark>
+    ensures { result ≡ first_mark byte }
+{
+    let mark = match byte {
+        b'-' => Mark::Minus,
+        b'+' => Mark::Plus,
+        b'*' => Mark::Times,
+        b'/' => Mark::Divide,
+        b'%' => Mark::Remainder,
+        b'&' => Mark::BitAnd,
+        b'|' => Mark::BitOr,
+        b'~' => Mark::BitNot,
+        b'=' => Mark::Assign,
+        b'>' => Mark::Greater,
+        b'<' => Mark::Less,
+        b',' => Mark::Comma,
+        b';' => Mark::Semicolon,
+        b':' => Mark::Colon,
+        b'(' => Mark::OpenParenthesis,
+        b')' => Mark::CloseParenthesis,
+        b'[' => Mark::OpenBracket,
+        b']' => Mark::CloseBracket,
+        b'{' => Mark::OpenBrace,
+        b'}' => Mark::CloseBrace,
+        b'.' => Mark::Dot,
+        b'#' => Mark::Hash,
+        b'?' => Mark::Question,
+        b'@' => Mark::At,
+        _ => return None,
+    };
+    Some(mark)
+}
+
+/// The mark that a mark and one more byte are.
+pub(crate) fn longer_mark(mark: Mark, byte: u8) -> Option<Mark>
+    ensures { result ≡ longer_mark mark byte }
+{
+    match (mark, byte) {
+        (Mark::Minus, b'-') => Some(Mark::Decrement),
+        (Mark::Minus, b'>') => Some(Mark::Arrow),
+        (Mark::Decrement, b'>') => Some(Mark::LongArrow),
+        (Mark::Plus, b'+') => Some(Mark::Increment),
+        (Mark::BitAnd, b'&') => Some(Mark::LogicalAnd),
+        (Mark::BitOr, b'|') => Some(Mark::LogicalOr),
+        (Mark::BitNot, b'~') => Some(Mark::LogicalNot),
+        (Mark::BitNot, b'=') => Some(Mark::NotEqual),
+        (Mark::Assign, b'=') => Some(Mark::Equal),
+        (Mark::Greater, b'=') => Some(Mark::GreaterOrEqual),
+        (Mark::Greater, b'>') => Some(Mark::DoubleGreater),
+        (Mark::Less, b'=') => Some(Mark::LessOrEqual),
+        (Mark::Less, b'<') => Some(Mark::DoubleLess),
+        (Mark::Dot, b'&') => Some(Mark::DotAnd),
+        (Mark::Dot, b'#') => Some(Mark::DotHash),
+        (Mark::Hash, b'#') => Some(Mark::DoubleHash),
+        _ => None,
+    }
+}

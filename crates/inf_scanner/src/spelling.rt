@@ -1,0 +1,71 @@
+//! What is kept of the token at hand.
+ghost use Rattle.std.specs.Prelude.{◌≡◌, ◌<◌, IfOk, IsErr, OnOk};
+ghost use Rattle.inf_scanner.specs.Kept.{nothing_kept, with_byte};
+
+use std::alloc::{AllocError, Global};
+use std::marker::Model;
+
+/// The bytes of a token, as far as there is room for them. Contracts see these and whether more came.
+#[derive(Drop)]
+pub struct Spelling {
+    bytes: Vec<u8>,
+    is_cut: bool,
+}
+
+impl Model for Spelling {
+    ghost use Rattle.std.specs.Prelude.{◌≤◌};
+    ghost use Rattle.std.specs.Vec.{vec_capacity};
+    ghost use Rattle.inf_scanner.specs.Kept.{Kept};
+
+    ghost Value = { Kept };
+
+    ghost view = { λ s. record { bytes = s.bytes.items; is_cut = s.is_cut } };
+
+    ghost invariant = { λ s. 32 ≤ vec_capacity s.bytes };
+}
+
+impl Spelling {
+    /// Nothing yet, with room for as many bytes as a name may have.
+    pub(crate) fn new(alloc: Global) -> Result<Spelling, AllocError>
+        ensures { IfOk result (λ s. s ≡ nothing_kept) }
+    {
+        Ok(Spelling {
+            bytes: Vec::with_capacity(alloc, 32)?,
+            is_cut: false,
+        })
+    }
+
+    /// Forgets all bytes.
+    pub(crate) fn clear(&mut self)
+        ensures { self.new ≡ nothing_kept }
+    {
+        self.bytes.clear();
+        self.is_cut = false;
+    }
+
+    /// Keeps a byte, if fewer than `most` are kept. There is always room for as many as a name may have.
+    pub(crate) fn push(&mut self, most: usize, byte: u8) -> Result<(), AllocError>
+        ensures ok { OnOk result (self.new ≡ with_byte most byte self.old) }
+        ensures memory { IsErr result → 32 < most }
+    {
+        if self.bytes.len() < most {
+            self.bytes.push(byte)?;
+        } else {
+            self.is_cut = true;
+        }
+        Ok(())
+    }
+
+    /// The bytes that are kept.
+    pub fn as_slice(&self) -> &[u8]
+        ensures { result.now ≡ self.now.bytes }
+    {
+        self.bytes.as_slice()
+    }
+
+    pub(crate) fn is_cut(&self) -> bool
+        ensures { result ≡ self.now.is_cut }
+    {
+        self.is_cut
+    }
+}

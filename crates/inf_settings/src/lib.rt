@@ -1,0 +1,7 @@
+//! The settings of a compilation: how many there may be of what.
+#![tactic(auto)]
+
+mod limits;
+pub mod setting;
+pub mod settings;
+pub mod words;
