@@ -5,10 +5,36 @@ ghost use Rattle.inf_opcode.specs.Instructions.{IsProper, instruction_cells};
 ghost use Rattle.inf_opcode.specs.PartsOf.{parts_of};
 
 use inf_area::{Reference, ReferenceKind};
-use inf_assembler::RoutineKind;
-use inf_layout::code::Code;
+use inf_assembler::{GrowFault, RoutineKind, Setting};
+use inf_layout::code::{Code, CodeLimits};
 use inf_opcode::{Instruction, Opcode, Operand};
 use std::test::Fail;
+
+// More than each test needs.
+const ROOMY: CodeLimits = CodeLimits {
+    labels: 100,
+    code: 1_000,
+    refs: 100,
+};
+
+const CODE_IS_FULL: Result<(), GrowFault> = Err(GrowFault::Full(Setting::Code));
+
+const REFS_ARE_FULL: Result<(), GrowFault> = Err(GrowFault::Full(Setting::Refs));
+
+// Code of so many bytes at most.
+fn code_of(rt: &HostRuntime, bytes: usize) -> Code {
+    code_with(rt, bytes, ROOMY.refs)
+}
+
+// Code of so many bytes and references at most.
+fn code_with(rt: &HostRuntime, bytes: usize, refs: usize) -> Code {
+    let limits = CodeLimits {
+        code: bytes,
+        refs,
+        ..ROOMY
+    };
+    Code::new(rt.alloc(), limits)
+}
 
 // A routine that is known later, by its number.
 fn routine(number: usize) -> Reference {
@@ -46,7 +72,7 @@ fn close_call(rt: &HostRuntime, code: &mut Code, number: usize) -> Result<(), Fa
 
 #[test]
 fn a_call_takes_its_number(rt: HostRuntime) -> Result<(), Fail> {
-    let mut code = Code::new(rt.alloc());
+    let mut code = Code::new(rt.alloc(), ROOMY);
     close_call(&rt, &mut code, 1)?;
     assert_eq!(rt; code.len(), 8);
     let area = code.fill(&[5, 0x00F4]);
@@ -57,7 +83,7 @@ fn a_call_takes_its_number(rt: HostRuntime) -> Result<(), Fail> {
 
 #[test]
 fn a_routine_with_no_items_is_padded(rt: HostRuntime) -> Result<(), Fail> {
-    let mut code = Code::new(rt.alloc());
+    let mut code = Code::new(rt.alloc(), ROOMY);
     code.open(rt.alloc(), 0)?;
     code.close(RoutineKind::Plain)?;
     assert_eq!(rt; code.len(), 4);
@@ -68,7 +94,7 @@ fn a_routine_with_no_items_is_padded(rt: HostRuntime) -> Result<(), Fail> {
 
 #[test]
 fn each_call_takes_its_own_number(rt: HostRuntime) -> Result<(), Fail> {
-    let mut code = Code::new(rt.alloc());
+    let mut code = Code::new(rt.alloc(), ROOMY);
     close_call(&rt, &mut code, 1)?;
     close_call(&rt, &mut code, 0)?;
     // The list has no number 2.
@@ -85,7 +111,7 @@ fn each_call_takes_its_own_number(rt: HostRuntime) -> Result<(), Fail> {
 
 #[test]
 fn a_routine_that_is_given_up_leaves_nothing(rt: HostRuntime) -> Result<(), Fail> {
-    let mut code = Code::new(rt.alloc());
+    let mut code = Code::new(rt.alloc(), ROOMY);
     close_call(&rt, &mut code, 0)?;
     code.open(rt.alloc(), 2)?;
     code.emit(&returning(1))?;
@@ -108,5 +134,80 @@ fn a_routine_that_is_given_up_leaves_nothing(rt: HostRuntime) -> Result<(), Fail
         0x01, 0xDA, 0x2F, 0x12, 0x34, 0x01, 0xB0, 0x00, 0x00, 0xBA, 0x00, 0x00,
     ];
     assert_eq!(rt; area.as_slice(), bytes.as_slice());
+    Ok(())
+}
+
+#[test]
+fn a_routine_takes_the_last_byte(rt: HostRuntime) -> Result<(), Fail> {
+    // The number of locals, the five bytes of a call, and what returns.
+    let mut code = code_of(&rt, 7);
+    close_call(&rt, &mut code, 1)?;
+    assert_eq!(rt; code.len(), 8);
+    assert_eq!(rt; code.open(rt.alloc(), 0), CODE_IS_FULL);
+    Ok(())
+}
+
+#[test]
+fn the_end_of_a_routine_takes_a_byte(rt: HostRuntime) -> Result<(), Fail> {
+    let mut code = code_of(&rt, 6);
+    code.open(rt.alloc(), 1)?;
+    code.emit(&calling(1))?;
+    assert_eq!(rt; code.close(RoutineKind::Plain), CODE_IS_FULL);
+    assert_eq!(rt; code.len(), 0);
+    Ok(())
+}
+
+#[test]
+fn nothing_returns_behind_an_instruction_that_leaves(rt: HostRuntime) -> Result<(), Fail> {
+    let mut code = code_of(&rt, 5);
+    code.open(rt.alloc(), 1)?;
+    assert_eq!(rt; code.emit(&calling(1)), CODE_IS_FULL);
+    code.emit(&returning(1))?;
+    code.close(RoutineKind::Plain)?;
+    assert_eq!(rt; code.len(), 4);
+    Ok(())
+}
+
+#[test]
+fn no_routine_is_opened_in_no_bytes(rt: HostRuntime) {
+    let mut code = code_of(&rt, 0);
+    assert_eq!(rt; code.open(rt.alloc(), 0), CODE_IS_FULL);
+}
+
+#[test]
+fn finished_routines_count_with_the_open_one(rt: HostRuntime) -> Result<(), Fail> {
+    let mut code = code_of(&rt, 14);
+    close_call(&rt, &mut code, 1)?;
+    code.open(rt.alloc(), 1)?;
+    code.emit(&calling(1))?;
+    assert_eq!(rt; code.emit(&Instruction::bare(Opcode::Quit)), CODE_IS_FULL);
+    // A routine that is given up does not count.
+    code.open(rt.alloc(), 0)?;
+    code.emit(&Instruction::bare(Opcode::Quit))?;
+    code.close(RoutineKind::Plain)?;
+    assert_eq!(rt; code.len(), 12);
+    Ok(())
+}
+
+#[test]
+fn the_last_reference_is_the_limit(rt: HostRuntime) -> Result<(), Fail> {
+    let mut code = code_with(&rt, 1_000, 2);
+    close_call(&rt, &mut code, 1)?;
+    code.open(rt.alloc(), 1)?;
+    code.emit(&calling(1))?;
+    assert_eq!(rt; code.emit(&calling(1)), REFS_ARE_FULL);
+    assert_eq!(rt; code.emit(&returning(1)), REFS_ARE_FULL);
+    code.emit(&Instruction::bare(Opcode::Quit))?;
+    code.close(RoutineKind::Plain)?;
+    assert_eq!(rt; code.len(), 16);
+    Ok(())
+}
+
+#[test]
+fn of_two_limits_that_of_the_bytes_comes_first(rt: HostRuntime) -> Result<(), Fail> {
+    let mut code = code_with(&rt, 5, 0);
+    code.open(rt.alloc(), 1)?;
+    assert_eq!(rt; code.emit(&calling(1)), CODE_IS_FULL);
+    assert_eq!(rt; code.emit(&returning(1)), REFS_ARE_FULL);
     Ok(())
 }

@@ -10,28 +10,29 @@ use Rattle.inf_opcode.proofs.Counting.{labels-append}
 use Rattle.inf_assembler.specs.declared.routines.Closed.{Closed}
 use Rattle.inf_assembler.specs.declared.routines.RoutineKind.{RoutineKind}
 use Rattle.inf_assembler.specs.Routines.{State, Contents, Stands, IsOpen, Holds, Closes, contents_of, fresh, closing, routine_holes, body_bytes}
-use Rattle.inf_layout.specs.Code.{IsCode, AreInOrder, cells_from, size, padded, routine_cells, whole_bytes, with_instruction}
+use Rattle.inf_layout.specs.Code.{IsCode, AreInOrder, cells_from, size, padded, routine_cells, whole_bytes, with_instruction, routine_limits}
+use Rattle.inf_layout.specs.declared.code.CodeLimits.{CodeLimits}
 use Rattle.inf_layout.proofs.CodeLemmas.{StandsFor, zeros_behind, size-cells_from, stands_for-closed}
 
 -- the bytes of the finished routines
-module _ (finished : ℕ) (holes : List Hole) (bytes : List ℕ) (routine : Option State) (is : IsCode finished holes bytes routine) where
+module _ (limits : CodeLimits) (finished : ℕ) (refs : Holes) (bytes : List ℕ) (routine : Option State) (is : IsCode limits finished refs bytes routine) where
   pub length_finished : length (take finished bytes) ≡ finished
   length_finished = length-take-le finished bytes is.within
 
-  pub order_finished : AreInOrder 0 holes (length (take finished bytes))
-  order_finished = subst (λ n. AreInOrder 0 holes n) (sym length_finished) is.in_order
+  pub order_finished : AreInOrder 0 refs.list (length (take finished bytes))
+  order_finished = subst (λ n. AreInOrder 0 refs.list n) (sym length_finished) is.in_order
 
-  pub size_finished : size (cells_from 0 holes (take finished bytes)) ≡ finished
+  pub size_finished : size (cells_from 0 refs.list (take finished bytes)) ≡ finished
   size_finished =
       let end : length (take finished bytes) ≡ 0 + length (take finished bytes) = omega arith in
-      size-cells_from 0 holes (take finished bytes) (subst (λ n. AreInOrder 0 holes n) end order_finished) ∙ length_finished
+      size-cells_from 0 refs.list (take finished bytes) (subst (λ n. AreInOrder 0 refs.list n) end order_finished) ∙ length_finished
 
   -- cut, and with nothing open
   pub front_cut : (cut : List ℕ) → cut ≡ take finished bytes → take finished cut ≡ take finished bytes
   front_cut cut e = ap (take finished) e ∙ take-take finished finished bytes (omega arith)
 
-  pub code_cut : (cut : List ℕ) → cut ≡ take finished bytes → IsCode finished holes cut None
-  code_cut cut e = record { within = omega (arith, ap length e, length_finished); in_order = is.in_order; behind = tt }
+  pub code_cut : (cut : List ℕ) → cut ≡ take finished bytes → IsCode limits finished refs cut None
+  code_cut cut e = record { within = omega (arith, ap length e, length_finished); in_order = is.in_order; limit = is.limit; behind = tt }
 
   -- with bytes behind them
   pub front_longer : (longer more : List ℕ) → longer ≡ take finished bytes ++ more → take finished longer ≡ take finished bytes
@@ -42,44 +43,47 @@ module _ (finished : ℕ) (holes : List Hole) (bytes : List ℕ) (routine : Opti
     pub front_opened : take finished new ≡ take finished bytes
     front_opened = front_longer new _ (stands.bytes ∙ ap (λ xs. xs ++ locals ∷ long_bytes []) at)
 
-    pub code_opened : contents_of opened new ≡ fresh locals → IsOpen opened new → IsCode finished holes new (Some opened)
-    code_opened told open_now =
+    pub code_opened : contents_of opened new ≡ fresh locals → IsOpen opened new → opened.limits ≡ routine_limits limits → IsCode limits finished refs new (Some opened)
+    code_opened told open_now same =
         let start : opened.start ≡ finished = stands.start ∙ ap length at ∙ length_finished in
         record {
           within = omega (arith, ap length front_opened, length_finished, length-take finished new);
           in_order = is.in_order;
-          behind = record { start = start; open_still = open_now; straight = ap (λ (c : Contents). label_count c.cells) told };
+          limit = is.limit;
+          behind = record { start = start; open_still = open_now; straight = ap (λ (c : Contents). label_count c.cells) told; limits = same };
         }
 
 -- an instruction is added to the open routine
-module _ (finished : ℕ) (holes : List Hole) (bytes new : List ℕ) (routine longer : State) (parts : Parts) (is : IsCode finished holes bytes (Some routine))
+module _ (limits : CodeLimits) (finished : ℕ) (refs : Holes) (bytes new : List ℕ) (routine longer : State) (parts : Parts) (is : IsCode limits finished refs bytes (Some routine))
     (holds : Holds (with_instruction parts (contents_of routine bytes)) routine bytes longer new) where
   pub front_emitted : take finished new ≡ take finished bytes
   front_emitted = subst (λ n. take n new ≡ take n bytes) is.behind.start holds.front
 
-  pub code_emitted : label_count (instruction_cells parts) ≡ 0 → IsCode finished holes new (Some longer)
+  pub code_emitted : label_count (instruction_cells parts) ≡ 0 → IsCode limits finished refs new (Some longer)
   code_emitted straight =
       let before = (contents_of routine bytes).cells in
       record {
         within = omega (arith, ap length front_emitted, length-take finished new, length-take-le finished bytes is.within);
         in_order = is.in_order;
+        limit = is.limit;
         behind = record {
           start = holds.start ∙ is.behind.start;
           open_still = holds.open_still;
           straight = ap (λ (c : Contents). label_count c.cells) holds.is ∙ omega (arith, labels-append before (instruction_cells parts), straight, is.behind.straight);
+          limits = holds.limits ∙ is.behind.limits;
         };
       }
 
 -- or it is refused
-pub code_or_same : {T E : Type 0} (finished : ℕ) (holes : List Hole) (bytes new : List ℕ) (routine longer : State) (parts : Parts) → IsCode finished holes bytes (Some routine) → label_count (instruction_cells parts) ≡ 0
-    → (r : Result T E) → OnOk r (Holds (with_instruction parts (contents_of routine bytes)) routine bytes longer new) → OnErr r ((longer ≡ routine) × (new ≡ bytes)) → IsCode finished holes new (Some longer)
-code_or_same finished holes bytes new routine longer parts is straight (Ok x) holds same =
-    code_emitted finished holes bytes new routine longer parts is holds straight
-code_or_same finished holes bytes new routine longer parts is straight (Err e) holds same =
-    subst (λ xs. IsCode finished holes xs (Some longer)) (sym same.1) (subst (λ r. IsCode finished holes bytes (Some r)) (sym same.0) is)
+pub code_or_same : {T E : Type 0} (limits : CodeLimits) (finished : ℕ) (refs : Holes) (bytes new : List ℕ) (routine longer : State) (parts : Parts) → IsCode limits finished refs bytes (Some routine) → label_count (instruction_cells parts) ≡ 0
+    → (r : Result T E) → OnOk r (Holds (with_instruction parts (contents_of routine bytes)) routine bytes longer new) → OnErr r ((longer ≡ routine) × (new ≡ bytes)) → IsCode limits finished refs new (Some longer)
+code_or_same limits finished refs bytes new routine longer parts is straight (Ok x) holds same =
+    code_emitted limits finished refs bytes new routine longer parts is holds straight
+code_or_same limits finished refs bytes new routine longer parts is straight (Err e) holds same =
+    subst (λ xs. IsCode limits finished refs xs (Some longer)) (sym same.1) (subst (λ r. IsCode limits finished refs bytes (Some r)) (sym same.0) is)
 
 -- the open routine is closed, and filled up
-module _ (kind : RoutineKind) (finished : ℕ) (refs listed : Holes) (bytes written whole : List ℕ) (routine : State) (closed : Closed) (is : IsCode finished refs.list bytes (Some routine))
+module _ (kind : RoutineKind) (limits : CodeLimits) (finished : ℕ) (refs listed : Holes) (bytes written whole : List ℕ) (routine : State) (closed : Closed) (is : IsCode limits finished refs bytes (Some routine))
     (closes : Closes kind routine.start (contents_of routine bytes) bytes refs closed written listed) where
   pub front_closed : take finished written ≡ take finished bytes
   front_closed =
@@ -88,14 +92,14 @@ module _ (kind : RoutineKind) (finished : ℕ) (refs listed : Holes) (bytes writ
       let same : written ≡ take finished bytes ++ (contents.locals ∷ closes.body ++ closing kind contents) =
       closes.bytes ∙ ap (λ n. take n bytes ++ contents.locals ∷ closes.body ++ closing kind contents) start
       ∙ append_assoc (take finished bytes) (contents.locals ∷ closes.body) (closing kind contents) in
-      front_longer finished refs.list bytes (Some routine) is written _ same
+      front_longer limits finished refs bytes (Some routine) is written _ same
 
   pub code_closed : whole ≡ written ++ zeros_behind closed.len → StandsFor 0 listed.list whole (cells_from 0 refs.list (take finished bytes) ++ padded (routine_cells finished kind (contents_of routine bytes)))
   code_closed filled =
       let contents = contents_of routine bytes in
       let start = is.behind.start in
       let body = closes.body in
-      let at : finished ≡ length (take finished bytes) = sym (length_finished finished refs.list bytes (Some routine) is) in
+      let at : finished ≡ length (take finished bytes) = sym (length_finished limits finished refs bytes (Some routine) is) in
       let body_is : body_bytes finished contents ≡ Some body = ap (λ n. body_bytes n contents) (sym start) ∙ closes.is in
       let listed_is : listed.list ≡ refs.list ++ routine_holes finished contents = ap (λ (h : Holes). h.list) closes.holes ∙ ap (λ n. refs.list ++ routine_holes n contents) start in
       let written_is : written ≡ take finished bytes ++ contents.locals ∷ body ++ closing kind contents =
@@ -108,9 +112,9 @@ module _ (kind : RoutineKind) (finished : ℕ) (refs listed : Holes) (bytes writ
   finished_closed filled =
       let before = cells_from 0 refs.list (take finished bytes) in
       ap (cells_from 0 listed.list) (take_all (length whole) whole (omega arith)) ∙ (code_closed filled).are
-      ∙ ap (λ n. before ++ padded (routine_cells n kind (contents_of routine bytes))) (sym (size_finished finished refs.list bytes (Some routine) is))
+      ∙ ap (λ n. before ++ padded (routine_cells n kind (contents_of routine bytes))) (sym (size_finished limits finished refs bytes (Some routine) is))
 
-  pub code_after : whole ≡ written ++ zeros_behind closed.len → IsCode (length whole) listed.list whole None
+  pub code_after : whole ≡ written ++ zeros_behind closed.len → IsCode limits (length whole) listed whole None
   code_after filled =
       let end : 0 + length whole ≡ length whole = omega arith in
-      record { within = omega arith; in_order = subst (λ n. AreInOrder 0 listed.list n) end (code_closed filled).in_order; behind = tt }
+      record { within = omega arith; in_order = subst (λ n. AreInOrder 0 listed.list n) end (code_closed filled).in_order; limit = ap (λ (h : Holes). h.limit) closes.holes ∙ is.limit; behind = tt }

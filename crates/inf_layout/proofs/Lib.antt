@@ -3,3 +3,4 @@ pub mod StoryLaws
 pub mod CodeLemmas
 pub mod Straight
 pub mod CodeSteps
+pub mod Full

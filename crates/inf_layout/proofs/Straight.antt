@@ -1,13 +1,13 @@
 -- Routines without labels, branches and jumps can always be closed.
 use Rattle.std.specs.Prelude.{IsTrue}
-use Rattle.std.proofs.Common.{◌≡◌, ◌⊎◌, inl, inr, ℕ, ◌+◌, Bool, true, false, cond, List, [], ◌∷◌, ◌++◌, Option, Some, None, is_some, refl, sym, ◌∙◌, ap, subst, arith}
+use Rattle.std.proofs.Common.{◌≡◌, ◌⊎◌, inl, inr, ℕ, ◌+◌, Bool, true, false, cond, List, [], ◌∷◌, ◌++◌, length, Option, Some, None, is_some, refl, sym, ◌∙◌, ap, subst, arith}
 use Rattle.std.specs.List.{flat_map}
 use Rattle.inf_area.specs.Holes.{Holes}
 use Rattle.inf_opcode.specs.declared.cells.Special.TheVariants.{Marks, Branches, Jumps, Refers}
 use Rattle.inf_opcode.specs.declared.instructions.Branch.{Branch}
 use Rattle.inf_opcode.specs.declared.instructions.Operand.{Operand}
 use Rattle.inf_opcode.specs.declared.instructions.Operand.TheVariants.{Large, Small, Variable, Later, Offset}
-use Rattle.inf_opcode.specs.Cells.{Cell, Plain, Of, plain, label_count}
+use Rattle.inf_opcode.specs.Cells.{Cell, Plain, Of, plain, long_bytes, label_count, hole_count}
 use Rattle.inf_opcode.specs.Instructions.{Parts, heading, operand_cells, store_cells, branch_cells, instruction_cells, has_no_offset, fits_jump, IsProper}
 use Rattle.inf_opcode.specs.Opcodes.{row_of}
 use Rattle.inf_opcode.proofs.Counting.{labels-append, labels-plain}
@@ -17,7 +17,7 @@ use Rattle.inf_assembler.specs.declared.routines.Limits.{Limits}
 use Rattle.inf_assembler.specs.declared.routines.RoutineKind.{RoutineKind}
 use Rattle.inf_assembler.specs.declared.routines.Setting.TheVariants.{Code, Refs}
 use Rattle.inf_assembler.specs.Places.{Places, with_some, closed_bytes, missing, twice_behind}
-use Rattle.inf_assembler.specs.Routines.{Contents, long_places, places, body_bytes, full_fault, body_fault, twice_fault, missing_fault, fault_of}
+use Rattle.inf_assembler.specs.Routines.{Contents, long_places, places, body_bytes, end_fault, full_fault, body_fault, twice_fault, missing_fault, fault_of}
 use Rattle.inf_layout.specs.Code.{is_of_room}
 
 -- no label is missing or stands twice, and no offset is too far
@@ -37,17 +37,36 @@ twice_none before ((Of (Branches branch)) ∷ cells) straight = absurd (omega ar
 twice_none before ((Of (Jumps label)) ∷ cells) straight = absurd (omega arith)
 twice_none before ((Of (Refers reference)) ∷ cells) straight = twice_none (before ++ Of (Refers reference) ∷ []) cells straight
 
-closed_some : (long places : Places) (old new : ℕ) (cells : List Cell) → label_count cells ≡ 0 → (body : List ℕ) × (closed_bytes long places old new cells ≡ Some body)
-closed_some long places old new [] straight = ([], refl)
+-- the closed bytes are as many as the long ones
+record Closed (long places : Places) (old new : ℕ) (cells : List Cell) : Type 0 where
+  body : List ℕ
+  is : closed_bytes long places old new cells ≡ Some body
+  len : length body ≡ length (long_bytes cells)
+
+closed_some : (long places : Places) (old new : ℕ) (cells : List Cell) → label_count cells ≡ 0 → Closed long places old new cells
+closed_some long places old new [] straight = record { body = []; is = refl; len = refl }
 closed_some long places old new ((Plain byte) ∷ cells) straight =
     let rest = closed_some long places (old + 1) (new + 1) cells straight in
-    (byte ∷ rest.0, ap (with_some (λ xs. byte ∷ xs)) rest.1)
+    record { body = byte ∷ rest.body; is = ap (with_some (λ xs. byte ∷ xs)) rest.is; len = omega (arith, rest.len) }
 closed_some long places old new ((Of (Marks label)) ∷ cells) straight = absurd (omega arith)
 closed_some long places old new ((Of (Branches branch)) ∷ cells) straight = absurd (omega arith)
 closed_some long places old new ((Of (Jumps label)) ∷ cells) straight = absurd (omega arith)
 closed_some long places old new ((Of (Refers reference)) ∷ cells) straight =
     let rest = closed_some long places (old + 2) (new + 2) cells straight in
-    ((0 ∷ 0 ∷ []) ++ rest.0, ap (with_some (λ xs. (0 ∷ 0 ∷ []) ++ xs)) rest.1)
+    record { body = 0 ∷ 0 ∷ rest.body; is = ap (with_some (λ xs. (0 ∷ 0 ∷ []) ++ xs)) rest.is; len = omega (arith, rest.len) }
+
+-- so what they are closed to is looked at for the limits alone
+pub straight_fault : (start : ℕ) (kind : RoutineKind) (contents : Contents) (limits : Limits) (refs : Holes) → label_count contents.cells ≡ 0
+    → fault_of start kind contents limits refs ≡ end_fault contents.is_final limits (start + 1 + length (long_bytes contents.cells)) refs (hole_count contents.cells)
+straight_fault start kind contents limits refs straight =
+    let cells = contents.cells in
+    let long = long_places start contents in
+    let closed = closed_some long (places start contents) (start + 1) (start + 1) cells straight in
+    let full = full_fault start kind contents limits refs in
+    let far = body_fault full (body_bytes start contents) in
+    ap (missing_fault (twice_fault far (twice_behind [] cells))) (missing_none long cells straight)
+    ∙ ap (twice_fault far) (twice_none [] cells straight) ∙ ap (body_fault full) closed.is
+    ∙ ap (λ n. end_fault contents.is_final limits (start + 1 + n) refs (hole_count cells)) closed.len
 
 -- so only room can lack
 room_of_end : (code refs : Bool) (refused : CloseFault) → cond code (Some (close_fault.Full Code)) (cond refs (Some (close_fault.Full Refs)) None) ≡ Some refused → IsTrue (is_of_room refused)
@@ -59,15 +78,7 @@ room_of_end false false refused e = cc
 
 room_of_fault : (start : ℕ) (kind : RoutineKind) (contents : Contents) (limits : Limits) (refs : Holes) (refused : CloseFault) → label_count contents.cells ≡ 0 → fault_of start kind contents limits refs ≡ Some refused → IsTrue (is_of_room refused)
 room_of_fault start kind contents limits refs refused straight is =
-    let cells = contents.cells in
-    let long = long_places start contents in
-    let body = closed_some long (places start contents) (start + 1) (start + 1) cells straight in
-    let full = full_fault start kind contents limits refs in
-    let far = body_fault full (body_bytes start contents) in
-    let end : fault_of start kind contents limits refs ≡ full body.0 =
-    ap (missing_fault (twice_fault far (twice_behind [] cells))) (missing_none long cells straight)
-    ∙ ap (twice_fault far) (twice_none [] cells straight) ∙ ap (body_fault full) body.1 in
-    room_of_end _ _ refused (sym end ∙ is)
+    room_of_end _ _ refused (sym (straight_fault start kind contents limits refs straight) ∙ is)
 
 pub room_lacks : (start : ℕ) (kind : RoutineKind) (contents : Contents) (limits : Limits) (refs : Holes) (refused : CloseFault) → label_count contents.cells ≡ 0
     → (refused ≡ close_fault.Memory) ⊎ (fault_of start kind contents limits refs ≡ Some refused) → IsTrue (is_of_room refused)

@@ -1,17 +1,22 @@
 -- The code of a story: finished routines, as bytes and the numbers that are known later, and the routine that is open.
-use Rattle.std.specs.Prelude.{◌≡◌, ℕ, ◌+◌, ◌-◌, ◌%◌, ◌≤◌, Bool, true, false, List, [], ◌∷◌, ◌++◌, length, map, take, drop, slice_get, Option, Some, None}
+use Rattle.std.specs.Prelude.{◌≡◌, ℕ, ◌+◌, ◌-◌, ◌%◌, ◌≤◌, Bool, true, false, nat_lt, if◌then◌else◌, List, [], ◌∷◌, ◌++◌, length, map, take, drop, slice_get, Option, Some, None}
 use Rattle.std.specs.List.{flat_map}
 use Rattle.std.specs.Option.{unwrap_or}
 use Rattle.inf_area.specs.declared.references.Hole.{Hole}
 use Rattle.inf_area.specs.declared.references.Reference.{Reference}
+use Rattle.inf_area.specs.Holes.{Holes}
 use Rattle.inf_area.specs.Words.{word}
-use Rattle.inf_opcode.specs.Cells.{label_count}
+use Rattle.inf_opcode.specs.Cells.{Cell, long_bytes, label_count, hole_count}
 use Rattle.inf_opcode.specs.Instructions.{Parts, instruction_cells}
 use Rattle.inf_opcode.specs.Opcodes.{row_of}
 use Rattle.inf_assembler.specs.declared.routines.CloseFault.{CloseFault}
 use Rattle.inf_assembler.specs.declared.routines.CloseFault.TheVariants as close_fault
+use Rattle.inf_assembler.specs.declared.routines.Limits.{Limits}
 use Rattle.inf_assembler.specs.declared.routines.RoutineKind.{RoutineKind}
-use Rattle.inf_assembler.specs.Routines.{State, Contents, IsOpen, contents_of, with_cells, body_bytes, closing, routine_holes}
+use Rattle.inf_assembler.specs.declared.routines.Setting.{Setting}
+use Rattle.inf_assembler.specs.declared.routines.Setting.TheVariants as setting
+use Rattle.inf_assembler.specs.Routines.{State, Contents, IsOpen, contents_of, with_cells, body_bytes, closing, routine_holes, is_full}
+use Rattle.inf_layout.specs.declared.code.CodeLimits.{CodeLimits}
 
 -- a byte, or the two bytes that a reference's number takes
 pub data CodeCell : Type 0 where
@@ -76,10 +81,15 @@ cells_with place kind contents (Some body) = cells_from place (routine_holes pla
 abbrev pub routine_cells : ℕ → RoutineKind → Contents → List CodeCell
 routine_cells place kind contents = cells_with place kind contents (body_bytes place contents)
 
--- the routines of a story: the finished ones, and the one that is open, if any
+-- the routines of a story: what they may hold, the finished ones, and the one that is open, if any
 pub record Routines : Type 0 where
+  pub limits : CodeLimits
   pub finished : List CodeCell
   pub opened : Option Contents
+
+-- none, under these limits
+abbrev pub no_routines : CodeLimits → Routines
+no_routines limits = record { limits = limits; finished = []; opened = None }
 
 -- an instruction more in a routine, and in the one that is open
 abbrev pub with_instruction : Parts → Contents → Contents
@@ -97,7 +107,7 @@ closed_cells kind place (Some contents) = padded (routine_cells place kind conte
 -- the routines after the open one is closed
 abbrev pub with_closed : RoutineKind → Routines → Routines
 with_closed kind routines =
-    record { finished = routines.finished ++ closed_cells kind (size routines.finished) routines.opened; opened = None }
+    record routines { finished = routines.finished ++ closed_cells kind (size routines.finished) routines.opened; opened = None }
 
 -- the routines after the open one is given up
 abbrev pub with_none_open : Routines → Routines
@@ -108,21 +118,65 @@ abbrev pub open_in : List ℕ → Option State → Option Contents
 open_in bytes None = None
 open_in bytes (Some routine) = Some (contents_of routine bytes)
 
+-- the references of cells
+abbrev pub awaited : List CodeCell → ℕ
+awaited [] = 0
+awaited ((Known byte) ∷ cells) = awaited cells
+awaited ((Awaited reference) ∷ cells) = 1 + awaited cells
+
+-- the bytes of finished routines and of an open one behind them, with every branch long, and their references
+abbrev pub bytes_with : List CodeCell → Contents → ℕ
+bytes_with finished contents = size finished + 1 + length (long_bytes contents.cells)
+
+abbrev pub references_with : List CodeCell → Contents → ℕ
+references_with finished contents = awaited finished + hole_count contents.cells
+
+-- the limit that another routine, which begins with the number of its locals, would pass
+abbrev pub full_opened : Routines → Option Setting
+full_opened routines = if nat_lt routines.limits.code (size routines.finished + 1) then Some setting.Code else None
+
+-- The first limit that more cells in the open routine would pass: that of its labels, branches and jumps, of all bytes, and of all references.
+abbrev pub full_behind : CodeLimits → List CodeCell → List Cell → Option Contents → Option Setting
+full_behind limits finished cells None = None
+full_behind limits finished cells (Some contents) =
+    if nat_lt limits.labels (label_count contents.cells + label_count cells) then Some setting.Labels else
+    if nat_lt limits.code (bytes_with finished contents + length (long_bytes cells)) then Some setting.Code else
+    if nat_lt limits.refs (references_with finished contents + hole_count cells) then Some setting.Refs else None
+
+abbrev pub full_with : Parts → Routines → Option Setting
+full_with parts routines = full_behind routines.limits routines.finished (instruction_cells parts) routines.opened
+
+-- the first limit that the open routine would pass with what returns at its end, or all references would
+abbrev pub full_end : CodeLimits → List CodeCell → Option Contents → Option Setting
+full_end limits finished None = None
+full_end limits finished (Some contents) =
+    if is_full contents.is_final limits.code (bytes_with finished contents) then Some setting.Code else
+    if nat_lt limits.refs (references_with finished contents) then Some setting.Refs else None
+
+abbrev pub full_closed : Routines → Option Setting
+full_closed routines = full_end routines.limits routines.finished routines.opened
+
+-- the limits of each routine
+abbrev pub routine_limits : CodeLimits → Limits
+routine_limits limits = record { labels = limits.labels; code = limits.code }
+
 -- that an open routine stands behind so many bytes, up to the end of the area, and has no label, branch or jump
-pub record StandsBehind (place : ℕ) (bytes : List ℕ) (routine : State) : Type 0 where
+pub record StandsBehind (most : CodeLimits) (place : ℕ) (bytes : List ℕ) (routine : State) : Type 0 where
   pub start : routine.start ≡ place
   pub open_still : IsOpen routine bytes
   pub straight : label_count (contents_of routine bytes).cells ≡ 0
+  pub limits : routine.limits ≡ routine_limits most
 
-abbrev pub IsBehind : ℕ → List ℕ → Option State → Type 0
-IsBehind place bytes None = Unit {0}
-IsBehind place bytes (Some routine) = StandsBehind place bytes routine
+abbrev pub IsBehind : CodeLimits → ℕ → List ℕ → Option State → Type 0
+IsBehind limits place bytes None = Unit {0}
+IsBehind limits place bytes (Some routine) = StandsBehind limits place bytes routine
 
 -- what code is: finished routines of so many bytes, holes in them, and an open routine
-pub record IsCode (finished : ℕ) (holes : List Hole) (bytes : List ℕ) (routine : Option State) : Type 0 where
+pub record IsCode (limits : CodeLimits) (finished : ℕ) (refs : Holes) (bytes : List ℕ) (routine : Option State) : Type 0 where
   pub within : finished ≤ length bytes
-  pub in_order : AreInOrder 0 holes finished
-  pub behind : IsBehind finished bytes routine
+  pub in_order : AreInOrder 0 refs.list finished
+  pub limit : refs.limit ≡ limits.refs
+  pub behind : IsBehind limits finished bytes routine
 
 -- whether a routine that has no label, branch or jump may be refused so: for want of room
 abbrev pub is_of_room : CloseFault → Bool

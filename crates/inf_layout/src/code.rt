@@ -1,13 +1,13 @@
 //! The code of a story: its finished routines, and the one that is open.
-ghost use Rattle.std.specs.Prelude.{◌≡◌, ◌≤◌, [], None, Some, IsTrue, OnOk, OnErr, length, take};
+ghost use Rattle.std.specs.Prelude.{◌≡◌, ◌≤◌, ◌⊎◌, None, Some, IsTrue, MatchResult, OnOk, OnErr, length, take};
 ghost use Rattle.inf_opcode.specs.Cells.{label_count};
 ghost use Rattle.inf_opcode.specs.Instructions.{IsProper, instruction_cells};
 ghost use Rattle.inf_opcode.specs.PartsOf.{parts_of};
 ghost use Rattle.inf_assembler.specs.declared.routines.Setting.{Setting};
 ghost use Rattle.inf_assembler.specs.declared.routines.CloseFault.TheVariants as close_fault;
 ghost use Rattle.inf_assembler.specs.declared.routines.GrowFault.TheVariants as grow_fault;
-ghost use Rattle.inf_assembler.specs.Routines.{fresh};
-ghost use Rattle.inf_layout.specs.Code.{size, number_in, code_bytes, with_item, with_closed, with_none_open, is_of_room};
+ghost use Rattle.inf_assembler.specs.Routines.{fresh, refusal};
+ghost use Rattle.inf_layout.specs.Code.{size, number_in, code_bytes, with_item, with_closed, with_none_open, full_opened, full_with, full_closed, is_of_room};
 
 use inf_area::{Area, FlatArea, Reference, Refs};
 use inf_assembler::{CloseFault, GrowFault, Limits, Routine, RoutineKind};
@@ -15,16 +15,22 @@ use inf_opcode::Instruction;
 use std::alloc::Global;
 use std::marker::Model;
 
-/// No bounds but those of a count.
-const NO_LIMITS: Limits = Limits {
-    labels: usize::MAX,
-    code: usize::MAX,
-};
+/// What code may hold.
+#[derive(Clone, Copy, Debug, PartialEq, Eq)]
+pub struct CodeLimits {
+    /// The most labels, branches and jumps of a routine.
+    pub labels: usize,
+    /// The most bytes of the finished routines and the open one, with every branch long.
+    pub code: usize,
+    /// The most references whose numbers are known later.
+    pub refs: usize,
+}
 
 /// The routines of a story: the bytes of the finished ones, with zeros in place of each number that
 /// is known later, and the holes where these go; and behind them the routine that is open, if any.
 #[derive(Debug, Drop)]
 pub struct Code {
+    limits: CodeLimits,
     area: FlatArea,
     refs: Refs,
     // How many bytes the finished routines have.
@@ -39,21 +45,22 @@ impl Model for Code {
 
     ghost Value = { Routines };
 
-    ghost view = { λ code. record { finished = cells_from 0 code.refs.list (take code.finished code.area); opened = open_in code.area code.routine } };
+    ghost view = { λ code. record { limits = code.limits; finished = cells_from 0 code.refs.list (take code.finished code.area); opened = open_in code.area code.routine } };
 
-    ghost invariant = { λ code. IsCode code.finished code.refs.list code.area code.routine };
+    ghost invariant = { λ code. IsCode code.limits code.finished code.refs code.area code.routine };
 }
 
 impl Code {
-    ghost use Rattle.inf_layout.specs.Code.{Routines};
+    ghost use Rattle.inf_layout.specs.Code.{Routines, no_routines};
 
-    /// No code. It takes no memory until the first routine is opened.
-    pub fn new(alloc: Global) -> Code
-        ensures { result ≡ record { finished = []; opened = None } }
+    /// No code, which may hold so much. It takes no memory until the first routine is opened.
+    pub fn new(alloc: Global, limits: CodeLimits) -> Code
+        ensures { result ≡ no_routines limits }
     {
         Code {
+            limits,
             area: FlatArea::new(alloc),
-            refs: Refs::new(alloc, usize::MAX),
+            refs: Refs::new(alloc, limits.refs),
             finished: 0,
             routine: None,
         }
@@ -68,27 +75,38 @@ impl Code {
 
     /// Opens a routine of so many locals, at most 15. One that is open is given up.
     ///
-    /// Where it is refused, none is open.
+    /// Where it is refused, none is open. It is refused where the number of locals would pass the limit of
+    /// bytes, and else only for want of memory.
     pub fn open(&mut self, alloc: Global, locals: u8) -> Result<(), GrowFault>
         requires { locals ≤ 15 }
         ensures ok { OnOk result (self.new ≡ record self.old { opened = Some (fresh locals) }) }
         ensures err { OnErr result (self.new ≡ with_none_open self.old) }
+        ensures fault { let full = full_opened self.old in
+            MatchResult result (λ _. full ≡ None) (λ fault. fault ≡ refusal full) }
     {
         self.routine = None;
         cut_back(&mut self.area, self.finished);
-        let routine = Routine::open(alloc, &mut self.area, locals, NO_LIMITS)?;
+        let limits = Limits {
+            labels: self.limits.labels,
+            code: self.limits.code,
+        };
+        let routine = Routine::open(alloc, &mut self.area, locals, limits)?;
         self.routine = Some(routine);
         Ok(())
     }
 
-    /// Adds an instruction without a branch or jump to the open routine, if there is one. Where it is
-    /// refused the routine is as it was.
+    /// Adds an instruction without a branch or jump to the open routine, if there is one.
+    ///
+    /// Where it is refused the routine is as it was. It is refused where it would pass a limit, of several the
+    /// first of labels, bytes and references, and else only for want of memory.
     pub fn emit(&mut self, instruction: &Instruction) -> Result<(), GrowFault>
         requires proper { IsProper (parts_of instruction.now) }
         requires straight { label_count (instruction_cells (parts_of instruction.now)) ≡ 0 }
         ensures ok { let opened = with_item (parts_of instruction.now) self.old.opened in
             OnOk result (self.new ≡ record self.old { opened = opened }) }
         ensures err { OnErr result (self.new ≡ self.old) }
+        ensures fault { let full = full_with (parts_of instruction.now) self.old in
+            MatchResult result (λ _. full ≡ None) (λ fault. fault ≡ refusal full) }
     {
         let Some(routine) = &mut self.routine else {
             return Ok(());
@@ -99,10 +117,14 @@ impl Code {
     /// Closes the open routine, if there is one: it is the last of the finished ones, filled up with
     /// zeros to a multiple of 4.
     ///
-    /// Where it is refused the finished routines are as they were, and the open one is given up.
+    /// Where it is refused the finished routines are as they were, and the open one is given up. It is
+    /// refused where what returns at its end would pass the limit of bytes, or all references theirs, and else
+    /// only for want of memory.
     pub fn close(&mut self, kind: RoutineKind) -> Result<(), GrowFault>
         ensures ok { OnOk result (self.new ≡ with_closed kind self.old) }
         ensures err { OnErr result (self.new ≡ with_none_open self.old) }
+        ensures fault { let full = full_closed self.old in
+            MatchResult result (λ _. full ≡ None) (λ fault. (fault ≡ grow_fault.Memory) ⊎ (fault ≡ refusal full)) }
     {
         let Some(routine) = self.routine.take() else {
             return Ok(());

@@ -10,7 +10,8 @@ use Rattle.inf_token.specs.Spelling.{Spelled}
 use Rattle.inf_symbol.specs.Messages.{Blame, Reported, nothing_reported, with_error, with_fault}
 use Rattle.inf_symbol.specs.Names.{Named, folded}
 use Rattle.inf_symbol.specs.Locals.{Local, Headed, with_all_named, with_locals, no_locals, with_all_unused}
-use Rattle.inf_layout.specs.Code.{Routines, size, with_item, with_closed, with_none_open}
+use Rattle.inf_layout.specs.declared.code.CodeLimits.{CodeLimits}
+use Rattle.inf_layout.specs.Code.{Routines, no_routines, size, with_item, with_closed, with_none_open}
 use Rattle.inf_grammar.specs.declared.actions.Action.{Action}
 use Rattle.inf_grammar.specs.declared.actions.Action.TheVariants as action
 use Rattle.inf_unit.specs.Statements.{Unit, statement_of}
@@ -32,8 +33,12 @@ pub record Output : Type 0 where
   pub code : Routines
   pub is_lost : Bool
 
+-- no bounds but those of a count
+abbrev pub no_limits : CodeLimits
+no_limits = record { labels = 18446744073709551615; code = 18446744073709551615; refs = 18446744073709551615 }
+
 abbrev pub no_output : Output
-no_output = record { code = record { finished = []; opened = None }; is_lost = false }
+no_output = record { code = no_routines no_limits; is_lost = false }
 
 -- What was compiled so far: the parts of the unit at hand, the locals of the open routine, the names of the source, the code, and
 -- the messages.

@@ -9,10 +9,17 @@ ghost use Rattle.inf_unit.specs.Units.{printing};
 
 use crate::instructions::printing;
 use inf_assembler::{GrowFault, RoutineKind, Setting};
-use inf_layout::code::Code;
+use inf_layout::code::{Code, CodeLimits};
 use inf_opcode::{Instruction, Opcode};
 use inf_text::{Text, pack};
 use std::alloc::{AllocError, Global};
+
+/// No bounds but those of a count.
+const NO_LIMITS: CodeLimits = CodeLimits {
+    labels: usize::MAX,
+    code: usize::MAX,
+    refs: usize::MAX,
+};
 
 /// The finished routines, and the open one.
 #[derive(Drop)]
@@ -28,7 +35,7 @@ impl Output {
         ensures { output result ≡ no_output }
     {
         Output {
-            code: Code::new(alloc),
+            code: Code::new(alloc, NO_LIMITS),
             is_lost: false,
         }
     }

@@ -11,7 +11,7 @@ loop-hole-init c =
     let inside = c.self.inside in
     let area = take inside.finished inside.area in
     let holes = inside.refs.list in
-    let order = order_finished inside.finished holes inside.area inside.routine c.self.invariant in
+    let order = order_finished inside.limits inside.finished inside.refs inside.area inside.routine c.self.invariant in
     let listed = c.as_slice-hole-items.ensures in
     let cut = c.cut_back.ensures in
     record {

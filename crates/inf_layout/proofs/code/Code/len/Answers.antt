@@ -7,4 +7,4 @@ use Rattle.inf_layout.proofs.code.Code.len.Goals as goal
 pub returns : goal.returns
 returns c =
     let inside = c.self.inside in
-    sym (size_finished inside.finished inside.refs.list inside.area inside.routine c.self.invariant) ∙ ap (λ (r : Routines). size r.finished) c.self.view_is
+    sym (size_finished inside.limits inside.finished inside.refs inside.area inside.routine c.self.invariant) ∙ ap (λ (r : Routines). size r.finished) c.self.view_is

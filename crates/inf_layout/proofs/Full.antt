@@ -1,0 +1,115 @@
+-- Which limit is passed: the first that the assembler finds of its area is the first of the routines.
+use Rattle.std.specs.Prelude.{Result, MatchResult, nat_lt}
+use Rattle.std.proofs.Common.{◌≡◌, ◌⊎◌, inl, inr, ℕ, ◌+◌, ◌-◌, Bool, true, false, cond, List, [], ◌∷◌, ◌++◌, length, take, drop, Option, Some, None, refl, sym, ◌∙◌, ap, subst, arith, length-append}
+use Rattle.inf_area.specs.declared.references.Hole.{Hole}
+use Rattle.inf_area.specs.Holes.{Holes}
+use Rattle.inf_opcode.specs.Cells.{Cell, long_bytes, label_count, hole_count}
+use Rattle.inf_assembler.specs.declared.routines.CloseFault.{CloseFault}
+use Rattle.inf_assembler.specs.declared.routines.CloseFault.TheVariants as close_fault
+use Rattle.inf_assembler.specs.declared.routines.GrowFault.{GrowFault}
+use Rattle.inf_assembler.specs.declared.routines.GrowFault.TheVariants as grow_fault
+use Rattle.inf_assembler.specs.declared.routines.Limits.{Limits}
+use Rattle.inf_assembler.specs.declared.routines.RoutineKind.{RoutineKind}
+use Rattle.inf_assembler.specs.declared.routines.Setting.{Setting}
+use Rattle.inf_assembler.specs.declared.routines.Setting.TheVariants as setting
+use Rattle.inf_assembler.specs.Routines.{State, Contents, contents_of, full_with, refusal, is_full, fault_of}
+use Rattle.inf_layout.specs.declared.code.CodeLimits.{CodeLimits}
+use Rattle.inf_layout.specs.Code.{CodeCell, Known, Awaited, known, size, IsCode, awaited, bytes_with, references_with, full_behind, full_end, cells_from}
+use Rattle.inf_layout.proofs.CodeSteps.{size_finished, length_finished}
+use Rattle.inf_layout.proofs.Straight.{straight_fault}
+
+-- each hole is a reference that is awaited
+awaited-append : (cells others : List CodeCell) → awaited (cells ++ others) ≡ awaited cells + awaited others
+awaited-append [] others = omega arith
+awaited-append ((Known byte) ∷ cells) others = awaited-append cells others
+awaited-append ((Awaited reference) ∷ cells) others = omega (arith, awaited-append cells others)
+
+awaited-known : (bytes : List ℕ) → awaited (known bytes) ≡ 0
+awaited-known [] = refl
+awaited-known (byte ∷ bytes) = awaited-known bytes
+
+awaited-cells_from : (place : ℕ) (holes : List Hole) (bytes : List ℕ) → awaited (cells_from place holes bytes) ≡ length holes
+awaited-cells_from place [] bytes = awaited-known bytes
+awaited-cells_from place (hole ∷ holes) bytes =
+    let front = take (hole.place - place) bytes in
+    let rest = cells_from (hole.place + 2) holes (drop (hole.place + 2 - place) bytes) in
+    omega (arith, awaited-append (known front) (Awaited hole.reference ∷ rest), awaited-known front, awaited-cells_from (hole.place + 2) holes (drop (hole.place + 2 - place) bytes))
+
+-- the first of three limits, and of two, of which some are passed
+abbrev of_three : Bool → Bool → Bool → Option Setting
+of_three labels code refs = cond labels (Some setting.Labels) (cond code (Some setting.Code) (cond refs (Some setting.Refs) None))
+
+abbrev of_two : Bool → Bool → Option Setting
+of_two code refs = cond code (Some setting.Code) (cond refs (Some setting.Refs) None)
+
+abbrev faults : Bool → Bool → Option CloseFault
+faults code refs = cond code (Some (close_fault.Full setting.Code)) (cond refs (Some (close_fault.Full setting.Refs)) None)
+
+-- another routine
+pub full_cut : (limits : CodeLimits) (finished : ℕ) (refs : Holes) (bytes : List ℕ) (routine : Option State) → IsCode limits finished refs bytes routine → (cut : List ℕ) → cut ≡ take finished bytes
+    → cond (nat_lt limits.code (length cut + 1)) (Some setting.Code) None ≡ cond (nat_lt limits.code (size (cells_from 0 refs.list (take finished bytes)) + 1)) (Some setting.Code) None
+full_cut limits finished refs bytes routine is cut at =
+    let before = cells_from 0 refs.list (take finished bytes) in
+    let len : length cut ≡ size before = ap length at ∙ length_finished limits finished refs bytes routine is ∙ sym (size_finished limits finished refs bytes routine is) in
+    ap (λ n. cond (nat_lt limits.code (n + 1)) (Some setting.Code) None) len
+
+-- more in the open routine, and its end
+module _ (limits : CodeLimits) (finished : ℕ) (refs : Holes) (bytes : List ℕ) (routine : State) (is : IsCode limits finished refs bytes (Some routine)) where
+  abbrev before : List CodeCell
+  before = cells_from 0 refs.list (take finished bytes)
+
+  abbrev contents : Contents
+  contents = contents_of routine bytes
+
+  start_is : routine.start ≡ size before
+  start_is = is.behind.start ∙ sym (size_finished limits finished refs bytes (Some routine) is)
+
+  refs_are : length refs.list ≡ awaited before
+  refs_are = sym (awaited-cells_from 0 refs.list (take finished bytes))
+
+  pub full_is : (cells : List Cell) → full_with cells routine bytes refs ≡ full_behind limits (cells_from 0 refs.list (take finished bytes)) cells (Some (contents_of routine bytes))
+  full_is cells =
+      let stands = is.behind.open_still in
+      let front = take routine.start bytes in
+      let long = length (long_bytes cells) in
+      let holes = hole_count cells in
+      let len : length bytes ≡ bytes_with before contents =
+      omega (arith, ap length stands.bytes, length-append front (contents.locals ∷ long_bytes contents.cells), stands.start, start_is) in
+      let referred : length refs.list + routine.holes ≡ references_with before contents = omega (arith, refs_are, stands.holes) in
+      ap (λ (l : Limits). of_three (nat_lt l.labels (routine.labels + label_count cells)) (nat_lt l.code (length bytes + long)) (nat_lt refs.limit (length refs.list + routine.holes + holes))) is.behind.limits
+      ∙ ap (λ n. of_three (nat_lt limits.labels (n + label_count cells)) (nat_lt limits.code (length bytes + long)) (nat_lt refs.limit (length refs.list + routine.holes + holes))) stands.labels
+      ∙ ap (λ n. of_three (nat_lt limits.labels (label_count contents.cells + label_count cells)) (nat_lt limits.code (n + long)) (nat_lt refs.limit (length refs.list + routine.holes + holes))) len
+      ∙ ap (λ n. of_three (nat_lt limits.labels (label_count contents.cells + label_count cells)) (nat_lt limits.code (bytes_with before contents + long)) (nat_lt n (length refs.list + routine.holes + holes))) is.limit
+      ∙ ap (λ n. of_three (nat_lt limits.labels (label_count contents.cells + label_count cells)) (nat_lt limits.code (bytes_with before contents + long)) (nat_lt limits.refs (n + holes))) referred
+
+  end_is : (kind : RoutineKind) → fault_of routine.start kind contents routine.limits refs ≡ faults (is_full contents.is_final limits.code (bytes_with before contents)) (nat_lt limits.refs (references_with before contents))
+  end_is kind =
+      let long = length (long_bytes contents.cells) in
+      let holes = hole_count contents.cells in
+      let final = contents.is_final in
+      straight_fault routine.start kind contents routine.limits refs is.behind.straight
+      ∙ ap (λ (l : Limits). faults (is_full final l.code (routine.start + 1 + long)) (nat_lt refs.limit (length refs.list + holes))) is.behind.limits
+      ∙ ap (λ n. faults (is_full final limits.code (n + 1 + long)) (nat_lt refs.limit (length refs.list + holes))) start_is
+      ∙ ap (λ n. faults (is_full final limits.code (bytes_with before contents)) (nat_lt n (length refs.list + holes))) is.limit
+      ∙ ap (λ n. faults (is_full final limits.code (bytes_with before contents)) (nat_lt limits.refs (n + holes))) refs_are
+
+  pub none_full : (kind : RoutineKind) → fault_of routine.start kind (contents_of routine bytes) routine.limits refs ≡ None
+      → full_end limits (cells_from 0 refs.list (take finished bytes)) (Some (contents_of routine bytes)) ≡ None
+  none_full kind e = none_of (is_full contents.is_final limits.code (bytes_with before contents)) (nat_lt limits.refs (references_with before contents)) (sym (end_is kind) ∙ e)
+    where
+      none_of : (code refs : Bool) → faults code refs ≡ None → of_two code refs ≡ None
+      none_of true refs e = cc
+      none_of false true e = cc
+      none_of false false e = refl
+
+  pub some_full : (kind : RoutineKind) (refused : CloseFault) (fault : GrowFault) → (refused ≡ close_fault.Memory) ⊎ (fault_of routine.start kind (contents_of routine bytes) routine.limits refs ≡ Some refused)
+      → ((s : Setting) → refused ≡ close_fault.Full s → fault ≡ grow_fault.Full s) → (refused ≡ close_fault.Memory → fault ≡ grow_fault.Memory)
+      → (fault ≡ grow_fault.Memory) ⊎ (fault ≡ refusal (full_end limits (cells_from 0 refs.list (take finished bytes)) (Some (contents_of routine bytes))))
+  some_full kind refused fault (inl memory) told want = inl (want memory)
+  some_full kind refused fault (inr e) told want =
+      inr (one_of (is_full contents.is_final limits.code (bytes_with before contents)) (nat_lt limits.refs (references_with before contents)) (sym (end_is kind) ∙ e))
+    where
+      one_of : (code refs : Bool) → faults code refs ≡ Some refused → fault ≡ refusal (of_two code refs)
+      one_of true refs e = let same : refused ≡ close_fault.Full setting.Code = cc in told setting.Code same
+      one_of false true e = let same : refused ≡ close_fault.Full setting.Refs = cc in told setting.Refs same
+      one_of false false e = cc
