@@ -1,8 +1,8 @@
 //! Nested files and their names.
-ghost use Rattle.std.specs.Prelude.{◌<◌, OnOk};
+ghost use Rattle.std.specs.Prelude.{◌≡◌, ◌<◌, OnOk};
 
 use crate::readers::{Metered, Spaces, folder};
-use inf_lexer::{EnterFault, Stack, TokenKind};
+use inf_lexer::{EnterFault, Lexer, Place, Stack, TokenKind};
 use inf_text::CharSet;
 use inf_token::files::Files;
 use inf_token::memory_files::MemoryFiles;
@@ -107,6 +107,73 @@ fn assert_refused(
 fn an_inclusion_is_refused(rt: HostRuntime) -> Result<(), Fail> {
     for (directories, text, fault) in REFUSED {
         assert_refused(&rt, rt.alloc(), directories, text, fault)?;
+    }
+    Ok(())
+}
+
+/// Asserts that the next token is a name, with its place and its bytes.
+fn assert_next<F: Files>(
+    rt: &impl Abort,
+    files: &mut F,
+    lexer: &mut Lexer,
+    place: Place,
+    name: &[u8],
+) -> Result<(), Fail>
+    requires { 0 < F.depth files.old }
+    ensures { F.depth files.new ≡ F.depth files.old }
+{
+    let token = lexer.next(files)?;
+    assert!(rt; token.kind == TokenKind::Name, "{name:?}");
+    assert!(rt; token.place == place, "{name:?}");
+    assert!(rt; lexer.spelling() == name, "{name:?}");
+    Ok(())
+}
+
+/// Asserts what an inclusion of `y.h` gives, up to its end, and leaves it.
+fn assert_included<F: Files>(rt: &impl Abort, stack: &mut Stack, files: &mut F) -> Result<(), Fail>
+    requires { 0 < F.depth files.old }
+    ensures { OnOk result (F.depth files.new ≡ F.depth files.old) }
+{
+    let mut inner = stack.enter(files, &[], b"y")?;
+    assert_next(rt, files, &mut inner, Place { file: 1, line: 1 }, b"v")?;
+    assert_next(rt, files, &mut inner, Place { file: 1, line: 3 }, b"w")?;
+    assert!(rt; inner.next(files)?.kind == TokenKind::End);
+    stack.leave(files);
+    Ok(())
+}
+
+/// Asserts what an inclusion of `y.h` gives first, and leaves it in its midst.
+fn assert_begun<F: Files>(rt: &impl Abort, stack: &mut Stack, files: &mut F) -> Result<(), Fail>
+    requires { 0 < F.depth files.old }
+    ensures { OnOk result (F.depth files.new ≡ F.depth files.old) }
+{
+    let mut inner = stack.enter(files, &[], b"y")?;
+    assert_next(rt, files, &mut inner, Place { file: 1, line: 1 }, b"v")?;
+    stack.leave(files);
+    Ok(())
+}
+
+/// Asserts that a file goes on where it stood behind two inclusions, of which the second is left in its midst.
+fn assert_goes_on(rt: &impl Abort, alloc: Global, mut files: Metered) -> Result<(), Fail> {
+    let mut stack = Stack::new(alloc, CharSet::Latin1, 4000);
+    let mut outer = stack.enter_main(&mut files, "t.inf")?;
+    assert_next(rt, &mut files, &mut outer, Place { file: 0, line: 1 }, b"a")?;
+    assert_included(rt, &mut stack, &mut files)?;
+    assert_next(rt, &mut files, &mut outer, Place { file: 0, line: 2 }, b"b")?;
+    assert_begun(rt, &mut stack, &mut files)?;
+    assert_next(rt, &mut files, &mut outer, Place { file: 0, line: 3 }, b"c")?;
+    assert!(rt; outer.next(&mut files)?.kind == TokenKind::End);
+    assert_eq!(rt; files.opened, 3);
+    Ok(())
+}
+
+#[test]
+fn a_file_goes_on_behind_its_inclusions(rt: HostRuntime) -> Result<(), Fail> {
+    for most in [1, 2, 3, 4096] {
+        let sources: [(&str, &[u8]); 2] = [("t.inf", b"a\nb\nc"), ("y.h", b"v\n\nw")];
+        let whole = folder(rt.alloc(), &sources)?;
+        let files = Metered::new(whole, most, usize::MAX);
+        assert_goes_on(&rt, rt.alloc(), files)?;
     }
     Ok(())
 }
