@@ -24,6 +24,9 @@ pub data Message : Type 0 where
   UnusedLocal : (name : List ℕ) → Message
   -- fatal errors
   TooManyErrors : Message
+  LabelsExceeded : Message
+  CodeExceeded : Message
+  RefsExceeded : Message
   StoryTooLong : Message
   NoFile : Message
 
@@ -59,11 +62,17 @@ text file TooManyLocals = codes "More than 15 locals"
 text file (UnusedLocal name) = codes "Local " ++ quoted name ++ codes " is unused"
 text file NoMain = codes "No routine \"Main\""
 text file TooManyErrors = codes "Too many errors"
+text file LabelsExceeded = codes "MAX_LABELS is exceeded"
+text file CodeExceeded = codes "MAX_CODE is exceeded"
+text file RefsExceeded = codes "MAX_REFS is exceeded"
 text file StoryTooLong = codes "Story is over 262144 bytes"
 text file NoFile = codes "No file " ++ quoted file
 
 abbrev pub is_fatal : Message → Bool
 is_fatal TooManyErrors = true
+is_fatal LabelsExceeded = true
+is_fatal CodeExceeded = true
+is_fatal RefsExceeded = true
 is_fatal StoryTooLong = true
 is_fatal NoFile = true
 is_fatal _ = false

@@ -1,5 +1,5 @@
 -- What the code's messages and its report stand for.
-use Rattle.inf_symbol.specs.Messages.{Message, Syntax, IllegalCharacter, UnclosedQuote, NumberOutOfRange, UnknownEscape, LongName, NoZscii, Declared, SystemName, WrongKind, Undeclared, TooManyArguments, TooManyLocals, UnusedLocal, NoMain, TooManyErrors, StoryTooLong, NoFile, Blame}
+use Rattle.inf_symbol.specs.Messages.{Message, Syntax, IllegalCharacter, UnclosedQuote, NumberOutOfRange, UnknownEscape, LongName, NoZscii, Declared, SystemName, WrongKind, Undeclared, TooManyArguments, TooManyLocals, UnusedLocal, NoMain, TooManyErrors, LabelsExceeded, CodeExceeded, RefsExceeded, StoryTooLong, NoFile, Blame}
 use Rattle.inf_token.specs.Tokens.{spelled}
 use Rattle.inf_symbol.specs.declared.messages.Message.{Message as CodeMessage}
 use Rattle.inf_symbol.specs.declared.messages.Message.TheVariants as code
@@ -22,6 +22,9 @@ meant code.TooManyLocals = TooManyLocals
 meant (code.UnusedLocal name) = UnusedLocal name.now
 meant code.NoMain = NoMain
 meant code.TooManyErrors = TooManyErrors
+meant code.LabelsExceeded = LabelsExceeded
+meant code.CodeExceeded = CodeExceeded
+meant code.RefsExceeded = RefsExceeded
 meant code.StoryTooLong = StoryTooLong
 meant code.NoFile = NoFile
 

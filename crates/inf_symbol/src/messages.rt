@@ -30,6 +30,12 @@ pub enum Message<'a> {
     /// A local variable that no statement names.
     UnusedLocal(&'a [u8]),
     TooManyErrors,
+    /// A routine would have more labels, branches and jumps than it may.
+    LabelsExceeded,
+    /// The code would have more bytes than it may.
+    CodeExceeded,
+    /// The code would have more references to be filled in than it may.
+    RefsExceeded,
     StoryTooLong,
     NoFile,
 }
@@ -48,6 +54,7 @@ impl Message<'_> {
     {
         match self {
             Message::TooManyErrors | Message::StoryTooLong | Message::NoFile => true,
+            Message::LabelsExceeded | Message::CodeExceeded | Message::RefsExceeded => true,
             _ => false,
         }
     }
@@ -99,6 +106,9 @@ impl Message<'_> {
             Message::UnusedLocal(name) => append_unused(out, name),
             Message::NoMain => out.extend_from_slice(b"No routine \"Main\""),
             Message::TooManyErrors => out.extend_from_slice(b"Too many errors"),
+            Message::LabelsExceeded => out.extend_from_slice(b"MAX_LABELS is exceeded"),
+            Message::CodeExceeded => out.extend_from_slice(b"MAX_CODE is exceeded"),
+            Message::RefsExceeded => out.extend_from_slice(b"MAX_REFS is exceeded"),
             Message::StoryTooLong => out.extend_from_slice(b"Story is over 262144 bytes"),
             Message::NoFile => {
                 out.extend_from_slice(b"No file ")?;

@@ -1,2 +1,3 @@
 pub mod TextWords
 pub mod Emitting
+pub mod Growing

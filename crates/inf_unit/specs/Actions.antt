@@ -5,13 +5,15 @@ use Rattle.inf_opcode.specs.declared.opcodes.Opcode.TheVariants as opcode
 use Rattle.inf_opcode.specs.declared.instructions.Operand.{Operand}
 use Rattle.inf_opcode.specs.Instructions.{Parts, bare}
 use Rattle.inf_assembler.specs.declared.routines.RoutineKind.TheVariants as routine_kind
+use Rattle.inf_assembler.specs.declared.routines.Setting.{Setting}
+use Rattle.inf_assembler.specs.declared.routines.Setting.TheVariants as setting
 use Rattle.inf_assembler.specs.Routines.{fresh}
 use Rattle.inf_token.specs.Spelling.{Spelled}
-use Rattle.inf_symbol.specs.Messages.{Blame, Reported, nothing_reported, with_error, with_fault}
+use Rattle.inf_symbol.specs.Messages.{Message, Blame, Reported, LabelsExceeded, CodeExceeded, RefsExceeded, nothing_reported, with_error, with_fault, with_fatal}
 use Rattle.inf_symbol.specs.Names.{Named, folded}
 use Rattle.inf_symbol.specs.Locals.{Local, Headed, with_all_named, with_locals, no_locals, with_all_unused}
 use Rattle.inf_layout.specs.declared.code.CodeLimits.{CodeLimits}
-use Rattle.inf_layout.specs.Code.{Routines, no_routines, size, with_item, with_closed, with_none_open}
+use Rattle.inf_layout.specs.Code.{Routines, no_routines, size, with_item, with_closed, with_none_open, full_opened, full_with, full_closed}
 use Rattle.inf_grammar.specs.declared.actions.Action.{Action}
 use Rattle.inf_grammar.specs.declared.actions.Action.TheVariants as action
 use Rattle.inf_unit.specs.Statements.{Unit, statement_of}
@@ -33,12 +35,12 @@ pub record Output : Type 0 where
   pub code : Routines
   pub is_lost : Bool
 
--- no bounds but those of a count
-abbrev pub no_limits : CodeLimits
-no_limits = record { labels = 18446744073709551615; code = 18446744073709551615; refs = 18446744073709551615 }
+-- the settings: the most labels, branches and jumps of a routine, bytes of code, and references
+abbrev pub default_limits : CodeLimits
+default_limits = record { labels = 1000; code = 262144; refs = 50000 }
 
 abbrev pub no_output : Output
-no_output = record { code = no_routines no_limits; is_lost = false }
+no_output = record { code = no_routines default_limits; is_lost = false }
 
 -- What was compiled so far: the parts of the unit at hand, the locals of the open routine, the names of the source, the code, and
 -- the messages.
@@ -66,22 +68,58 @@ with_text None g = g
 
 -- The code
 
+-- What comes of a growth: the output, and the setting that is full, if it does not grow for that.
+pub record Grown : Type 0 where
+  pub output : Output
+  pub full : Option Setting
+
+-- it becomes the first where no setting is full, else the second
+abbrev pub grown : Option Setting → Output → Output → Grown
+grown full new kept = record { output = if is_some full then kept else new; full = full }
+
+-- one growth behind another, if that comes to something
+abbrev pub behind_by : Option Setting → (Output → Grown) → Grown → Grown
+behind_by None next g = next g.output
+behind_by (Some setting) next g = g
+
+abbrev pub behind : (Output → Grown) → Grown → Grown
+behind next g = behind_by g.full next g
+
 -- one instruction more in the open routine
-abbrev pub emitted : Parts → Output → Output
-emitted item o = record o { code = record o.code { opened = with_item item o.code.opened } }
+abbrev pub emitted : Parts → Output → Grown
+emitted item o = grown (full_with item o.code) (record o { code = record o.code { opened = with_item item o.code.opened } }) o
 
 -- a routine is opened with so many locals
-abbrev pub opened : ℕ → Bool → Output → Output
-opened locals is_lost o = record { code = record o.code { opened = Some (fresh locals) }; is_lost = is_lost }
+abbrev pub opened : ℕ → Bool → Output → Grown
+opened locals is_lost o =
+    grown (full_opened o.code) (record { code = record o.code { opened = Some (fresh locals) }; is_lost = is_lost })
+    (record { code = with_none_open o.code; is_lost = is_lost })
 
 -- the open routine is finished: its code stays unless its header had an error
-abbrev pub closed : Output → Output
-closed o = record o { code = if o.is_lost then with_none_open o.code else with_closed routine_kind.Plain o.code }
+abbrev pub finished : Output → Grown
+finished o =
+    grown (full_closed o.code) (record o { code = with_closed routine_kind.Plain o.code }) (record o { code = with_none_open o.code })
+
+abbrev pub closed : Output → Grown
+closed o = if o.is_lost then record { output = record o { code = with_none_open o.code }; full = None } else finished o
 
 -- some texts are printed one after the other
-abbrev pub printed : List (List TextItem) → Output → Output
-printed [] o = o
-printed (text ∷ texts) o = printed texts (emitted (printing text) o)
+abbrev pub printed : List (List TextItem) → Output → Grown
+printed [] o = record { output = o; full = None }
+printed (text ∷ texts) o = behind (printed texts) (emitted (printing text) o)
+
+-- A setting that a unit would pass ends the compilation. It is told at this line, behind the messages of the unit.
+abbrev pub exceeded : Setting → Message
+exceeded setting.Labels = LabelsExceeded
+exceeded setting.Code = CodeExceeded
+exceeded setting.Refs = RefsExceeded
+
+abbrev pub with_full : List ℕ → ℕ → Option Setting → Reported → Reported
+with_full file line None r = r
+with_full file line (Some s) r = with_fatal file line (exceeded s) r
+
+abbrev pub checked : List ℕ → ℕ → Grown → Work → Work
+checked file line g w = record w { output = g.output; report = with_full file line g.full w.report }
 
 -- A routine
 
@@ -91,12 +129,11 @@ abbrev pub header_with : List ℕ → ℕ → Spelled → List ℕ → Headed �
 header_with file line name key h w =
     let of_name = name_fault key name w.names in
     let fault = header_fault line of_name h in
-    record w {
+    checked file line (opened (length h.locals) (is_some fault) w.output) (record w {
       names = with_name key name (size w.output.code.finished) of_name w.names;
       locals = h.locals;
-      output = opened (length h.locals) (is_some fault) w.output;
       report = with_fault file line fault w.report;
-    }
+    })
 
 -- behind its bracket a header has the name of its routine and the locals
 abbrev pub header : List ℕ → List Spelled → Work → Work
@@ -106,12 +143,12 @@ header file _ w = w
 
 -- The end of a routine, on this line: its unused locals are told.
 abbrev pub close : List ℕ → ℕ → Work → Work
-close file line w = record w { output = closed w.output; report = with_all_unused file line w.locals w.report }
+close file line w = checked file line (closed w.output) (record w { report = with_all_unused file line w.locals w.report })
 
 -- Statements, which begin on this line
 
-abbrev pub with_instruction : Parts → Work → Work
-with_instruction item w = record w { output = emitted item w.output }
+abbrev pub with_instruction : List ℕ → ℕ → Parts → Work → Work
+with_instruction file line item w = checked file line (emitted item w.output) w
 
 -- A unit names some names: a local is named then, also where the unit has an error. Without one the names are used, and the
 -- operands make an instruction.
@@ -122,11 +159,7 @@ instructed file line instruction tokens (Some b) w = record w {
 }
 instructed file line instruction tokens None w =
     let o = with_operands w.locals tokens (record { names = w.names; operands = [] }) in
-    record w {
-      locals = with_all_named tokens w.locals;
-      names = o.names;
-      output = emitted (instruction o.operands) w.output;
-    }
+    with_instruction file line (instruction o.operands) (record w { locals = with_all_named tokens w.locals; names = o.names })
 
 -- the operands of a call are what is called and its arguments
 abbrev pub call : List ℕ → ℕ → List Spelled → Work → Work
@@ -134,16 +167,16 @@ call file line [] w = w
 call file line (t ∷ arguments) w = instructed file line calling (t ∷ arguments) (call_fault line w.locals t arguments) w
 
 abbrev pub return_of : List ℕ → ℕ → List Spelled → Work → Work
-return_of file line [] w = with_instruction (bare opcode.Rtrue) w
+return_of file line [] w = with_instruction file line (bare opcode.Rtrue) w
 return_of file line (t ∷ more) w = instructed file line returning (t ∷ []) (operand_fault w.locals t) w
 
 abbrev pub finish : Statement → List ℕ → ℕ → Work → Work
-finish statement.Print file line w = record w { output = printed w.gathered.texts w.output }
+finish statement.Print file line w = checked file line (printed w.gathered.texts w.output) w
 finish statement.Return file line w = return_of file line w.gathered.operands w
-finish statement.NewLine file line w = with_instruction (bare opcode.NewLine) w
-finish statement.Quit file line w = with_instruction (bare opcode.Quit) w
-finish statement.ReturnTrue file line w = with_instruction (bare opcode.Rtrue) w
-finish statement.ReturnFalse file line w = with_instruction (bare opcode.Rfalse) w
+finish statement.NewLine file line w = with_instruction file line (bare opcode.NewLine) w
+finish statement.Quit file line w = with_instruction file line (bare opcode.Quit) w
+finish statement.ReturnTrue file line w = with_instruction file line (bare opcode.Rtrue) w
+finish statement.ReturnFalse file line w = with_instruction file line (bare opcode.Rfalse) w
 finish statement.Call file line w = call file line w.gathered.operands w
 
 -- a statement of these tokens; one of none does nothing

@@ -1,8 +1,10 @@
 //! The code that was compiled so far.
-ghost use Rattle.std.specs.Prelude.{◌≡◌, ◌≤◌, OnOk, alloc_error};
+ghost use Rattle.std.specs.Prelude.{◌≡◌, ◌≤◌, None, Some, Err, IfOk, OnErr, MatchResult};
 ghost use Rattle.inf_opcode.specs.Cells.{label_count};
 ghost use Rattle.inf_opcode.specs.Instructions.{IsProper, bare, instruction_cells};
 ghost use Rattle.inf_opcode.specs.PartsOf.{parts_of};
+ghost use Rattle.inf_assembler.specs.declared.routines.GrowFault.TheVariants as grow_fault;
+ghost use Rattle.inf_assembler.specs.declared.routines.Setting.{Setting};
 ghost use Rattle.inf_unit.specs.Actions.{no_output, opened, emitted, printed, closed};
 ghost use Rattle.inf_unit.specs.Works.{output};
 ghost use Rattle.inf_unit.specs.Units.{printing};
@@ -14,14 +16,17 @@ use inf_opcode::{Instruction, Opcode};
 use inf_text::{Text, pack};
 use std::alloc::{AllocError, Global};
 
-/// No bounds but those of a count.
-const NO_LIMITS: CodeLimits = CodeLimits {
-    labels: usize::MAX,
-    code: usize::MAX,
-    refs: usize::MAX,
+/// The settings that bound the code. No word changes them yet.
+const DEFAULT_LIMITS: CodeLimits = CodeLimits {
+    labels: 1_000,
+    code: 262_144,
+    refs: 50_000,
 };
 
 /// The finished routines, and the open one.
+///
+/// What makes it grow answers the setting that is full, if it does not grow for that: the output is
+/// then as it was, but that a routine that is not opened or finished is given up.
 #[derive(Drop)]
 pub struct Output {
     pub code: Code,
@@ -35,84 +40,94 @@ impl Output {
         ensures { output result ≡ no_output }
     {
         Output {
-            code: Code::new(alloc, NO_LIMITS),
+            code: Code::new(alloc, DEFAULT_LIMITS),
             is_lost: false,
         }
     }
 
     /// Opens a routine of so many locals, at most 15.
-    pub fn open(&mut self, alloc: Global, locals: u8, is_lost: bool) -> Result<(), AllocError>
+    pub fn open(
+        &mut self,
+        alloc: Global,
+        locals: u8,
+        is_lost: bool,
+    ) -> Result<Option<Setting>, AllocError>
         requires { locals ≤ 15 }
-        ensures { OnOk result (output self.new ≡ opened locals is_lost (output self.old)) }
+        ensures output { IfOk result (λ _. output self.new ≡ (opened locals is_lost (output self.old)).output) }
+        ensures full { IfOk result (λ full. full ≡ (opened locals is_lost (output self.old)).full) }
     {
-        if let Err(fault) = self.code.open(alloc, locals) {
-            return Err(no_memory(fault));
-        }
         self.is_lost = is_lost;
-        Ok(())
+        full_in(self.code.open(alloc, locals))
     }
 
     /// Appends an instruction without a branch or jump to the open routine, if there is one.
-    pub fn emit(&mut self, instruction: Instruction) -> Result<(), AllocError>
+    pub fn emit(&mut self, instruction: Instruction) -> Result<Option<Setting>, AllocError>
         requires proper { IsProper (parts_of instruction) }
         requires straight { label_count (instruction_cells (parts_of instruction)) ≡ 0 }
-        ensures { OnOk result (output self.new ≡ emitted (parts_of instruction) (output self.old)) }
+        ensures output { IfOk result (λ _. output self.new ≡ (emitted (parts_of instruction) (output self.old)).output) }
+        ensures full { IfOk result (λ full. full ≡ (emitted (parts_of instruction) (output self.old)).full) }
     {
-        if let Err(fault) = self.code.emit(&instruction) {
-            return Err(no_memory(fault));
-        }
-        Ok(())
+        full_in(self.code.emit(&instruction))
     }
 
     /// Appends the instruction of an opcode alone, which has no branch or jump.
-    pub fn emit_bare(&mut self, opcode: Opcode) -> Result<(), AllocError>
+    pub fn emit_bare(&mut self, opcode: Opcode) -> Result<Option<Setting>, AllocError>
         requires proper { IsProper (bare opcode) }
         requires straight { label_count (instruction_cells (bare opcode)) ≡ 0 }
-        ensures { OnOk result (output self.new ≡ emitted (bare opcode) (output self.old)) }
+        ensures output { IfOk result (λ _. output self.new ≡ (emitted (bare opcode) (output self.old)).output) }
+        ensures full { IfOk result (λ full. full ≡ (emitted (bare opcode) (output self.old)).full) }
     {
         self.emit(Instruction::bare(opcode))
     }
 
-    /// Appends the instructions that print some texts.
-    pub fn print_all(&mut self, alloc: Global, texts: &[Text]) -> Result<(), AllocError>
-        ensures { OnOk result (output self.new ≡ printed texts.now (output self.old)) }
+    /// Appends the instructions that print some texts, up to the first for which a setting is full.
+    pub fn print_all(
+        &mut self,
+        alloc: Global,
+        texts: &[Text],
+    ) -> Result<Option<Setting>, AllocError>
+        ensures output { IfOk result (λ _. output self.new ≡ (printed texts.now (output self.old)).output) }
+        ensures full { IfOk result (λ full. full ≡ (printed texts.now (output self.old)).full) }
     {
         for text in texts {
-            self.print(alloc, text)?;
+            if let Some(setting) = self.print(alloc, text)? {
+                return Ok(Some(setting));
+            }
         }
-        Ok(())
+        Ok(None)
     }
 
     /// Appends the instruction that prints a text (Z-Machine Standard 1.1, section 4.8).
-    fn print(&mut self, alloc: Global, text: &Text) -> Result<(), AllocError>
-        ensures { OnOk result (output self.new ≡ emitted (printing text.now) (output self.old)) }
+    fn print(&mut self, alloc: Global, text: &Text) -> Result<Option<Setting>, AllocError>
+        ensures output { IfOk result (λ _. output self.new ≡ (emitted (printing text.now) (output self.old)).output) }
+        ensures full { IfOk result (λ full. full ≡ (emitted (printing text.now) (output self.old)).full) }
     {
         let packed = pack(alloc, text, None)?;
         self.emit(printing(packed))
     }
 
     /// Finishes the open routine, if there is one. Its code stays unless its header had an error.
-    pub fn close(&mut self) -> Result<(), AllocError>
-        ensures { OnOk result (output self.new ≡ closed (output self.old)) }
+    pub fn close(&mut self) -> Result<Option<Setting>, AllocError>
+        ensures output { IfOk result (λ _. output self.new ≡ (closed (output self.old)).output) }
+        ensures full { IfOk result (λ full. full ≡ (closed (output self.old)).full) }
     {
         if self.is_lost {
             self.code.give_up();
-            return Ok(());
+            return Ok(None);
         }
-        if let Err(fault) = self.code.close(RoutineKind::Plain) {
-            return Err(no_memory(fault));
-        }
-        Ok(())
+        full_in(self.code.close(RoutineKind::Plain))
     }
 }
 
-/// Why code did not grow. It has no limits but those of a count, and no memory has as many bytes as
-/// would pass one.
-fn no_memory(fault: GrowFault) -> AllocError
-    ensures { result ≡ alloc_error }
+/// The setting for which code did not grow, if any. Else it grew, or no memory was left.
+fn full_in(grown: Result<(), GrowFault>) -> Result<Option<Setting>, AllocError>
+    ensures full { IfOk result (λ full. MatchResult grown (λ _. full ≡ None)
+        (λ fault. (setting : Setting) × (full ≡ Some setting) × (fault ≡ grow_fault.Full setting))) }
+    ensures memory { OnErr result (grown ≡ Err grow_fault.Memory) }
 {
-    match fault {
-        GrowFault::Memory => AllocError,
-        GrowFault::Full(Setting::Labels | Setting::Code | Setting::Refs) => AllocError,
+    match grown {
+        Ok(()) => Ok(None),
+        Err(GrowFault::Full(setting)) => Ok(Some(setting)),
+        Err(GrowFault::Memory) => Err(AllocError),
     }
 }

@@ -1,15 +1,19 @@
 //! What the actions of the grammar do: they gather the parts of a unit, which acts at its end.
 ghost use Rattle.std.specs.Prelude.{◌≡◌, IfNone, None, OnOk, map, option_map};
 ghost use Rattle.inf_token.specs.Tokens.{spelled};
-ghost use Rattle.inf_symbol.specs.Reports.{blamed};
+ghost use Rattle.inf_opcode.specs.Cells.{label_count};
+ghost use Rattle.inf_opcode.specs.Instructions.{IsProper, bare, instruction_cells};
+ghost use Rattle.inf_symbol.specs.Reports.{blamed, meant};
 ghost use Rattle.inf_symbol.specs.LocalList.{headed as as_headed};
 ghost use Rattle.inf_symbol.specs.NameMap.{named as name_list};
+ghost use Rattle.inf_unit.specs.Actions.{exceeded};
 ghost use Rattle.inf_unit.specs.Units.{header_fault};
 
 use crate::instructions::{calling, returning};
 use crate::operands::{call_fault, operand_fault, operands_of};
 use crate::output::Output;
 use crate::unit::{Statement, Unit, statement_of};
+use inf_assembler::Setting;
 use inf_grammar::Action;
 use inf_opcode::Opcode;
 use inf_symbol::locals::{Headed, Locals};
@@ -90,7 +94,7 @@ pub struct Work<'a> {
 
 impl<'a> Work<'a> {
     ghost use Rattle.inf_symbol.specs.Names.{declaration_of, folded};
-    ghost use Rattle.inf_unit.specs.Actions.{no_work, header, header_with, close, statement_end, call, return_of, act, acted};
+    ghost use Rattle.inf_unit.specs.Actions.{no_work, header, header_with, close, statement_end, call, return_of, with_instruction, with_full, checked, printed, act, acted};
     ghost use Rattle.inf_unit.specs.Works.{gathered, unit, work};
     ghost use Rattle.inf_unit.specs.Units.{name_fault};
 
@@ -192,10 +196,12 @@ impl<'a> Work<'a> {
             };
             self.names.declare(key, declaration)?;
         }
-        self.output
+        let full = self
+            .output
             .open(self.alloc, headed.locals.count(), fault.is_some())?;
         self.locals = headed.locals;
-        self.report.fault(file, line, fault)
+        self.report.fault(file, line, fault)?;
+        self.check(file, line, full)
     }
 
     /// What is wrong with declaring a name, given without case too.
@@ -222,7 +228,8 @@ impl<'a> Work<'a> {
         ensures { OnOk result (work self.new ≡ close file.now line (work self.old)) }
     {
         self.locals.tell_unused(file, line, &mut self.report)?;
-        self.output.close()
+        let full = self.output.close()?;
+        self.check(file, line, full)
     }
 
     /// A statement of these tokens ends.
@@ -233,17 +240,47 @@ impl<'a> Work<'a> {
         let Some((first, _)) = tokens.split_first() else {
             return Ok(());
         };
+        let line = first.line;
         match statement_of(*first) {
-            Statement::Print => self
-                .output
-                .print_all(self.alloc, self.gathered.texts.as_slice()),
-            Statement::Return => self.end_return(file, first.line),
-            Statement::NewLine => self.output.emit_bare(Opcode::NewLine),
-            Statement::Quit => self.output.emit_bare(Opcode::Quit),
-            Statement::ReturnTrue => self.output.emit_bare(Opcode::Rtrue),
-            Statement::ReturnFalse => self.output.emit_bare(Opcode::Rfalse),
-            Statement::Call => self.call(file, first.line),
+            Statement::Print => self.print(file, line),
+            Statement::Return => self.end_return(file, line),
+            Statement::NewLine => self.emit_bare(file, line, Opcode::NewLine),
+            Statement::Quit => self.emit_bare(file, line, Opcode::Quit),
+            Statement::ReturnTrue => self.emit_bare(file, line, Opcode::Rtrue),
+            Statement::ReturnFalse => self.emit_bare(file, line, Opcode::Rfalse),
+            Statement::Call => self.call(file, line),
         }
+    }
+
+    /// Ends the compilation where a unit would pass a setting, which is told at a line.
+    fn check(&mut self, file: &[u8], line: u32, full: Option<Setting>) -> Result<(), AllocError>
+        ensures { let before = work self.old in
+            OnOk result (work self.new ≡ record before { report = with_full file.now line full before.report }) }
+    {
+        match full {
+            Some(setting) => self.report.fatal(file, line, exceeded(setting)),
+            None => Ok(()),
+        }
+    }
+
+    /// The instruction of an opcode alone, which has no branch or jump.
+    fn emit_bare(&mut self, file: &[u8], line: u32, opcode: Opcode) -> Result<(), AllocError>
+        requires proper { IsProper (bare opcode) }
+        requires straight { label_count (instruction_cells (bare opcode)) ≡ 0 }
+        ensures { OnOk result (work self.new ≡ with_instruction file.now line (bare opcode) (work self.old)) }
+    {
+        let full = self.output.emit_bare(opcode)?;
+        self.check(file, line, full)
+    }
+
+    /// Prints the texts of the unit.
+    fn print(&mut self, file: &[u8], line: u32) -> Result<(), AllocError>
+        ensures { let before = work self.old in
+            OnOk result (work self.new ≡ checked file.now line (printed before.gathered.texts before.output) before) }
+    {
+        let texts = self.gathered.texts.as_slice();
+        let full = self.output.print_all(self.alloc, texts)?;
+        self.check(file, line, full)
     }
 
     /// Calls the first operand of the unit with the others.
@@ -261,7 +298,8 @@ impl<'a> Work<'a> {
         }
         let operands = operands_of(self.alloc, &self.locals, &mut self.names, names)?;
         self.locals.name_all(names);
-        self.output.emit(calling(operands.as_slice()))
+        let full = self.output.emit(calling(operands.as_slice()))?;
+        self.check(file, line, full)
     }
 
     /// Returns true, or the operand of the unit.
@@ -270,7 +308,7 @@ impl<'a> Work<'a> {
             OnOk result (work self.new ≡ return_of file.now line names (work self.old)) }
     {
         let Some((name, _)) = self.gathered.operands.as_slice().split_first() else {
-            return self.output.emit_bare(Opcode::Rtrue);
+            return self.emit_bare(file, line, Opcode::Rtrue);
         };
         let names = [*name];
         if let Some(blame) = operand_fault(&self.locals, *name) {
@@ -279,7 +317,19 @@ impl<'a> Work<'a> {
         }
         let operands = operands_of(self.alloc, &self.locals, &mut self.names, &names)?;
         self.locals.name_all(&names);
-        self.output.emit(returning(operands.as_slice()))
+        let full = self.output.emit(returning(operands.as_slice()))?;
+        self.check(file, line, full)
+    }
+}
+
+/// What is told of a setting that is full.
+fn exceeded(setting: Setting) -> Message<'static>
+    ensures { meant result ≡ exceeded setting }
+{
+    match setting {
+        Setting::Labels => Message::LabelsExceeded,
+        Setting::Code => Message::CodeExceeded,
+        Setting::Refs => Message::RefsExceeded,
     }
 }
 
