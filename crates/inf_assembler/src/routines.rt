@@ -217,7 +217,7 @@ impl Routine {
         &mut self,
         area: &mut A,
         refs: &Refs,
-        instruction: &Instruction,
+        instruction: &Instruction<'_>,
     ) -> Result<(), GrowFault>
         requires open_still { IsOpen self.old (A.bytes area.old) }
         requires proper { IsProper (parts_of instruction.now) }
@@ -228,14 +228,15 @@ impl Routine {
         ensures fault { let full = full_with (instruction_cells (parts_of instruction.now)) self.old (A.bytes area.old) refs.now in
             MatchResult result (λ _. full ≡ None) (λ fault. fault ≡ refusal full) }
     {
+        let row = instruction.opcode.row();
         let more = instruction_counts(instruction);
-        if let Some(setting) = self.full(area.len(), refs, more, instruction.text_bytes().len()) {
+        if let Some(setting) = self.full(area.len(), refs, more, instruction.text.len()) {
             return Err(GrowFault::Full(setting));
         }
         append_instruction(area, &mut self.kept, instruction)?;
         self.labels += more.labels;
         self.holes += more.holes;
-        self.is_final = instruction.opcode.row().is_final;
+        self.is_final = row.is_final;
         Ok(())
     }
 

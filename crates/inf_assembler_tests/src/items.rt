@@ -1,5 +1,4 @@
 //! Lists of items, and the routines that they are written as.
-ghost use Rattle.std.specs.Option.{ForSome};
 ghost use Rattle.inf_opcode.specs.Instructions.{IsProper};
 ghost use Rattle.inf_opcode.specs.PartsOf.{parts_of};
 ghost use Rattle.inf_assembler.specs.Routines.{IsOpen, Were, contents_of, moment_of};
@@ -48,26 +47,20 @@ fn branch(number: u32) -> Branch {
     }
 }
 
-// The instruction of an item, or none of a mark.
-fn instruction(item: Item) -> Option<Instruction>
-    ensures { ForSome result (λ instruction. IsProper (parts_of instruction)) }
+// Writes an instruction.
+fn emit<A: Area>(
+    routine: &mut Routine,
+    area: &mut A,
+    refs: &Refs,
+    instruction: &Instruction<'_>,
+) -> Result<(), GrowFault>
+    requires open_still { IsOpen routine.old (A.bytes area.old) }
+    requires proper { IsProper (parts_of instruction.now) }
+    ensures open_still { IsOpen routine.new (A.bytes area.new) }
+    ensures behind { let before = contents_of routine.old (A.bytes area.old) in
+        Were before (moment_of before) (contents_of routine.new (A.bytes area.new)) }
 {
-    match item {
-        Item::Line => Some(Instruction::bare(Opcode::NewLine)),
-        Item::Test(label) => {
-            let test = Instruction::new(Opcode::Jz, &[Operand::Variable(1)], None);
-            Some(test.with_branch(branch(label)))
-        }
-        Item::Jump(number) => {
-            let offset = Operand::Offset(Label { number });
-            Some(Instruction::new(Opcode::Jump, &[offset], None))
-        }
-        Item::Call(number) => {
-            let address = Operand::Later(called(number));
-            Some(Instruction::new(Opcode::Call1n, &[address], None))
-        }
-        Item::Mark(_) => None,
-    }
+    routine.emit(area, refs, instruction)
 }
 
 /// Writes an item.
@@ -82,12 +75,32 @@ pub(crate) fn write<A: Area>(
     ensures behind { let before = contents_of routine.old (A.bytes area.old) in
         Were before (moment_of before) (contents_of routine.new (A.bytes area.new)) }
 {
-    if let Item::Mark(number) = item {
-        return routine.label(area, Label { number });
-    }
-    match instruction(item) {
-        Some(instruction) => routine.emit(area, refs, &instruction),
-        None => Ok(()),
+    match item {
+        Item::Mark(number) => routine.label(area, Label { number }),
+        Item::Line => emit(routine, area, refs, &Instruction::bare(Opcode::NewLine)),
+        Item::Test(number) => {
+            let operands = [Operand::Variable(1)];
+            let test = Instruction::new(Opcode::Jz, &operands, None);
+            emit(routine, area, refs, &test.with_branch(branch(number)))
+        }
+        Item::Jump(number) => {
+            let operands = [Operand::Offset(Label { number })];
+            emit(
+                routine,
+                area,
+                refs,
+                &Instruction::new(Opcode::Jump, &operands, None),
+            )
+        }
+        Item::Call(number) => {
+            let operands = [Operand::Later(called(number))];
+            emit(
+                routine,
+                area,
+                refs,
+                &Instruction::new(Opcode::Call1n, &operands, None),
+            )
+        }
     }
 }
 

@@ -26,11 +26,14 @@ fn calls_by_their_number_of_arguments(rt: HostRuntime) -> Result<(), Fail> {
     let (one, two, three) = (Operand::Small(1), Operand::Small(2), Operand::Small(3));
     let (four, five) = (Operand::Small(4), Operand::Small(5));
     let (six, seven) = (Operand::Small(6), Operand::Small(7));
-    let none = Instruction::new(Opcode::Call1n, &[address], None);
+    let operands = [address];
+    let none = Instruction::new(Opcode::Call1n, &operands, None);
     open.emit(&mut area, &refs, &none)?;
-    let with_one = Instruction::new(Opcode::Call2n, &[address, one], None);
+    let operands = [address, one];
+    let with_one = Instruction::new(Opcode::Call2n, &operands, None);
     open.emit(&mut area, &refs, &with_one)?;
-    let with_three = Instruction::new(Opcode::CallVn, &[address, one, two, three], None);
+    let operands = [address, one, two, three];
+    let with_three = Instruction::new(Opcode::CallVn, &operands, None);
     open.emit(&mut area, &refs, &with_three)?;
     let operands = [address, one, two, three, four];
     let with_four = Instruction::new(Opcode::CallVn2, &operands, None);
@@ -62,9 +65,11 @@ fn a_test_of_four_values_and_one_of_two(rt: HostRuntime) -> Result<(), Fail> {
     let mut open = Routine::open(rt.alloc(), &mut area, 1, LIMITS)?;
     let (local, four) = (Operand::Variable(1), Operand::Small(4));
     let (one, two, three) = (Operand::Small(1), Operand::Small(2), Operand::Small(3));
-    let first = Instruction::new(Opcode::Je, &[local, one, two, three], None);
+    let first_operands = [local, one, two, three];
+    let first = Instruction::new(Opcode::Je, &first_operands, None);
     open.emit(&mut area, &refs, &first.with_branch(to(0, true)))?;
-    let second = Instruction::new(Opcode::Je, &[local, four], None);
+    let second_operands = [local, four];
+    let second = Instruction::new(Opcode::Je, &second_operands, None);
     open.emit(&mut area, &refs, &second.with_branch(to(1, false)))?;
     open.label(&area, Label { number: 0 })?;
     open.emit(&mut area, &refs, &Instruction::bare(Opcode::NewLine))?;
@@ -84,12 +89,19 @@ fn a_loop(rt: HostRuntime) -> Result<(), Fail> {
     let mut open = Routine::open(rt.alloc(), &mut area, 1, LIMITS)?;
     let (again, behind) = (Label { number: 0 }, Label { number: 1 });
     open.label(&area, again)?;
-    let test = Instruction::new(Opcode::Jz, &[Operand::Variable(1)], None);
+    let test_operands = [Operand::Variable(1)];
+    let test = Instruction::new(Opcode::Jz, &test_operands, None);
     open.emit(&mut area, &refs, &test.with_branch(to(1, true)))?;
-    let step = Instruction::new(Opcode::Dec, &[Operand::Small(1)], None);
-    open.emit(&mut area, &refs, &step)?;
-    let jump = Instruction::new(Opcode::Jump, &[Operand::Offset(again)], None);
-    open.emit(&mut area, &refs, &jump)?;
+    open.emit(
+        &mut area,
+        &refs,
+        &Instruction::new(Opcode::Dec, &[Operand::Small(1)], None),
+    )?;
+    open.emit(
+        &mut area,
+        &refs,
+        &Instruction::new(Opcode::Jump, &[Operand::Offset(again)], None),
+    )?;
     open.label(&area, behind)?;
     open.close(&mut area, &mut refs, RoutineKind::Plain)?;
     let bytes = [0x01, 0xA0, 0x01, 0xC7, 0x96, 0x01, 0x8C, 0xFF, 0xFA, 0xB0];
@@ -107,20 +119,21 @@ fn results_are_stored_and_texts_stand_at_the_end(rt: HostRuntime) -> Result<(), 
         Operand::Small(9),
         Operand::Large(0x1234),
     );
-    let one = Instruction::new(Opcode::Call1s, &[local], Some(0));
+    let operands = [local];
+    let one = Instruction::new(Opcode::Call1s, &operands, Some(0));
     open.emit(&mut area, &refs, &one)?;
-    let two = Instruction::new(Opcode::Call2s, &[local, small], Some(16));
+    let operands = [local, small];
+    let two = Instruction::new(Opcode::Call2s, &operands, Some(16));
     open.emit(&mut area, &refs, &two)?;
-    let two_large = Instruction::new(Opcode::Call2s, &[large, local], Some(255));
+    let operands = [large, local];
+    let two_large = Instruction::new(Opcode::Call2s, &operands, Some(255));
     open.emit(&mut area, &refs, &two_large)?;
-    let three = Instruction::new(Opcode::CallVs, &[large, small, local], Some(1));
+    let operands = [large, small, local];
+    let three = Instruction::new(Opcode::CallVs, &operands, Some(1));
     open.emit(&mut area, &refs, &three)?;
-    let hello = vec![in rt.alloc(); 0x35, 0x51, 0xC6, 0x85]?;
-    open.emit(
-        &mut area,
-        &refs,
-        &Instruction::with_text(Opcode::PrintRet, hello),
-    )?;
+    let hello = [0x35, 0x51, 0xC6, 0x85];
+    let text = Instruction::with_text(Opcode::PrintRet, &hello);
+    open.emit(&mut area, &refs, &text)?;
     open.close(&mut area, &mut refs, RoutineKind::Plain)?;
     let bytes = [
         0x02, 0xA8, 2, 0, 0x59, 2, 9, 16, 0xD9, 0x2F, 0x12, 0x34, 2, 255, 0xE0, 0x1B, 0x12, 0x34,
@@ -137,20 +150,27 @@ fn forms_of_opcodes_of_each_count(rt: HostRuntime) -> Result<(), Fail> {
     let mut refs = Refs::new(rt.alloc(), 10);
     let mut open = Routine::open(rt.alloc(), &mut area, 0, LIMITS)?;
     let (small, large) = (Operand::Small(5), Operand::Large(0x0100));
-    let child = Instruction::new(Opcode::GetChild, &[large], Some(0));
+    let child_operands = [large];
+    let child = Instruction::new(Opcode::GetChild, &child_operands, Some(0));
     let branch = Branch {
         sense: true,
         target: Target::ReturnFalse,
     };
     open.emit(&mut area, &refs, &child.with_branch(branch))?;
-    let verify = Instruction::bare(Opcode::Verify).with_branch(Branch {
-        sense: false,
-        target: Target::ReturnTrue,
-    });
-    open.emit(&mut area, &refs, &verify)?;
+    open.emit(
+        &mut area,
+        &refs,
+        &Instruction::bare(Opcode::Verify).with_branch(Branch {
+            sense: false,
+            target: Target::ReturnTrue,
+        }),
+    )?;
     open.emit(&mut area, &refs, &Instruction::bare(Opcode::Tokenise))?;
-    let shift = Instruction::new(Opcode::LogShift, &[small, large], Some(2));
-    open.emit(&mut area, &refs, &shift)?;
+    open.emit(
+        &mut area,
+        &refs,
+        &Instruction::new(Opcode::LogShift, &[small, large], Some(2)),
+    )?;
     open.emit(&mut area, &refs, &Instruction::bare(Opcode::RetPopped))?;
     open.close(&mut area, &mut refs, RoutineKind::Plain)?;
     // Branches that return take two bytes.
@@ -197,8 +217,11 @@ fn a_label_behind_a_jump_wants_a_return(rt: HostRuntime) -> Result<(), Fail> {
     let mut refs = Refs::new(rt.alloc(), 0);
     let mut open = Routine::open(rt.alloc(), &mut area, 0, LIMITS)?;
     let here = Label { number: 3 };
-    let jump = Instruction::new(Opcode::Jump, &[Operand::Offset(here)], None);
-    open.emit(&mut area, &refs, &jump)?;
+    open.emit(
+        &mut area,
+        &refs,
+        &Instruction::new(Opcode::Jump, &[Operand::Offset(here)], None),
+    )?;
     open.label(&area, here)?;
     let closed = open.close(&mut area, &mut refs, RoutineKind::Embedded)?;
     let bytes = [0x00, 0x8C, 0x00, 0x02, 0xB1];

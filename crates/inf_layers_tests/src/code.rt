@@ -1,8 +1,4 @@
 //! Routines written out, with the bytes that the Z-Machine Standard 1.1 gives for them.
-ghost use Rattle.std.specs.Prelude.{◌≡◌};
-ghost use Rattle.inf_opcode.specs.Cells.{label_count};
-ghost use Rattle.inf_opcode.specs.Instructions.{IsProper, instruction_cells};
-ghost use Rattle.inf_opcode.specs.PartsOf.{parts_of};
 
 use inf_area::{Reference, ReferenceKind};
 use inf_assembler::{GrowFault, RoutineKind, Setting};
@@ -44,28 +40,22 @@ fn routine(number: usize) -> Reference {
     }
 }
 
-// The call of a routine with the first local.
-fn calling(number: usize) -> Instruction
-    ensures proper { IsProper (parts_of result) }
-    ensures straight { label_count (instruction_cells (parts_of result)) ≡ 0 }
-{
+// Calls a routine with the first local.
+fn emit_call(code: &mut Code, number: usize) -> Result<(), GrowFault> {
     let operands = [Operand::Later(routine(number)), Operand::Variable(1)];
-    Instruction::new(Opcode::Call2n, &operands, None)
+    code.emit(&Instruction::new(Opcode::Call2n, &operands, None))
 }
 
-// The return of the number of a routine.
-fn returning(number: usize) -> Instruction
-    ensures proper { IsProper (parts_of result) }
-    ensures straight { label_count (instruction_cells (parts_of result)) ≡ 0 }
-{
+// Returns the number of a routine.
+fn emit_return(code: &mut Code, number: usize) -> Result<(), GrowFault> {
     let operands = [Operand::Later(routine(number))];
-    Instruction::new(Opcode::Ret, &operands, None)
+    code.emit(&Instruction::new(Opcode::Ret, &operands, None))
 }
 
 // Appends a routine of one local, which calls a routine with it.
 fn close_call(rt: &HostRuntime, code: &mut Code, number: usize) -> Result<(), Fail> {
     code.open(rt.alloc(), 1)?;
-    code.emit(&calling(number))?;
+    emit_call(code, number)?;
     code.close(RoutineKind::Plain)?;
     Ok(())
 }
@@ -114,12 +104,12 @@ fn a_routine_that_is_given_up_leaves_nothing(rt: HostRuntime) -> Result<(), Fail
     let mut code = Code::new(rt.alloc(), ROOMY);
     close_call(&rt, &mut code, 0)?;
     code.open(rt.alloc(), 2)?;
-    code.emit(&returning(1))?;
+    emit_return(&mut code, 1)?;
     code.give_up();
     assert_eq!(rt; code.len(), 8);
     // A routine that is still open is given up by the next one.
     code.open(rt.alloc(), 3)?;
-    code.emit(&returning(1))?;
+    emit_return(&mut code, 1)?;
     code.open(rt.alloc(), 0)?;
     code.emit(&Instruction::bare(Opcode::Quit))?;
     code.close(RoutineKind::Plain)?;
@@ -151,7 +141,7 @@ fn a_routine_takes_the_last_byte(rt: HostRuntime) -> Result<(), Fail> {
 fn the_end_of_a_routine_takes_a_byte(rt: HostRuntime) -> Result<(), Fail> {
     let mut code = code_of(&rt, 6);
     code.open(rt.alloc(), 1)?;
-    code.emit(&calling(1))?;
+    emit_call(&mut code, 1)?;
     assert_eq!(rt; code.close(RoutineKind::Plain), CODE_IS_FULL);
     assert_eq!(rt; code.len(), 0);
     Ok(())
@@ -161,8 +151,8 @@ fn the_end_of_a_routine_takes_a_byte(rt: HostRuntime) -> Result<(), Fail> {
 fn nothing_returns_behind_an_instruction_that_leaves(rt: HostRuntime) -> Result<(), Fail> {
     let mut code = code_of(&rt, 5);
     code.open(rt.alloc(), 1)?;
-    assert_eq!(rt; code.emit(&calling(1)), CODE_IS_FULL);
-    code.emit(&returning(1))?;
+    assert_eq!(rt; emit_call(&mut code, 1), CODE_IS_FULL);
+    emit_return(&mut code, 1)?;
     code.close(RoutineKind::Plain)?;
     assert_eq!(rt; code.len(), 4);
     Ok(())
@@ -179,7 +169,7 @@ fn finished_routines_count_with_the_open_one(rt: HostRuntime) -> Result<(), Fail
     let mut code = code_of(&rt, 14);
     close_call(&rt, &mut code, 1)?;
     code.open(rt.alloc(), 1)?;
-    code.emit(&calling(1))?;
+    emit_call(&mut code, 1)?;
     assert_eq!(rt; code.emit(&Instruction::bare(Opcode::Quit)), CODE_IS_FULL);
     // A routine that is given up does not count.
     code.open(rt.alloc(), 0)?;
@@ -194,9 +184,9 @@ fn the_last_reference_is_the_limit(rt: HostRuntime) -> Result<(), Fail> {
     let mut code = code_with(&rt, 1_000, 2);
     close_call(&rt, &mut code, 1)?;
     code.open(rt.alloc(), 1)?;
-    code.emit(&calling(1))?;
-    assert_eq!(rt; code.emit(&calling(1)), REFS_ARE_FULL);
-    assert_eq!(rt; code.emit(&returning(1)), REFS_ARE_FULL);
+    emit_call(&mut code, 1)?;
+    assert_eq!(rt; emit_call(&mut code, 1), REFS_ARE_FULL);
+    assert_eq!(rt; emit_return(&mut code, 1), REFS_ARE_FULL);
     code.emit(&Instruction::bare(Opcode::Quit))?;
     code.close(RoutineKind::Plain)?;
     assert_eq!(rt; code.len(), 16);
@@ -207,7 +197,7 @@ fn the_last_reference_is_the_limit(rt: HostRuntime) -> Result<(), Fail> {
 fn of_two_limits_that_of_the_bytes_comes_first(rt: HostRuntime) -> Result<(), Fail> {
     let mut code = code_with(&rt, 5, 0);
     code.open(rt.alloc(), 1)?;
-    assert_eq!(rt; code.emit(&calling(1)), CODE_IS_FULL);
-    assert_eq!(rt; code.emit(&returning(1)), REFS_ARE_FULL);
+    assert_eq!(rt; emit_call(&mut code, 1), CODE_IS_FULL);
+    assert_eq!(rt; emit_return(&mut code, 1), REFS_ARE_FULL);
     Ok(())
 }

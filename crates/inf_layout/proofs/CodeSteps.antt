@@ -2,7 +2,6 @@
 use Rattle.std.specs.Prelude.{Result, Ok, Err, OnOk, OnErr}
 use Rattle.std.proofs.Common.{◌≡◌, ℕ, ◌+◌, List, [], ◌∷◌, ◌++◌, length, take, Option, Some, None, sym, ◌∙◌, ap, subst, arith, append_assoc, length-append, length-take}
 use Rattle.std.proofs.lemmas.List.{take_at, take-take, take_all, length-take-le}
-use Rattle.inf_area.specs.declared.references.Hole.{Hole}
 use Rattle.inf_area.specs.Holes.{Holes}
 use Rattle.inf_opcode.specs.Cells.{long_bytes, label_count}
 use Rattle.inf_opcode.specs.Instructions.{Parts, instruction_cells}

@@ -1,6 +1,6 @@
 -- Which limit is passed: the first that the assembler finds of its area is the first of the routines.
-use Rattle.std.specs.Prelude.{Result, MatchResult, nat_lt}
-use Rattle.std.proofs.Common.{◌≡◌, ◌⊎◌, inl, inr, ℕ, ◌+◌, ◌-◌, Bool, true, false, cond, List, [], ◌∷◌, ◌++◌, length, take, drop, Option, Some, None, refl, sym, ◌∙◌, ap, subst, arith, length-append}
+use Rattle.std.specs.Prelude.{nat_lt}
+use Rattle.std.proofs.Common.{◌≡◌, ◌⊎◌, inl, inr, ℕ, ◌+◌, ◌-◌, Bool, true, false, cond, List, [], ◌∷◌, ◌++◌, length, take, drop, Option, Some, None, refl, sym, ◌∙◌, ap, arith, length-append}
 use Rattle.inf_area.specs.declared.references.Hole.{Hole}
 use Rattle.inf_area.specs.Holes.{Holes}
 use Rattle.inf_opcode.specs.Cells.{Cell, long_bytes, label_count, hole_count}

@@ -99,7 +99,7 @@ impl Code {
     ///
     /// Where it is refused the routine is as it was. It is refused where it would pass a limit, of several the
     /// first of labels, bytes and references, and else only for want of memory.
-    pub fn emit(&mut self, instruction: &Instruction) -> Result<(), GrowFault>
+    pub fn emit(&mut self, instruction: &Instruction<'_>) -> Result<(), GrowFault>
         requires proper { IsProper (parts_of instruction.now) }
         requires straight { label_count (instruction_cells (parts_of instruction.now)) ≡ 0 }
         ensures ok { let opened = with_item (parts_of instruction.now) self.old.opened in

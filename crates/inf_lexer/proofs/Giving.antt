@@ -1,5 +1,5 @@
 -- What the innermost source gives, reading by reading.
-use Rattle.std.proofs.Common.{◌≡◌, ℕ, suc, ◌+◌, ◌-◌, ◌<◌, zero, List, [], ◌∷◌, ◌++◌, length, take, drop, get_or, Bool, true, false, IsTrue, Some, unwrap_or, refl, sym, ap, subst, ◌∙◌, arith, append-nil, append_assoc, length-append}
+use Rattle.std.proofs.Common.{◌≡◌, ℕ, suc, ◌+◌, ◌-◌, ◌≤◌, zero, List, [], ◌∷◌, ◌++◌, length, take, drop, get_or, Bool, true, false, IsTrue, Some, unwrap_or, refl, sym, ap, subst, ◌∙◌, arith, append-nil, append_assoc, length-append}
 use Rattle.std.specs.Prelude.{slice_get, slice_set}
 use Rattle.std.proofs.lemmas.List.{length-set, drop-take, drop-drop}
 use Rattle.std.proofs.Math.Seq.{get_or-append_seam}
@@ -117,13 +117,13 @@ nothing_left sources old new bytes g none =
       ap (λ (o : Opening). o.is_read_out) is ∙ ap (λ bs. (after_bytes g.before bs).is_read_out) none,
     )
 
--- a window with one byte less
-pub window_behind : (next end : ℕ) (buffer : List ℕ) → next < end → take (end - (next + 1)) (drop (next + 1) buffer) ≡ drop 1 (take (end - next) (drop next buffer))
-window_behind next end buffer some =
-    let size : end - next ≡ 1 + (end - (next + 1)) = omega arith in
-    ap (λ xs. take (end - (next + 1)) xs) (sym (drop-drop 1 next buffer))
-    ∙ sym (drop-take 1 (end - (next + 1)) (drop next buffer))
-    ∙ ap (λ n. drop 1 (take n (drop next buffer))) (sym size)
+-- a window with some bytes less
+pub window_behind : (n next end : ℕ) (buffer : List ℕ) → next + n ≤ end → take (end - (next + n)) (drop (next + n) buffer) ≡ drop n (take (end - next) (drop next buffer))
+window_behind n next end buffer some =
+    let size : end - next ≡ n + (end - (next + n)) = omega arith in
+    ap (λ xs. take (end - (next + n)) xs) (sym (drop-drop n next buffer))
+    ∙ sym (drop-take n (end - (next + n)) (drop next buffer))
+    ∙ ap (λ m. drop n (take m (drop next buffer))) (sym size)
 
 -- what a reading into an empty window brings
 pub reads_first : (is_honest : Bool) (sources : Sources) (old new : Openings) (before after : View) (bytes : List ℕ) → before.left ≡ [] → before.is_over ≡ false

@@ -1,5 +1,5 @@
 -- What a reader of files has not given yet of its innermost source.
-use Rattle.std.specs.Prelude.{◌≡◌, ℕ, ◌+◌, ◌-◌, List, [], ◌∷◌, ◌++◌, length, drop, get_or, unwrap_or, slice_get, Bool, true, IsTrue, if◌then◌else◌, Option, Some, None}
+use Rattle.std.specs.Prelude.{◌≡◌, ℕ, ◌+◌, ◌-◌, List, [], ◌++◌, length, drop, get_or, unwrap_or, slice_get, Bool, true, IsTrue, if◌then◌else◌}
 use Rattle.inf_token.specs.Files.{Sources, Opening, Openings, opened}
 
 -- the place of the innermost source among the openings
@@ -70,10 +70,6 @@ Ends sources o view = view.is_over ≡ true → (unread sources o ≡ []) × ((i
 -- nothing more is to come
 abbrev pub IsAtEnd : View → Type 0
 IsAtEnd view = (view.left ≡ []) × (view.is_over ≡ true)
-
-abbrev pub first_of : List ℕ → Option ℕ
-first_of [] = None
-first_of (b ∷ bs) = Some b
 
 -- Between two moments, in which so many bytes and then so many were given to a lexer, the innermost source gave just those in between.
 pub record Along (sources : Sources) (old new : Openings) (before after : ℕ) : Type 0 where

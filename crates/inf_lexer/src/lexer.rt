@@ -33,7 +33,7 @@ fn scan<F: Files>(
         Ends (F.sources files.old) (F.openings files.new) window.new }
     ensures gave { IsTrue (F.is_honest files.old) →
         Along (F.sources files.old) (F.openings files.old) (F.openings files.new) window.old.given window.new.given }
-    ensures room { seen.new.lines.line + length window.new.left ≤ window.new.given + 1 }
+    ensures room { OnOk result (seen.new.lines.line + length window.new.left ≤ window.new.given + 1) }
     ensures window { length window.new.left ≤ 4096 }
     ensures few { OnOk result (window.new.given ≤ 16777216) }
     ensures more { window.old.given ≤ window.new.given }
@@ -49,20 +49,17 @@ fn scan<F: Files>(
 {
     seen.begin();
     let mut state = State::Gap;
-    loop {
-        let Some(byte) = window.peek(files)? else {
+    'windows: loop {
+        window.refill(files)?;
+        if window.left().is_empty() {
             seen.mark(state);
             return Ok(state.at_end());
-        };
-        match seen.take(set, limit, state, byte)? {
-            Turn::On(next) => {
-                window.bump();
-                state = next;
-            }
-            Turn::Last(ending) => {
-                window.bump();
-                return Ok(ending);
-            }
+        }
+        let (taken, turn) = seen.take_all(set, limit, state, window.left())?;
+        window.pass(taken);
+        match turn {
+            Turn::On(next) => state = next,
+            Turn::Last(ending) => return Ok(ending),
             Turn::Behind(ending) => return Ok(ending),
         }
     }
@@ -99,8 +96,8 @@ impl Model for Lexer {
       has_failed = l.has_failed;
     } };
 
-    ghost invariant = { λ l. (l.has_failed ≡ false → l.window.given ≤ 16777216)
-        × (l.seen.lines.line + length l.window.left ≤ l.window.given + 1) × (length l.window.left ≤ 4096) };
+    ghost invariant = { λ l. (l.has_failed ≡ false → (l.window.given ≤ 16777216)
+        × (l.seen.lines.line + length l.window.left ≤ l.window.given + 1)) × (length l.window.left ≤ 4096) };
 }
 
 impl Lexer {

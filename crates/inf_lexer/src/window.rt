@@ -1,7 +1,7 @@
 //! A source seen through a window.
-ghost use Rattle.std.specs.Prelude.{◌≡◌, ◌+◌, ◌-◌, ◌<◌, ◌≤◌, ◌^◌, ◌⊎◌, ◌∷◌, [], drop, length, min, false, true, IsTrue, IsErr, IfOk, IfErr, Ok, None};
+ghost use Rattle.std.specs.Prelude.{◌≡◌, ◌+◌, ◌-◌, ◌<◌, ◌≤◌, ◌^◌, ◌⊎◌, ◌∷◌, [], drop, length, min, false, true, IsTrue, IsErr, IfOk, IfErr};
 ghost use Rattle.inf_token.specs.Files.{Rose, last_count};
-ghost use Rattle.inf_lexer.specs.Unread.{Ends, ReadsOn, first_of};
+ghost use Rattle.inf_lexer.specs.Unread.{Ends, ReadsOn};
 
 use crate::faults::LexFault;
 use inf_token::files::Files;
@@ -49,14 +49,13 @@ impl Window {
         }
     }
 
-    /// The next byte of the source, which stays the next; none at its end.
-    pub(crate) fn peek<F: Files>(&mut self, files: &mut F) -> Result<Option<u8>, LexFault>
+    /// Reads once where nothing is in view, unless the end was read.
+    pub(crate) fn refill<F: Files>(&mut self, files: &mut F) -> Result<(), LexFault>
         requires is_open { 0 < F.depth files.old }
         requires given { self.old.given ≤ 16777216 }
-        ensures first { IfOk result (λ byte. byte ≡ first_of self.new.left) }
         ensures reads { ReadsOn (F.is_honest files.old) (F.sources files.old)
             (F.openings files.old) (F.openings files.new) self.old self.new }
-        ensures over { result ≡ Ok None → self.new.is_over ≡ true }
+        ensures over { IfOk result (λ _. self.new.left ≡ [] → self.new.is_over ≡ true) }
         ensures end { IsTrue (F.is_honest files.old) → Ends (F.sources files.old) (F.openings files.old) self.old →
             Ends (F.sources files.old) (F.openings files.new) self.new }
         ensures window { length self.new.left ≤ 4096 }
@@ -75,21 +74,16 @@ impl Window {
         ensures honesty { F.is_honest files.new ≡ F.is_honest files.old }
     {
         if self.next < self.end || self.is_over {
-            return Ok(self.first());
+            return Ok(());
         }
-        self.fill(files)?;
-        Ok(self.first())
+        self.fill(files)
     }
 
-    /// The first byte in view.
-    fn first(&self) -> Option<u8>
-        ensures { result ≡ first_of self.now.left }
+    /// The bytes in view.
+    pub(crate) fn left(&self) -> &[u8]
+        ensures { result.now ≡ self.now.left }
     {
-        if self.next < self.end {
-            Some(self.buffer[self.next])
-        } else {
-            None
-        }
+        &self.buffer[self.next..self.end]
     }
 
     /// Reads once into a window in which nothing is left.
@@ -130,13 +124,13 @@ impl Window {
         Ok(())
     }
 
-    /// Takes the first byte in view.
-    pub(crate) fn bump(&mut self)
-        requires { 0 < length self.old.left }
-        ensures left { self.new.left ≡ drop 1 self.old.left }
+    /// Takes the first `n` bytes in view.
+    pub(crate) fn pass(&mut self, n: usize)
+        requires { n ≤ length self.old.left }
+        ensures left { self.new.left ≡ drop n self.old.left }
         ensures given { self.new.given ≡ self.old.given }
         ensures over { self.new.is_over ≡ self.old.is_over }
     {
-        self.next += 1;
+        self.next += n;
     }
 }

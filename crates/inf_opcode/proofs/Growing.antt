@@ -36,10 +36,7 @@ pub kept-plain : (place : ℕ) (bytes : List ℕ) → kept_from place (plain byt
 kept-plain place [] = refl
 kept-plain place (byte ∷ bytes) = kept-plain (place + 1) bytes
 
--- nothing, plain bytes, and one thing
-pub grew_none : (bytes : List ℕ) (kept : List Kept) → Grew bytes kept [] bytes kept
-grew_none bytes kept = record { bytes = sym (append-nil bytes); kept = sym (append-nil kept) }
-
+-- plain bytes, and one thing
 pub grew_plain : (bytes added new_bytes : List ℕ) (kept : List Kept) → new_bytes ≡ bytes ++ added → Grew bytes kept (plain added) new_bytes kept
 grew_plain bytes added new_bytes kept e =
     record { bytes = e ∙ ap (λ xs. bytes ++ xs) (sym (long-plain added)); kept = sym (append-nil kept) ∙ ap (λ ks. kept ++ ks) (sym (kept-plain (length bytes) added)) }
@@ -66,15 +63,6 @@ longer_none bytes kept = record { added = []; added_kept = []; bytes = sym (appe
 
 pub longer_by : (bytes new_bytes added : List ℕ) (kept new_kept added_kept : List Kept) → new_bytes ≡ bytes ++ added → new_kept ≡ kept ++ added_kept → Longer bytes kept new_bytes new_kept
 longer_by bytes new_bytes added kept new_kept added_kept e f = record { added = added; added_kept = added_kept; bytes = e; kept = f }
-
-pub longer_then : {bytes mid new_bytes : List ℕ} {kept mid_kept new_kept : List Kept} {xs : List Cell} → Grew bytes kept xs mid mid_kept → Longer mid mid_kept new_bytes new_kept → Longer bytes kept new_bytes new_kept
-longer_then {bytes = bytes} {mid = mid} {kept = kept} {xs = xs} first second =
-    record {
-      added = long_bytes xs ++ second.added;
-      added_kept = kept_from (length bytes) xs ++ second.added_kept;
-      bytes = second.bytes ∙ ap (λ b. b ++ second.added) first.bytes ∙ append_assoc bytes (long_bytes xs) second.added;
-      kept = second.kept ∙ ap (λ k. k ++ second.added_kept) first.kept ∙ append_assoc kept (kept_from (length bytes) xs) second.added_kept;
-    }
 
 -- what a refused call leaves, whatever it says
 pub on_err : {T E Q : Type 0} (r : Result T E) → Q → OnErr r Q

@@ -1,10 +1,9 @@
 //! Instructions and their operands.
-ghost use Rattle.std.specs.Prelude.{◌≡◌, ◌<◌, ◌≤◌, length, Some};
+ghost use Rattle.std.specs.Prelude.{◌≡◌, ◌<◌, Some};
 ghost use Rattle.inf_opcode.specs.Instructions.{type_code, is_byte, is_variable, bare};
-ghost use Rattle.inf_opcode.specs.PartsOf.{parts_of, text_of};
+ghost use Rattle.inf_opcode.specs.PartsOf.{parts_of};
 
 use crate::opcodes::Opcode;
-use arrayvec::ArrayVec;
 use inf_area::Reference;
 
 /// The most operands that an instruction has.
@@ -88,61 +87,48 @@ impl Operand {
 }
 
 /// An instruction with what stands behind its operands.
-#[derive(Debug, Drop)]
-pub struct Instruction {
+#[derive(Clone, Copy, Debug)]
+pub struct Instruction<'a> {
     pub opcode: Opcode,
-    pub operands: ArrayVec<Operand, MOST_OPERANDS>,
+    /// At most eight.
+    pub operands: &'a [Operand],
     /// The number of the variable that takes the result.
     pub store: Option<u8>,
     /// Where control goes by the outcome of a test.
     pub branch: Option<Branch>,
-    /// The bytes of the text that a printing opcode takes: whole words, of which only the last has its top bit set.
-    pub text: Option<Vec<u8>>,
+    /// The bytes of the text that a printing opcode takes: whole words, of which only the last has its top bit set. There are
+    /// none where the opcode takes no text.
+    pub text: &'a [u8],
 }
 
-impl Instruction {
+impl<'a> Instruction<'a> {
     /// An instruction of no operands, with nothing behind it.
     pub fn bare(opcode: Opcode) -> Self
         ensures { parts_of result ≡ bare opcode }
     {
         Instruction {
             opcode,
-            operands: ArrayVec::new(),
+            operands: &[],
             store: None,
             branch: None,
-            text: None,
+            text: &[],
         }
     }
 
-    /// An instruction of at most eight operands, with a variable for its result or none.
-    pub fn new(opcode: Opcode, operands: &[Operand], store: Option<u8>) -> Self
-        requires { length operands.now ≤ MOST_OPERANDS }
+    /// An instruction of some operands, with a variable for its result or none.
+    pub fn new(opcode: Opcode, operands: &'a [Operand], store: Option<u8>) -> Self
         ensures { parts_of result ≡ record (bare opcode) { operands = operands.now; store = store } }
     {
-        let mut list = ArrayVec::new();
-        for operand in operands {
-            list.push(*operand);
-        }
         Instruction {
-            operands: list,
+            operands,
             store,
             ..Instruction::bare(opcode)
         }
     }
 
-    /// The bytes of its text, of which there are none where it has no text.
-    pub fn text_bytes(&self) -> &[u8]
-        ensures { result.now ≡ text_of self.now.text }
-    {
-        match &self.text {
-            Some(text) => text.as_slice(),
-            None => &[],
-        }
-    }
-
     /// The instruction with a branch.
     pub fn with_branch(self, branch: Branch) -> Self
-        ensures { parts_of result ≡ record (parts_of self) { branch = Some branch } }
+        ensures { parts_of result ≡ record (parts_of self.entry) { branch = Some branch } }
     {
         Instruction {
             branch: Some(branch),
@@ -151,11 +137,11 @@ impl Instruction {
     }
 
     /// An instruction of no operands that prints the bytes of a text.
-    pub fn with_text(opcode: Opcode, text: Vec<u8>) -> Self
-        ensures { parts_of result ≡ record (bare opcode) { text = text.items } }
+    pub fn with_text(opcode: Opcode, text: &'a [u8]) -> Self
+        ensures { parts_of result ≡ record (bare opcode) { text = text.now } }
     {
         Instruction {
-            text: Some(text),
+            text,
             ..Instruction::bare(opcode)
         }
     }

@@ -143,6 +143,7 @@ pub enum Opcode {
 
 impl Opcode {
     /// The row of the instruction set for this opcode.
+    #[inline(always)]
     pub const fn row(self) -> OpcodeRow
         ensures exact { result ≡ row_of self }
         ensures encodable { IsTrue (is_encodable result) }

@@ -1,8 +1,9 @@
 //! Instructions, written to an area (Z-Machine Standard 1.1, section 4).
-ghost use Rattle.std.specs.Prelude.{◌≡◌, ◌+◌, ◌*◌, ◌<◌, ◌≤◌, ◌++◌, [], ◌∷◌, IsTrue, OnOk, OnErr, length};
+ghost use Rattle.std.specs.Prelude.{◌≡◌, ◌+◌, ◌*◌, ◌<◌, ◌≤◌, ◌^◌, ◌++◌, List, IsTrue, OnOk, OnErr, length};
 ghost use Rattle.std.specs.List.{flat_map};
-ghost use Rattle.inf_area.specs.Words.{word};
-ghost use Rattle.inf_opcode.specs.Cells.{Of, plain, sense_bit, special_bytes, long_bytes, label_count, hole_count};
+ghost use Rattle.inf_opcode.specs.declared.cells.Kept.{Kept};
+ghost use Rattle.inf_opcode.specs.declared.instructions.Operand.{Operand};
+ghost use Rattle.inf_opcode.specs.Cells.{sense_bit, long_bytes, label_count, hole_count, kept_from};
 ghost use Rattle.inf_opcode.specs.Grown.{Grew, Longer};
 ghost use Rattle.inf_opcode.specs.Opcodes.{is_encodable};
 ghost use Rattle.inf_opcode.specs.Instructions.{type_slot, types_byte, types_bytes, variable_bit, is_long, heading, operand_cells, store_cells, branch_cells, front_cells, instruction_cells};
@@ -16,8 +17,8 @@ use arrayvec::ArrayVec;
 use inf_area::Area;
 use std::alloc::AllocError;
 
-// The most bytes of a heading: of the extended form with two bytes of types.
-const HEADING_MAX: usize = 4;
+// The most bytes of an instruction without its text: four of a heading, eight operands, a store variable and a branch.
+const FRONT_MAX: usize = 24;
 
 // The type bits of the operand at `k`, or 3 where there is none.
 fn type_at(operands: &[Operand], k: usize) -> u8
@@ -63,7 +64,7 @@ fn bit_at(operands: &[Operand], k: usize) -> u8
 }
 
 // Appends the types of all operands, of which there are at most `most`.
-fn push_types(heading: &mut ArrayVec<u8, HEADING_MAX>, operands: &[Operand], most: u8)
+fn push_types(heading: &mut ArrayVec<u8, FRONT_MAX>, operands: &[Operand], most: u8)
     requires { length heading.old.items ≤ 2 }
     ensures { heading.new.items ≡ heading.old.items ++ types_bytes most operands.now }
 {
@@ -74,9 +75,10 @@ fn push_types(heading: &mut ArrayVec<u8, HEADING_MAX>, operands: &[Operand], mos
 }
 
 // The opcode and the types of the operands (sections 4.3 and 4.4).
-fn heading(row: OpcodeRow, operands: &[Operand]) -> ArrayVec<u8, HEADING_MAX>
+fn heading(row: OpcodeRow, operands: &[Operand]) -> ArrayVec<u8, FRONT_MAX>
     requires { IsTrue (is_encodable row) }
-    ensures { result.items ≡ heading row operands.now }
+    ensures value { result.items ≡ heading row operands.now }
+    ensures few { length result.items ≤ 4 }
 {
     let mut heading = ArrayVec::new();
     match row.count {
@@ -105,139 +107,163 @@ fn heading(row: OpcodeRow, operands: &[Operand]) -> ArrayVec<u8, HEADING_MAX>
     heading
 }
 
-// A word, its high byte first.
-fn word_bytes(number: u16) -> [u8; 2]
-    ensures { result ≡ word number }
+// How many bytes of types there are, of at most so many operands.
+fn types_len(most: u8) -> usize
+    ensures value { (operands : List Operand) → result ≡ length (types_bytes most operands) }
+    ensures few { result ≤ 2 }
 {
-    number.to_be_bytes()
+    if most > 4 { 2 } else { 1 }
 }
 
-// Appends what is kept: its place, and its bytes while the routine is open.
-fn write_special<A: Area>(
-    area: &mut A,
-    kept: &mut Vec<Kept>,
-    what: Special,
-) -> Result<(), AllocError>
-    ensures ok { OnOk result (Grew (A.bytes area.old) kept.old.items (Of what ∷ []) (A.bytes area.new) kept.new.items) }
-    ensures err { OnErr result (Longer (A.bytes area.old) kept.old.items (A.bytes area.new) kept.new.items) }
+// The length of a heading.
+fn heading_len(row: OpcodeRow, operands: &[Operand]) -> usize
+    ensures value { result ≡ length (heading row operands.now) }
+    ensures few { result ≤ 4 }
 {
-    kept.push(Kept {
-        place: area.len(),
-        what,
-    })?;
-    area.append(special_bytes(what).as_slice())?;
-    Ok(())
+    match row.count {
+        OperandCount::Zero | OperandCount::One => 1,
+        OperandCount::Two if is_long(operands) => 1,
+        OperandCount::Two | OperandCount::Several => 1 + types_len(row.most),
+        OperandCount::Extended => 2 + types_len(row.most),
+    }
 }
 
-// The bytes of such a thing while the routine is open.
-fn special_bytes(what: Special) -> ArrayVec<u8, 2>
-    ensures { result.items ≡ special_bytes what }
+// Appends an operand, with zeros in place of what is known later.
+fn push_operand(bytes: &mut ArrayVec<u8, FRONT_MAX>, operand: Operand)
+    requires { length bytes.old.items ≤ 22 }
+    ensures value { bytes.new.items ≡ bytes.old.items ++ long_bytes (operand_cells operand) }
+    ensures few { length bytes.new.items ≤ length bytes.old.items + 2 }
 {
-    let mut bytes = ArrayVec::new();
-    match what {
-        Special::Marks(_) => {}
-        Special::Branches(branch) => {
-            bytes.push(sense_bit(branch.sense));
-            bytes.push(0);
+    match operand {
+        Operand::Large(number) => {
+            bytes.push((number / 256) as u8);
+            bytes.push((number % 256) as u8);
         }
-        Special::Jumps(_) | Special::Refers(_) => {
+        Operand::Small(byte) | Operand::Variable(byte) => bytes.push(byte),
+        Operand::Later(_) | Operand::Offset(_) => {
             bytes.push(0);
             bytes.push(0);
         }
     }
+}
+
+// Appends a store variable and a branch, as far as they are there.
+fn push_end(bytes: &mut ArrayVec<u8, FRONT_MAX>, store: Option<u8>, branch: Option<Branch>)
+    requires { length bytes.old.items ≤ 20 }
+    ensures { bytes.new.items ≡ bytes.old.items ++ long_bytes (store_cells store) ++ long_bytes (branch_cells branch) }
+{
+    if let Some(number) = store {
+        bytes.push(number);
+    }
+    if let Some(branch) = branch {
+        bytes.push(sense_bit(branch.sense));
+        bytes.push(0);
+    }
+}
+
+// The bytes of an instruction without its text, while the routine is open.
+fn front_bytes(instruction: &Instruction<'_>) -> ArrayVec<u8, FRONT_MAX>
+    requires few { length (parts_of instruction.now).operands ≤ 8 }
+    ensures { result.items ≡ long_bytes (front_cells (parts_of instruction.now)) }
+{
+    let operands = instruction.operands;
+    let mut bytes = heading(instruction.opcode.row(), operands);
+    for operand in operands {
+        push_operand(&mut bytes, *operand);
+    }
+    push_end(&mut bytes, instruction.store, instruction.branch);
     bytes
 }
 
-// Appends plain bytes.
-fn write_bytes<A: Area>(area: &mut A, kept: &mut Vec<Kept>, bytes: &[u8]) -> Result<(), AllocError>
-    ensures ok { OnOk result (Grew (A.bytes area.old) kept.old.items (plain bytes.now) (A.bytes area.new) kept.new.items) }
-    ensures err { OnErr result (Longer (A.bytes area.old) kept.old.items (A.bytes area.new) kept.new.items) }
-    ensures kept { kept.new ≡ kept.old }
-{
-    area.append(bytes)?;
-    Ok(())
-}
-
-// Appends an operand.
-fn write_operand<A: Area>(
-    area: &mut A,
-    kept: &mut Vec<Kept>,
-    operand: Operand,
-) -> Result<(), AllocError>
-    ensures ok { OnOk result (Grew (A.bytes area.old) kept.old.items (operand_cells operand) (A.bytes area.new) kept.new.items) }
-    ensures err { OnErr result (Longer (A.bytes area.old) kept.old.items (A.bytes area.new) kept.new.items) }
+// How many bytes an operand has.
+fn operand_len(operand: Operand) -> usize
+    ensures value { result ≡ length (long_bytes (operand_cells operand)) }
+    ensures small { result ≤ 2 }
 {
     match operand {
-        Operand::Large(number) => write_bytes(area, kept, &word_bytes(number)),
-        Operand::Small(byte) | Operand::Variable(byte) => write_bytes(area, kept, &[byte]),
-        Operand::Later(reference) => write_special(area, kept, Special::Refers(reference)),
-        Operand::Offset(label) => write_special(area, kept, Special::Jumps(label)),
+        Operand::Small(_) | Operand::Variable(_) => 1,
+        Operand::Large(_) | Operand::Later(_) | Operand::Offset(_) => 2,
     }
 }
 
-// Appends operands.
-fn write_operands<A: Area>(
-    area: &mut A,
-    kept: &mut Vec<Kept>,
-    operands: &[Operand],
-) -> Result<(), AllocError>
-    ensures ok { let cells = flat_map operand_cells operands.now in
-        OnOk result (Grew (A.bytes area.old) kept.old.items cells (A.bytes area.new) kept.new.items) }
-    ensures err { OnErr result (Longer (A.bytes area.old) kept.old.items (A.bytes area.new) kept.new.items) }
+// Keeps what is known later of an operand that stands at a place.
+fn keep_operand(kept: &mut Vec<Kept>, place: usize, operand: Operand) -> Result<(), AllocError>
+    ensures ok { OnOk result (kept.new.items ≡ kept.old.items ++ kept_from place (operand_cells operand)) }
+    ensures err { OnErr result (kept.new.items ≡ kept.old.items) }
 {
+    let what = match operand {
+        Operand::Later(reference) => Special::Refers(reference),
+        Operand::Offset(label) => Special::Jumps(label),
+        Operand::Large(_) | Operand::Small(_) | Operand::Variable(_) => return Ok(()),
+    };
+    kept.push(Kept { place, what })?;
+    Ok(())
+}
+
+// Keeps what is known later of operands, the first of which stands at a place.
+fn keep_operands(kept: &mut Vec<Kept>, first: usize, operands: &[Operand]) -> Result<(), AllocError>
+    requires { first + length (long_bytes (flat_map operand_cells operands.now)) < 2 ^ 64 }
+    ensures ok { OnOk result (kept.new.items ≡ kept.old.items ++ kept_from first (flat_map operand_cells operands.now)) }
+    ensures longer { (added : List Kept) × (kept.new.items ≡ kept.old.items ++ added) }
+{
+    let mut place = first;
     for operand in operands {
-        write_operand(area, kept, *operand)?;
+        keep_operand(kept, place, *operand)?;
+        place += operand_len(*operand);
     }
     Ok(())
 }
 
-// Appends a store variable.
-fn write_store<A: Area>(
-    area: &mut A,
+// Keeps what is no plain byte of an instruction, whose bytes stand from a place up to another.
+fn keep_front(
     kept: &mut Vec<Kept>,
-    store: Option<u8>,
+    start: usize,
+    end: usize,
+    instruction: &Instruction<'_>,
 ) -> Result<(), AllocError>
-    ensures ok { OnOk result (Grew (A.bytes area.old) kept.old.items (store_cells store) (A.bytes area.new) kept.new.items) }
-    ensures err { OnErr result (Longer (A.bytes area.old) kept.old.items (A.bytes area.new) kept.new.items) }
+    requires { end ≡ start + length (long_bytes (front_cells (parts_of instruction.now))) }
+    ensures ok { OnOk result (kept.new.items ≡ kept.old.items ++ kept_from start (front_cells (parts_of instruction.now))) }
+    ensures longer { (added : List Kept) × (kept.new.items ≡ kept.old.items ++ added) }
 {
-    match store {
-        None => Ok(()),
-        Some(number) => write_bytes(area, kept, &[number]),
+    let operands = instruction.operands;
+    let first = start + heading_len(instruction.opcode.row(), operands);
+    keep_operands(kept, first, operands)?;
+    if let Some(branch) = instruction.branch {
+        kept.push(Kept {
+            place: end - 2,
+            what: Special::Branches(branch),
+        })?;
     }
+    Ok(())
 }
 
-// Appends a branch.
-fn write_branch<A: Area>(
-    area: &mut A,
-    kept: &mut Vec<Kept>,
-    branch: Option<Branch>,
-) -> Result<(), AllocError>
-    ensures ok { OnOk result (Grew (A.bytes area.old) kept.old.items (branch_cells branch) (A.bytes area.new) kept.new.items) }
-    ensures err { OnErr result (Longer (A.bytes area.old) kept.old.items (A.bytes area.new) kept.new.items) }
+// Appends the bytes of a text, of which most instructions have none.
+fn append_text<A: Area>(area: &mut A, text: &[u8]) -> Result<(), AllocError>
+    ensures ok { OnOk result (A.bytes area.new ≡ A.bytes area.old ++ text.now) }
+    ensures err { OnErr result (A.bytes area.new ≡ A.bytes area.old) }
 {
-    match branch {
-        None => Ok(()),
-        Some(branch) => write_special(area, kept, Special::Branches(branch)),
+    if text.is_empty() {
+        return Ok(());
     }
+    area.append(text)
 }
 
 // Appends an instruction.
 fn write_instruction<A: Area>(
     area: &mut A,
     kept: &mut Vec<Kept>,
-    instruction: &Instruction,
+    instruction: &Instruction<'_>,
 ) -> Result<(), AllocError>
+    requires few { length (parts_of instruction.now).operands ≤ 8 }
     ensures ok { let cells = instruction_cells (parts_of instruction.now) in
         OnOk result (Grew (A.bytes area.old) kept.old.items cells (A.bytes area.new) kept.new.items) }
     ensures err { OnErr result (Longer (A.bytes area.old) kept.old.items (A.bytes area.new) kept.new.items) }
 {
-    let operands = instruction.operands.as_slice();
-    let heading = heading(instruction.opcode.row(), operands);
-    write_bytes(area, kept, heading.as_slice())?;
-    write_operands(area, kept, operands)?;
-    write_store(area, kept, instruction.store)?;
-    write_branch(area, kept, instruction.branch)?;
-    write_bytes(area, kept, instruction.text_bytes())?;
+    let start = area.len();
+    area.append(front_bytes(instruction).as_slice())?;
+    let end = area.len();
+    keep_front(kept, start, end, instruction)?;
+    append_text(area, instruction.text)?;
     Ok(())
 }
 
@@ -246,8 +272,9 @@ fn write_instruction<A: Area>(
 pub fn append_instruction<A: Area>(
     area: &mut A,
     kept: &mut Vec<Kept>,
-    instruction: &Instruction,
+    instruction: &Instruction<'_>,
 ) -> Result<(), AllocError>
+    requires few { length (parts_of instruction.now).operands ≤ 8 }
     ensures ok { let cells = instruction_cells (parts_of instruction.now) in
         OnOk result (Grew (A.bytes area.old) kept.old.items cells (A.bytes area.new) kept.new.items) }
     ensures err { OnErr result ((A.bytes area.new ≡ A.bytes area.old) × (kept.new.items ≡ kept.old.items)) }
@@ -352,13 +379,14 @@ fn branch_count(branch: Option<Branch>) -> usize
 }
 
 /// How much an instruction takes without its text, with its branch in two bytes.
-pub fn instruction_counts(instruction: &Instruction) -> Counts
+pub fn instruction_counts(instruction: &Instruction<'_>) -> Counts
+    requires few { length (parts_of instruction.now).operands ≤ 8 }
     ensures value { result ≡ counts_of (front_cells (parts_of instruction.now)) }
     ensures labels { result.labels ≤ 9 }
     ensures holes { result.holes ≤ 9 }
 {
-    let operands = instruction.operands.as_slice();
-    let head = heading(instruction.opcode.row(), operands).len();
+    let operands = instruction.operands;
+    let head = heading_len(instruction.opcode.row(), operands);
     let given = operands_counts(operands);
     let store = store_len(instruction.store);
     let branch = branch_count(instruction.branch);

@@ -1,3 +1,4 @@
 pub mod Quoted
 pub mod SpellingLaws
+pub mod Taking
 pub mod TokenLaws

@@ -137,5 +137,16 @@ find set limit s seen (b ∷ bs) =
       | turn_to.Behind e ↦ record { ending = e; seen = t.1; rest = b ∷ bs }
     ]
 
+-- the token that is found behind a byte of which this came
+abbrev pub found_after : CharSet → ℕ → Turn → Sight → List ℕ → Found
+found_after set limit (turn_to.On next) seen bs = find set limit next seen bs
+found_after set limit (turn_to.Last e) seen bs = record { ending = e; seen = seen; rest = bs }
+found_after set limit (turn_to.Behind e) seen bs = record { ending = e; seen = seen; rest = bs }
+
+-- whether the token goes on
+abbrev pub is_on : Turn → Bool
+is_on (turn_to.On _) = true
+is_on _ = false
+
 abbrev pub sight : code.Seen → Sight
 sight s = record { first = s.first; kept = s.spelling; lines = s.lines }

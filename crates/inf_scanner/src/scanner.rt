@@ -1,7 +1,7 @@
 //! Tokens byte by byte: each byte is passed over, is kept, or ends the token.
-ghost use Rattle.std.specs.Prelude.{◌≡◌, ◌+◌, ◌<◌, ◌≤◌, ◌^◌, true, IfOk, IsErr, OnErr};
+ghost use Rattle.std.specs.Prelude.{◌≡◌, ℕ, ◌+◌, ◌<◌, ◌≤◌, ◌^◌, ◌++◌, List, drop, length, true, IfOk, IsErr, OnErr};
 ghost use Rattle.inf_scanner.specs.Lines.{first_line};
-ghost use Rattle.inf_scanner.specs.Scanning.{is_run_byte, begins_number, step_of, begin, at_end, most, is_gap, turn, sight, marked, begun, is_behind, most_behind};
+ghost use Rattle.inf_scanner.specs.Scanning.{is_run_byte, begins_number, step_of, begin, at_end, most, is_gap, turn, sight, marked, begun, find, found_after, is_behind, is_on, is_quoted, most_behind};
 
 use crate::lines::Lines;
 use crate::marks::{first_mark, longer_mark};
@@ -186,14 +186,37 @@ impl Seen {
         }
     }
 
-    /// Takes a byte.
-    pub fn take(
+    /// Takes bytes up to the end of the token, or all of them. Answers how many, and what came of the last that it looked at.
+    pub fn take_all(
         &mut self,
         set: CharSet,
         limit: u32,
-        state: State,
-        byte: u8,
-    ) -> Result<Turn, AllocError>
+        from: State,
+        bytes: &[u8],
+    ) -> Result<(usize, Turn), AllocError>
+        requires { self.old.lines.line + length bytes.now < 2 ^ 32 }
+        ensures found { IfOk result (λ r. (rest : List ℕ) → found_after set limit r.1 (sight self.new) (drop r.0 bytes.now ++ rest)
+            ≡ find set limit from (sight self.old) (bytes.now ++ rest)) }
+        ensures within { IfOk result (λ r. r.0 ≤ length bytes.now) }
+        ensures all { IfOk result (λ r. is_on r.1 ≡ true → r.0 ≡ length bytes.now) }
+        ensures few { IfOk result (λ r. self.new.lines.line ≤ self.old.lines.line + r.0) }
+        ensures memory { IsErr result → (rest : List ℕ) → is_quoted (find set limit from (sight self.old) (bytes.now ++ rest)).ending ≡ true }
+    {
+        let mut state = from;
+        let mut taken = 0;
+        for byte in bytes {
+            match self.take(set, limit, state, *byte)? {
+                Turn::On(next) => state = next,
+                Turn::Last(ending) => return Ok((taken + 1, Turn::Last(ending))),
+                Turn::Behind(ending) => return Ok((taken, Turn::Behind(ending))),
+            }
+            taken += 1;
+        }
+        Ok((taken, Turn::On(state)))
+    }
+
+    // Takes a byte.
+    fn take(&mut self, set: CharSet, limit: u32, state: State, byte: u8) -> Result<Turn, AllocError>
         requires { self.old.lines.line + 1 < 2 ^ 32 }
         ensures turn { IfOk result (λ t. (t, sight self.new) ≡ turn set limit state byte (sight self.old)) }
         ensures few { self.new.lines.line ≤ self.old.lines.line + 1 }

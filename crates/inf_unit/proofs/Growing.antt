@@ -1,6 +1,6 @@
 -- What a growth of the code comes to: the setting that is full is the one that the code names.
 use Rattle.std.specs.Prelude.{Result, Ok, Err, IfOk, OnOk, OnErr, MatchResult}
-use Rattle.std.proofs.Common.{◌≡◌, ◌⊎◌, inl, inr, cond, Option, Some, None, is_some, refl, sym, ◌∙◌, ap}
+use Rattle.std.proofs.Common.{◌≡◌, ◌⊎◌, inl, inr, cond, Option, Some, None, is_some, sym, ◌∙◌, ap}
 use Rattle.inf_assembler.specs.declared.routines.GrowFault.{GrowFault}
 use Rattle.inf_assembler.specs.declared.routines.GrowFault.TheVariants as grow_fault
 use Rattle.inf_assembler.specs.declared.routines.Setting.{Setting}

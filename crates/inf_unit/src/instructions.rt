@@ -22,7 +22,7 @@ fn call_opcode(operands: &[Operand]) -> Opcode
 }
 
 /// The instruction that calls the first of one to eight operands with the others.
-pub fn calling(operands: &[Operand]) -> Instruction
+pub fn calling(operands: &[Operand]) -> Instruction<'_>
     requires some { 1 ≤ length operands.now }
     requires few { length operands.now ≤ 8 }
     requires plain { IsTrue (has_no_offset operands.now) }
@@ -35,7 +35,7 @@ pub fn calling(operands: &[Operand]) -> Instruction
 }
 
 /// The instruction that returns an operand, which is the only one.
-pub fn returning(operands: &[Operand]) -> Instruction
+pub fn returning(operands: &[Operand]) -> Instruction<'_>
     requires one { length operands.now ≡ 1 }
     requires plain { IsTrue (has_no_offset operands.now) }
     ensures parts { parts_of result ≡ returning operands.now }
@@ -46,9 +46,9 @@ pub fn returning(operands: &[Operand]) -> Instruction
 }
 
 /// The instruction that prints a packed text.
-pub fn printing(packed: Vec<u8>) -> Instruction
-    requires { IsTrue (are_words packed.items) }
-    ensures parts { parts_of result ≡ record (bare opcode.Print) { text = packed.items } }
+pub fn printing(packed: &[u8]) -> Instruction<'_>
+    requires { IsTrue (are_words packed.now) }
+    ensures parts { parts_of result ≡ record (bare opcode.Print) { text = packed.now } }
     ensures proper { IsProper (parts_of result) }
     ensures straight { label_count (instruction_cells (parts_of result)) ≡ 0 }
 {

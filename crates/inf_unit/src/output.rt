@@ -61,13 +61,13 @@ impl Output {
     }
 
     /// Appends an instruction without a branch or jump to the open routine, if there is one.
-    pub fn emit(&mut self, instruction: Instruction) -> Result<Option<Setting>, AllocError>
-        requires proper { IsProper (parts_of instruction) }
-        requires straight { label_count (instruction_cells (parts_of instruction)) ≡ 0 }
-        ensures output { IfOk result (λ _. output self.new ≡ (emitted (parts_of instruction) (output self.old)).output) }
-        ensures full { IfOk result (λ full. full ≡ (emitted (parts_of instruction) (output self.old)).full) }
+    pub fn emit(&mut self, instruction: &Instruction<'_>) -> Result<Option<Setting>, AllocError>
+        requires proper { IsProper (parts_of instruction.now) }
+        requires straight { label_count (instruction_cells (parts_of instruction.now)) ≡ 0 }
+        ensures output { IfOk result (λ _. output self.new ≡ (emitted (parts_of instruction.now) (output self.old)).output) }
+        ensures full { IfOk result (λ full. full ≡ (emitted (parts_of instruction.now) (output self.old)).full) }
     {
-        full_in(self.code.emit(&instruction))
+        full_in(self.code.emit(instruction))
     }
 
     /// Appends the instruction of an opcode alone, which has no branch or jump.
@@ -77,7 +77,7 @@ impl Output {
         ensures output { IfOk result (λ _. output self.new ≡ (emitted (bare opcode) (output self.old)).output) }
         ensures full { IfOk result (λ full. full ≡ (emitted (bare opcode) (output self.old)).full) }
     {
-        self.emit(Instruction::bare(opcode))
+        self.emit(&Instruction::bare(opcode))
     }
 
     /// Appends the instructions that print some texts, up to the first for which a setting is full.
@@ -103,7 +103,7 @@ impl Output {
         ensures full { IfOk result (λ full. full ≡ (emitted (printing text.now) (output self.old)).full) }
     {
         let packed = pack(alloc, text, None)?;
-        self.emit(printing(packed))
+        self.emit(&printing(packed.as_slice()))
     }
 
     /// Finishes the open routine, if there is one. Its code stays unless its header had an error.

@@ -298,7 +298,7 @@ impl<'a> Work<'a> {
         }
         let operands = operands_of(self.alloc, &self.locals, &mut self.names, names)?;
         self.locals.name_all(names);
-        let full = self.output.emit(calling(operands.as_slice()))?;
+        let full = self.output.emit(&calling(operands.as_slice()))?;
         self.check(file, line, full)
     }
 
@@ -317,7 +317,7 @@ impl<'a> Work<'a> {
         }
         let operands = operands_of(self.alloc, &self.locals, &mut self.names, &names)?;
         self.locals.name_all(&names);
-        let full = self.output.emit(returning(operands.as_slice()))?;
+        let full = self.output.emit(&returning(operands.as_slice()))?;
         self.check(file, line, full)
     }
 }

@@ -1,114 +1,115 @@
-use Rattle.std.proofs.Common.{◌≡◌, ◌-◌, ◌++◌, ℕ, List, Ok, length, refl, sym, ap, ◌∙◌, arith, length-drop}
-use Rattle.inf_lexer.specs.Unread.{to_come}
+use Rattle.std.proofs.Common.{◌++◌, ℕ, List, drop, length, refl, sym, ap, ◌∙◌, arith, length-drop}
+use Rattle.inf_lexer.specs.Unread.{behind_view}
 use Rattle.inf_lexer.proofs.Hearing.{ends_on, ends_taken, heard_on, heard_source, heard_taken}
-use Rattle.inf_lexer.proofs.Scanned.{find_behind, find_end, find_last, find_on, some_first}
-use Rattle.inf_scanner.proofs.Quoted.{quoted_from}
-use Rattle.inf_scanner.specs.Scanning.{Found, begun, find, sight}
+use Rattle.inf_lexer.proofs.Scanned.{find_end, none_left, some_left}
+use Rattle.inf_scanner.specs.Scanning.{Found, begun, find, found_after, is_on, is_quoted, sight}
 use Rattle.inf_scanner.specs.declared.scanner.State.TheVariants as state
+use Rattle.inf_scanner.specs.declared.scanner.Turn.{Turn}
 use Rattle.inf_lexer.proofs.lexer.scan.Goals as goal
 
-pub loop-byte-preserved : goal.loop-byte-preserved
-loop-byte-preserved g c =
+-- what was heard up to a full window
+pub windows-preserved : goal.windows-preserved
+windows-preserved g c =
     let files = g.F.Files in
-    let inv = c.loop-byte.invariant in
-    let peeked = c.in_ok-byte.ensures in
-    let first = sym peeked.first ∙ c.in-Some.is in
-    let some = some_first c.peek.new.self.left c.in-Some.byte first in
-    let less : length c.bump.new.self.left ≡ length c.peek.new.self.left - 1 = ap (λ (l : List ℕ). length l) c.bump.ensures.left ∙ length-drop 1 c.peek.new.self.left in
+    let inv = c.windows.invariant in
+    let filled = c.in_ok-refill.ensures in
+    let took = c.in_ok-taken.ensures in
     record {
-      heard = heard_taken Found (files.is_honest c.args.files.now) (files.sources c.args.files.now) (files.openings c.args.files.now) (files.openings c.peek.new.files) c.args.window.now c.peek.new.self c.bump.new.self (find c.args.set c.args.limit c.loop-byte.state (sight c.loop-byte.seen)) (find c.args.set c.args.limit c.in-On.next (sight c.take.new.self)) (find c.args.set c.args.limit state.Gap (begun c.args.seen.now.lines))
-          (heard_on Found (files.is_honest c.args.files.now) (files.is_honest c.loop-byte.files) (files.sources c.args.files.now) (files.sources c.loop-byte.files) (files.openings c.args.files.now) (files.openings c.loop-byte.files) (files.openings c.peek.new.files) c.args.window.now c.loop-byte.window c.peek.new.self
-          (find c.args.set c.args.limit c.loop-byte.state (sight c.loop-byte.seen)) (find c.args.set c.args.limit state.Gap (begun c.args.seen.now.lines)) inv.heard inv.honesty inv.sources peeked.reads) c.bump.ensures.given c.bump.ensures.over
-          (λ rest may. ap (λ (l : List ℕ). find c.args.set c.args.limit c.in-On.next (sight c.take.new.self) (l ++ rest)) c.bump.ensures.left
-          ∙ find_on c.args.set c.args.limit c.loop-byte.state c.in-On.next (sight c.loop-byte.seen) (sight c.take.new.self) c.in-Some.byte c.peek.new.self.left rest first
-          (ap (λ t. (t, sight c.take.new.self)) (sym c.in-On.is) ∙ c.in_ok-next.ensures.turn));
-      end = λ honest ends. ends_taken (files.sources c.args.files.now) (files.openings c.peek.new.files) c.peek.new.self c.bump.new.self c.bump.ensures.over
-          (ends_on (files.is_honest c.args.files.now) (files.is_honest c.loop-byte.files) (files.sources c.args.files.now) (files.sources c.loop-byte.files) (files.openings c.args.files.now) (files.openings c.loop-byte.files) (files.openings c.peek.new.files) c.args.window.now c.loop-byte.window c.peek.new.self inv.end inv.honesty inv.sources peeked.end honest ends);
-      room = omega (arith, less, some, inv.room, peeked.taken, c.bump.ensures.given, c.in_ok-next.ensures.few);
-      window = omega (arith, less, peeked.window);
-      few = omega (arith, c.bump.ensures.given, peeked.few);
-      more = omega (arith, c.bump.ensures.given, inv.more, peeked.more);
-      given = omega (arith, c.bump.ensures.given, inv.more, peeked.more, inv.given, peeked.given);
-      depth = peeked.depth ∙ inv.depth;
-      faults = omega (arith, peeked.faults, inv.faults);
-      sources = peeked.sources ∙ inv.sources;
-      honesty = peeked.honesty ∙ inv.honesty;
+      heard = heard_taken Found (files.is_honest c.args.files.now) (files.sources c.args.files.now) (files.openings c.args.files.now) (files.openings c.refill.new.files) c.args.window.now c.refill.new.self c.pass.new.self (find c.args.set c.args.limit c.windows.state (sight c.windows.seen)) (find c.args.set c.args.limit c.in-On.next (sight c.take_all.new.self)) (find c.args.set c.args.limit state.Gap (begun c.args.seen.now.lines))
+          (heard_on Found (files.is_honest c.args.files.now) (files.is_honest c.windows.files) (files.sources c.args.files.now) (files.sources c.windows.files) (files.openings c.args.files.now) (files.openings c.windows.files) (files.openings c.refill.new.files) c.args.window.now c.windows.window c.refill.new.self
+          (find c.args.set c.args.limit c.windows.state (sight c.windows.seen)) (find c.args.set c.args.limit state.Gap (begun c.args.seen.now.lines)) inv.heard inv.honesty inv.sources filled.reads) c.pass.ensures.given c.pass.ensures.over
+          (λ rest may. ap (λ (l : List ℕ). find c.args.set c.args.limit c.in-On.next (sight c.take_all.new.self) (l ++ rest)) c.pass.ensures.left
+          ∙ ap (λ (l : List ℕ). find c.args.set c.args.limit c.in-On.next (sight c.take_all.new.self) (drop c.in_ok-taken.taken l ++ rest)) (sym c.left-in-windows.ensures)
+          ∙ ap (λ (t : Turn). found_after c.args.set c.args.limit t (sight c.take_all.new.self) (drop c.in_ok-taken.taken c.left-in-windows.result.now ++ rest)) (sym c.in-On.is)
+          ∙ took.found rest
+          ∙ ap (λ (l : List ℕ). find c.args.set c.args.limit c.windows.state (sight c.windows.seen) (l ++ rest)) c.left-in-windows.ensures);
+      end = λ honest ends. ends_taken (files.sources c.args.files.now) (files.openings c.refill.new.files) c.refill.new.self c.pass.new.self c.pass.ensures.over
+          (ends_on (files.is_honest c.args.files.now) (files.is_honest c.windows.files) (files.sources c.args.files.now) (files.sources c.windows.files) (files.openings c.args.files.now) (files.openings c.windows.files) (files.openings c.refill.new.files) c.args.window.now c.windows.window c.refill.new.self inv.end inv.honesty inv.sources filled.end honest ends);
+      room = omega (arith, ap (λ (l : List ℕ). length l) c.pass.ensures.left, length-drop c.in_ok-taken.taken c.refill.new.self.left, ap (λ (l : List ℕ). length l) c.left-in-windows.ensures, inv.room, filled.taken, c.pass.ensures.given, took.few, took.within);
+      window = omega (arith, ap (λ (l : List ℕ). length l) c.pass.ensures.left, length-drop c.in_ok-taken.taken c.refill.new.self.left, filled.window);
+      few = omega (arith, c.pass.ensures.given, filled.few);
+      more = omega (arith, c.pass.ensures.given, inv.more, filled.more);
+      given = omega (arith, c.pass.ensures.given, inv.more, filled.more, inv.given, filled.given);
+      depth = filled.depth ∙ inv.depth;
+      faults = omega (arith, filled.faults, inv.faults);
+      sources = filled.sources ∙ inv.sources;
+      honesty = filled.honesty ∙ inv.honesty;
     }
 
-pub loop-byte-smaller : goal.loop-byte-smaller
-loop-byte-smaller g c =
-    let peeked = c.in_ok-byte.ensures in
-    let some = some_first c.peek.new.self.left c.in-Some.byte (sym peeked.first ∙ c.in-Some.is) in
-    let less : length c.bump.new.self.left ≡ length c.peek.new.self.left - 1 = ap (λ (l : List ℕ). length l) c.bump.ensures.left ∙ length-drop 1 c.peek.new.self.left in
-    omega (arith, less, some, peeked.taken, peeked.few, c.bump.ensures.given, c.loop-byte.invariant.few)
+pub windows-smaller : goal.windows-smaller
+windows-smaller g c =
+    let filled = c.in_ok-refill.ensures in
+    let took = c.in_ok-taken.ensures in
+    let some = some_left c.left.result.now (sym c.is_empty.ensures ∙ c.if-is_empty.false) in
+    omega (
+      arith,
+      some,
+      ap (λ (l : List ℕ). length l) c.left.ensures,
+      ap (λ (l : List ℕ). length l) c.left-in-windows.ensures,
+      took.all (ap is_on c.in-On.is),
+      ap (λ (l : List ℕ). length l) c.pass.ensures.left,
+      length-drop c.in_ok-taken.taken c.refill.new.self.left,
+      filled.taken,
+      filled.few,
+      filled.more,
+      c.pass.ensures.given,
+      c.windows.invariant.few,
+    )
 
-pub returns-in_default-clause-heard : goal.returns-in_default-clause-heard
-returns-in_default-clause-heard g c =
+pub returns-then-is_empty-clause-heard : goal.returns-then-is_empty-clause-heard
+returns-then-is_empty-clause-heard g c =
     let files = g.F.Files in
-    let inv = c.loop-byte.invariant in
-    let peeked = c.in_ok-byte.ensures in
-    heard_taken Found (files.is_honest c.args.files.now) (files.sources c.args.files.now) (files.openings c.args.files.now) (files.openings c.peek.new.files) c.args.window.now c.peek.new.self c.peek.new.self (find c.args.set c.args.limit c.loop-byte.state (sight c.loop-byte.seen)) (λ rest. record { ending = c.at_end.result; seen = sight c.mark.new.self; rest = rest }) (find c.args.set c.args.limit state.Gap (begun c.args.seen.now.lines))
-    (heard_on Found (files.is_honest c.args.files.now) (files.is_honest c.loop-byte.files) (files.sources c.args.files.now) (files.sources c.loop-byte.files) (files.openings c.args.files.now) (files.openings c.loop-byte.files) (files.openings c.peek.new.files) c.args.window.now c.loop-byte.window c.peek.new.self
-    (find c.args.set c.args.limit c.loop-byte.state (sight c.loop-byte.seen)) (find c.args.set c.args.limit state.Gap (begun c.args.seen.now.lines)) inv.heard inv.honesty inv.sources peeked.reads) refl refl
-    (λ rest may. ap (λ e. record { ending = e; seen = sight c.mark.new.self; rest = c.peek.new.self.left ++ rest }) c.at_end.ensures
-    ∙ find_end c.args.set c.args.limit c.loop-byte.state (sight c.loop-byte.seen) (sight c.mark.new.self) c.peek.new.self.left rest
-    (sym peeked.first ∙ c.in_default.is) (may (peeked.over (ap Ok c.in_default.is))) c.mark.ensures)
-
-pub returns-in_err-next-clause-end : goal.returns-in_err-next-clause-end
-returns-in_err-next-clause-end g c =
-    let files = g.F.Files in
-    let inv = c.loop-byte.invariant in
-    ends_on (files.is_honest c.args.files.now) (files.is_honest c.loop-byte.files) (files.sources c.args.files.now) (files.sources c.loop-byte.files) (files.openings c.args.files.now) (files.openings c.loop-byte.files) (files.openings c.peek.new.files) c.args.window.now c.loop-byte.window c.peek.new.self inv.end inv.honesty inv.sources c.in_ok-byte.ensures.end
-
-pub returns-in_err-next-clause-memory : goal.returns-in_err-next-clause-memory
-returns-in_err-next-clause-memory g c = λ memory honest.
-    let files = g.F.Files in
-    let inv = c.loop-byte.invariant in
-    quoted_from c.args.set c.args.limit c.loop-byte.state c.in-Some.byte (sight c.loop-byte.seen) (to_come (files.sources c.args.files.now) (files.openings c.loop-byte.files) c.loop-byte.window)
-    (find c.args.set c.args.limit state.Gap (begun c.args.seen.now.lines) (to_come (files.sources c.args.files.now) (files.openings c.args.files.now) c.args.window.now))
-    (c.in_err-next.ensures.memory refl)
-    (heard_source Found (files.is_honest c.args.files.now) (files.sources c.args.files.now) (files.openings c.args.files.now) (files.openings c.loop-byte.files) c.args.window.now c.loop-byte.window (find c.args.set c.args.limit c.loop-byte.state (sight c.loop-byte.seen))
-    (find c.args.set c.args.limit state.Gap (begun c.args.seen.now.lines)) inv.heard honest (inv.end honest))
+    let inv = c.windows.invariant in
+    let filled = c.in_ok-refill.ensures in
+    let empty = sym c.left.ensures ∙ none_left c.left.result.now (sym c.is_empty.ensures ∙ c.if-is_empty.true) in
+    heard_taken Found (files.is_honest c.args.files.now) (files.sources c.args.files.now) (files.openings c.args.files.now) (files.openings c.refill.new.files) c.args.window.now c.refill.new.self c.refill.new.self (find c.args.set c.args.limit c.windows.state (sight c.windows.seen)) (λ rest. record { ending = c.at_end.result; seen = sight c.mark.new.self; rest = rest }) (find c.args.set c.args.limit state.Gap (begun c.args.seen.now.lines))
+    (heard_on Found (files.is_honest c.args.files.now) (files.is_honest c.windows.files) (files.sources c.args.files.now) (files.sources c.windows.files) (files.openings c.args.files.now) (files.openings c.windows.files) (files.openings c.refill.new.files) c.args.window.now c.windows.window c.refill.new.self
+    (find c.args.set c.args.limit c.windows.state (sight c.windows.seen)) (find c.args.set c.args.limit state.Gap (begun c.args.seen.now.lines)) inv.heard inv.honesty inv.sources filled.reads) refl refl
+    (λ rest may. ap (λ e. record { ending = e; seen = sight c.mark.new.self; rest = c.refill.new.self.left ++ rest }) c.at_end.ensures
+    ∙ find_end c.args.set c.args.limit c.windows.state (sight c.windows.seen) (sight c.mark.new.self) c.refill.new.self.left rest
+    empty (may (filled.over empty)) c.mark.ensures)
 
 pub returns-in-Last-clause-heard : goal.returns-in-Last-clause-heard
 returns-in-Last-clause-heard g c =
     let files = g.F.Files in
-    let inv = c.loop-byte.invariant in
-    let peeked = c.in_ok-byte.ensures in
-    heard_taken Found (files.is_honest c.args.files.now) (files.sources c.args.files.now) (files.openings c.args.files.now) (files.openings c.peek.new.files) c.args.window.now c.peek.new.self c.bump-in-Last.new.self (find c.args.set c.args.limit c.loop-byte.state (sight c.loop-byte.seen)) (λ rest. record { ending = c.in-Last.ending; seen = sight c.take.new.self; rest = rest }) (find c.args.set c.args.limit state.Gap (begun c.args.seen.now.lines))
-    (heard_on Found (files.is_honest c.args.files.now) (files.is_honest c.loop-byte.files) (files.sources c.args.files.now) (files.sources c.loop-byte.files) (files.openings c.args.files.now) (files.openings c.loop-byte.files) (files.openings c.peek.new.files) c.args.window.now c.loop-byte.window c.peek.new.self
-    (find c.args.set c.args.limit c.loop-byte.state (sight c.loop-byte.seen)) (find c.args.set c.args.limit state.Gap (begun c.args.seen.now.lines)) inv.heard inv.honesty inv.sources peeked.reads) c.bump-in-Last.ensures.given c.bump-in-Last.ensures.over
-    (λ rest may. ap (λ (l : List ℕ). record { ending = c.in-Last.ending; seen = sight c.take.new.self; rest = l ++ rest }) c.bump-in-Last.ensures.left
-    ∙ find_last c.args.set c.args.limit c.loop-byte.state c.in-Last.ending (sight c.loop-byte.seen) (sight c.take.new.self) c.in-Some.byte c.peek.new.self.left rest
-    (sym peeked.first ∙ c.in-Some.is) (ap (λ t. (t, sight c.take.new.self)) (sym c.in-Last.is) ∙ c.in_ok-next.ensures.turn))
-
-pub returns-in-Last-clause-end : goal.returns-in-Last-clause-end
-returns-in-Last-clause-end g c = λ honest ends.
-    let files = g.F.Files in
-    let inv = c.loop-byte.invariant in
-    ends_taken (files.sources c.args.files.now) (files.openings c.peek.new.files) c.peek.new.self c.bump-in-Last.new.self c.bump-in-Last.ensures.over
-    (ends_on (files.is_honest c.args.files.now) (files.is_honest c.loop-byte.files) (files.sources c.args.files.now) (files.sources c.loop-byte.files) (files.openings c.args.files.now) (files.openings c.loop-byte.files) (files.openings c.peek.new.files) c.args.window.now c.loop-byte.window c.peek.new.self inv.end inv.honesty inv.sources c.in_ok-byte.ensures.end honest ends)
-
-pub returns-in-Last-clause-room : goal.returns-in-Last-clause-room
-returns-in-Last-clause-room g c =
-    let peeked = c.in_ok-byte.ensures in
-    let some = some_first c.peek.new.self.left c.in-Some.byte (sym peeked.first ∙ c.in-Some.is) in
-    let less : length c.bump-in-Last.new.self.left ≡ length c.peek.new.self.left - 1 = ap (λ (l : List ℕ). length l) c.bump-in-Last.ensures.left ∙ length-drop 1 c.peek.new.self.left in
-    omega (arith, less, some, c.loop-byte.invariant.room, peeked.taken, c.bump-in-Last.ensures.given, c.in_ok-next.ensures.few)
+    let inv = c.windows.invariant in
+    let filled = c.in_ok-refill.ensures in
+    let took = c.in_ok-taken.ensures in
+    heard_taken Found (files.is_honest c.args.files.now) (files.sources c.args.files.now) (files.openings c.args.files.now) (files.openings c.refill.new.files) c.args.window.now c.refill.new.self c.pass.new.self (find c.args.set c.args.limit c.windows.state (sight c.windows.seen)) (λ rest. record { ending = c.in-Last.ending; seen = sight c.take_all.new.self; rest = rest }) (find c.args.set c.args.limit state.Gap (begun c.args.seen.now.lines))
+    (heard_on Found (files.is_honest c.args.files.now) (files.is_honest c.windows.files) (files.sources c.args.files.now) (files.sources c.windows.files) (files.openings c.args.files.now) (files.openings c.windows.files) (files.openings c.refill.new.files) c.args.window.now c.windows.window c.refill.new.self
+    (find c.args.set c.args.limit c.windows.state (sight c.windows.seen)) (find c.args.set c.args.limit state.Gap (begun c.args.seen.now.lines)) inv.heard inv.honesty inv.sources filled.reads) c.pass.ensures.given c.pass.ensures.over
+    (λ rest may. ap (λ (l : List ℕ). record { ending = c.in-Last.ending; seen = sight c.take_all.new.self; rest = l ++ rest }) c.pass.ensures.left
+    ∙ ap (λ (l : List ℕ). record { ending = c.in-Last.ending; seen = sight c.take_all.new.self; rest = drop c.in_ok-taken.taken l ++ rest }) (sym c.left-in-windows.ensures)
+    ∙ ap (λ (t : Turn). found_after c.args.set c.args.limit t (sight c.take_all.new.self) (drop c.in_ok-taken.taken c.left-in-windows.result.now ++ rest)) (sym c.in-Last.is)
+    ∙ took.found rest
+    ∙ ap (λ (l : List ℕ). find c.args.set c.args.limit c.windows.state (sight c.windows.seen) (l ++ rest)) c.left-in-windows.ensures)
 
 pub returns-in-Behind-clause-heard : goal.returns-in-Behind-clause-heard
 returns-in-Behind-clause-heard g c =
     let files = g.F.Files in
-    let inv = c.loop-byte.invariant in
-    let peeked = c.in_ok-byte.ensures in
-    heard_taken Found (files.is_honest c.args.files.now) (files.sources c.args.files.now) (files.openings c.args.files.now) (files.openings c.peek.new.files) c.args.window.now c.peek.new.self c.peek.new.self (find c.args.set c.args.limit c.loop-byte.state (sight c.loop-byte.seen)) (λ rest. record { ending = c.in-Behind.ending; seen = sight c.take.new.self; rest = rest }) (find c.args.set c.args.limit state.Gap (begun c.args.seen.now.lines))
-    (heard_on Found (files.is_honest c.args.files.now) (files.is_honest c.loop-byte.files) (files.sources c.args.files.now) (files.sources c.loop-byte.files) (files.openings c.args.files.now) (files.openings c.loop-byte.files) (files.openings c.peek.new.files) c.args.window.now c.loop-byte.window c.peek.new.self
-    (find c.args.set c.args.limit c.loop-byte.state (sight c.loop-byte.seen)) (find c.args.set c.args.limit state.Gap (begun c.args.seen.now.lines)) inv.heard inv.honesty inv.sources peeked.reads) refl refl
-    (λ rest may. find_behind c.args.set c.args.limit c.loop-byte.state c.in-Behind.ending (sight c.loop-byte.seen) (sight c.take.new.self) c.in-Some.byte c.peek.new.self.left rest
-    (sym peeked.first ∙ c.in-Some.is) (ap (λ t. (t, sight c.take.new.self)) (sym c.in-Behind.is) ∙ c.in_ok-next.ensures.turn))
+    let inv = c.windows.invariant in
+    let filled = c.in_ok-refill.ensures in
+    let took = c.in_ok-taken.ensures in
+    heard_taken Found (files.is_honest c.args.files.now) (files.sources c.args.files.now) (files.openings c.args.files.now) (files.openings c.refill.new.files) c.args.window.now c.refill.new.self c.pass.new.self (find c.args.set c.args.limit c.windows.state (sight c.windows.seen)) (λ rest. record { ending = c.in-Behind.ending; seen = sight c.take_all.new.self; rest = rest }) (find c.args.set c.args.limit state.Gap (begun c.args.seen.now.lines))
+    (heard_on Found (files.is_honest c.args.files.now) (files.is_honest c.windows.files) (files.sources c.args.files.now) (files.sources c.windows.files) (files.openings c.args.files.now) (files.openings c.windows.files) (files.openings c.refill.new.files) c.args.window.now c.windows.window c.refill.new.self
+    (find c.args.set c.args.limit c.windows.state (sight c.windows.seen)) (find c.args.set c.args.limit state.Gap (begun c.args.seen.now.lines)) inv.heard inv.honesty inv.sources filled.reads) c.pass.ensures.given c.pass.ensures.over
+    (λ rest may. ap (λ (l : List ℕ). record { ending = c.in-Behind.ending; seen = sight c.take_all.new.self; rest = l ++ rest }) c.pass.ensures.left
+    ∙ ap (λ (l : List ℕ). record { ending = c.in-Behind.ending; seen = sight c.take_all.new.self; rest = drop c.in_ok-taken.taken l ++ rest }) (sym c.left-in-windows.ensures)
+    ∙ ap (λ (t : Turn). found_after c.args.set c.args.limit t (sight c.take_all.new.self) (drop c.in_ok-taken.taken c.left-in-windows.result.now ++ rest)) (sym c.in-Behind.is)
+    ∙ took.found rest
+    ∙ ap (λ (l : List ℕ). find c.args.set c.args.limit c.windows.state (sight c.windows.seen) (l ++ rest)) c.left-in-windows.ensures)
 
-pub returns-in-Behind-clause-end : goal.returns-in-Behind-clause-end
-returns-in-Behind-clause-end g c =
+pub returns-in_err-taken-clause-memory : goal.returns-in_err-taken-clause-memory
+returns-in_err-taken-clause-memory g c = λ memory honest.
     let files = g.F.Files in
-    let inv = c.loop-byte.invariant in
-    ends_on (files.is_honest c.args.files.now) (files.is_honest c.loop-byte.files) (files.sources c.args.files.now) (files.sources c.loop-byte.files) (files.openings c.args.files.now) (files.openings c.loop-byte.files) (files.openings c.peek.new.files) c.args.window.now c.loop-byte.window c.peek.new.self inv.end inv.honesty inv.sources c.in_ok-byte.ensures.end
+    let inv = c.windows.invariant in
+    let filled = c.in_ok-refill.ensures in
+    let sources = files.sources c.args.files.now in
+    let openings = files.openings c.refill.new.files in
+    let same = heard_source Found (files.is_honest c.args.files.now) sources (files.openings c.args.files.now) openings c.args.window.now c.refill.new.self (find c.args.set c.args.limit c.windows.state (sight c.windows.seen)) (find c.args.set c.args.limit state.Gap (begun c.args.seen.now.lines))
+    (heard_on Found (files.is_honest c.args.files.now) (files.is_honest c.windows.files) (files.sources c.args.files.now) (files.sources c.windows.files) (files.openings c.args.files.now) (files.openings c.windows.files) (files.openings c.refill.new.files) c.args.window.now c.windows.window c.refill.new.self
+    (find c.args.set c.args.limit c.windows.state (sight c.windows.seen)) (find c.args.set c.args.limit state.Gap (begun c.args.seen.now.lines)) inv.heard inv.honesty inv.sources filled.reads) honest
+    (ends_on (files.is_honest c.args.files.now) (files.is_honest c.windows.files) (files.sources c.args.files.now) (files.sources c.windows.files) (files.openings c.args.files.now) (files.openings c.windows.files) (files.openings c.refill.new.files) c.args.window.now c.windows.window c.refill.new.self inv.end inv.honesty inv.sources filled.end honest) in
+    ap (λ (f : Found). is_quoted f.ending) (sym same)
+    ∙ ap (λ (l : List ℕ). is_quoted (find c.args.set c.args.limit c.windows.state (sight c.windows.seen) (l ++ behind_view sources openings c.refill.new.self)).ending) (sym c.left-in-windows.ensures)
+    ∙ c.in_err-taken.ensures.memory refl (behind_view sources openings c.refill.new.self)

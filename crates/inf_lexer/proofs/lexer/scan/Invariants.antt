@@ -6,8 +6,8 @@ use Rattle.inf_scanner.specs.declared.scanner.State.TheVariants as state
 use Rattle.inf_lexer.proofs.lexer.scan.Given as goal
 
 -- what is read from here is the token from the start, and what was given since is in view or was taken
-abbrev pub invariant-loop-byte : goal.invariant-loop-byte
-invariant-loop-byte g l =
+abbrev pub invariant-windows : goal.invariant-windows
+invariant-windows g l =
     let files = g.F.Files in
     let sources = files.sources l.fn.files in
     record {
@@ -25,5 +25,5 @@ invariant-loop-byte g l =
       honesty : files.is_honest l.files ≡ files.is_honest l.fn.files;
     }
 
-abbrev pub decreases-loop-byte : goal.decreases-loop-byte
-decreases-loop-byte g l = 16777217 + length l.window.left - l.window.given
+abbrev pub decreases-windows : goal.decreases-windows
+decreases-windows g l = 16777217 + length l.window.left - l.window.given

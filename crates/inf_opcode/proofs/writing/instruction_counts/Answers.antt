@@ -15,18 +15,16 @@ pub returns-clause-value : goal.returns-clause-value
 returns-clause-value c =
     let make : ℕ → ℕ → ℕ → Counts = λ b l h. record { bytes = b; labels = l; holes = h } in
     let instruction = c.args.instruction.now in
-    let operands = instruction.operands.items in
+    let operands = instruction.operands.now in
     let head = heading (row_of instruction.opcode) operands in
     let a = plain head in
     let b = flat_map operand_cells operands in
     let s = store_cells instruction.store in
     let r = branch_cells instruction.branch in
     let all = counts_of (front_cells (parts_of instruction)) in
-    let read = c.as_slice-operands.ensures.value in
-    let given = c.operands_counts-given.ensures.value ∙ ap (λ xs. counts_of (flat_map operand_cells xs)) read in
-    let first : c.len-head.result ≡ length head =
-    c.len-head.ensures.value ∙ ap length (c.heading.ensures ∙ ap (λ row. heading row c.as_slice-operands.result.now) c.row.ensures.exact ∙ ap (heading (row_of instruction.opcode)) read) in
-    let bytes : c.len-head.result + c.operands_counts-given.result.bytes + c.store_len-store.result + 2 * c.branch_count-branch.result ≡ all.bytes =
+    let given = c.operands_counts-given.ensures.value in
+    let first : c.heading_len-head.result ≡ length head = c.heading_len-head.ensures.value ∙ ap (λ row. length (heading row operands)) c.row.ensures.exact in
+    let bytes : c.heading_len-head.result + c.operands_counts-given.result.bytes + c.store_len-store.result + 2 * c.branch_count-branch.result ≡ all.bytes =
     omega (arith, first, ap (λ x. x.bytes) given, c.store_len-store.ensures.bytes, c.branch_count-branch.ensures.bytes, length-long (a ++ b ++ s) r, length-long (a ++ b) s, length-long a b, ap length (long-plain head)) in
     let labels : c.operands_counts-given.result.labels + c.branch_count-branch.result ≡ all.labels =
     omega (arith, ap (λ x. x.labels) given, c.store_len-store.ensures.labels, c.branch_count-branch.ensures.labels, labels-append (a ++ b ++ s) r, labels-append (a ++ b) s, labels-append a b, labels-plain head) in

@@ -1,32 +1,43 @@
--- The parts stand one behind the other.
-use Rattle.std.proofs.Common.{ℕ, List, ◌++◌, ◌∙◌, ap, subst}
-use Rattle.std.specs.List.{flat_map}
-use Rattle.inf_opcode.specs.Cells.{plain}
+-- The bytes stand behind the others, and then what is kept of them.
+use Rattle.std.proofs.Common.{◌+◌, [], ◌++◌, length, sym, ◌∙◌, ap, append-nil, length-append}
+use Rattle.inf_opcode.specs.Cells.{long_bytes, kept_from}
 use Rattle.inf_opcode.specs.Grown.{Grew}
-use Rattle.inf_opcode.specs.declared.instructions.Operand.{Operand}
-use Rattle.inf_opcode.specs.Opcodes.{row_of}
-use Rattle.inf_opcode.specs.PartsOf.{text_of}
-use Rattle.inf_opcode.specs.Instructions.{heading, operand_cells, store_cells, branch_cells}
-use Rattle.inf_opcode.proofs.Growing.{grew_then, longer_then, on_err}
-use Rattle.inf_opcode.proofs.writing.write_instruction.Goals.{In_ok-write_branch}
+use Rattle.inf_opcode.specs.Instructions.{front_cells}
+use Rattle.inf_opcode.specs.PartsOf.{parts_of}
+use Rattle.inf_opcode.proofs.Growing.{grew_then, grew_plain, longer_by, on_err}
 use Rattle.inf_opcode.proofs.writing.write_instruction.Goals as goal
 
-pub returns-in_err-write_bytes-2-clause-err : goal.returns-in_err-write_bytes-2-clause-err
-returns-in_err-write_bytes-2-clause-err g c =
-    on_err c.from_residual-in_err-write_bytes-2.result
-    (longer_then (grew_then (grew_then (grew_then c.in_ok-write_bytes.ensures.ok c.in_ok-write_operands.ensures.ok) c.in_ok-write_store.ensures.ok) c.in_ok-write_branch.ensures.ok) c.in_err-write_bytes-2.ensures.err)
+pub keep_front-requires : goal.keep_front-requires
+keep_front-requires g c =
+    let bytes = g.A.Area.bytes c.args.area.now in
+    let front = long_bytes (front_cells (parts_of c.args.instruction.now)) in
+    c.len-end.ensures
+    ∙ ap length (c.in_ok-append.ensures.ok ∙ ap (λ xs. bytes ++ xs) (c.as_slice.ensures.value ∙ c.front_bytes.ensures))
+    ∙ length-append bytes front ∙ ap (λ n. n + length front) (sym c.len-start.ensures)
+
+pub returns-in_err-append-clause-err : goal.returns-in_err-append-clause-err
+returns-in_err-append-clause-err g c =
+    on_err c.from_residual.result
+    (longer_by _ _ [] _ _ [] (c.in_err-append.ensures.err ∙ sym (append-nil (g.A.Area.bytes c.args.area.now))) (sym (append-nil c.args.kept.now.items)))
+
+pub returns-in_err-keep_front-clause-err : goal.returns-in_err-keep_front-clause-err
+returns-in_err-keep_front-clause-err g c =
+    on_err c.from_residual-in_err-keep_front.result
+    (longer_by _ _ _ _ _ c.keep_front.ensures.longer.0 c.in_ok-append.ensures.ok c.keep_front.ensures.longer.1)
+
+pub returns-in_err-append_text-clause-err : goal.returns-in_err-append_text-clause-err
+returns-in_err-append_text-clause-err g c =
+    on_err c.from_residual-in_err-append_text.result
+    (longer_by _ _ _ _ _ c.keep_front.ensures.longer.0 (c.in_err-append_text.ensures.err ∙ c.in_ok-append.ensures.ok) c.keep_front.ensures.longer.1)
 
 pub returns-clause-ok : goal.returns-clause-ok
 returns-clause-ok g c =
-    let instruction = c.args.instruction.now in
-    let P : List ℕ → List Operand → List ℕ → Type 0 =
-    λ head operands text. Grew (g.A.Area.bytes c.args.area.now) c.args.kept.now.items
-    (plain head ++ flat_map operand_cells operands ++ store_cells instruction.store ++ branch_cells instruction.branch ++ plain text)
-    (g.A.Area.bytes c.write_bytes-2.new.area) c.write_bytes-2.new.kept.items in
-    let done : P c.as_slice.result.now c.as_slice-operands.result.now c.text_bytes.result.now =
-    grew_then (grew_then (grew_then (grew_then c.in_ok-write_bytes.ensures.ok c.in_ok-write_operands.ensures.ok) c.in_ok-write_store.ensures.ok) c.in_ok-write_branch.ensures.ok) c.in_ok-write_bytes-2.ensures.ok in
-    let head = c.as_slice.ensures.value ∙ c.heading-heading.ensures ∙ ap (λ row. heading row c.as_slice-operands.result.now) c.row.ensures.exact
-    ∙ ap (heading (row_of instruction.opcode)) c.as_slice-operands.ensures.value in
-    subst (λ xs. P xs instruction.operands.items (text_of instruction.text)) head
-    (subst (λ xs. P c.as_slice.result.now xs (text_of instruction.text)) c.as_slice-operands.ensures.value
-    (subst (λ xs. P c.as_slice.result.now c.as_slice-operands.result.now xs) c.text_bytes.ensures done))
+    let bytes = g.A.Area.bytes c.args.area.now in
+    let kept = c.args.kept.now.items in
+    let cells = front_cells (parts_of c.args.instruction.now) in
+    let front : Grew bytes kept cells (g.A.Area.bytes c.append.new.self) c.keep_front.new.kept.items =
+    record {
+      bytes = c.in_ok-append.ensures.ok ∙ ap (λ xs. bytes ++ xs) (c.as_slice.ensures.value ∙ c.front_bytes.ensures);
+      kept = c.in_ok-keep_front.ensures.ok ∙ ap (λ n. kept ++ kept_from n cells) c.len-start.ensures;
+    } in
+    grew_then front (grew_plain _ _ _ _ c.in_ok-append_text.ensures.ok)

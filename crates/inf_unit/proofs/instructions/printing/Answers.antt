@@ -6,9 +6,9 @@ use Rattle.inf_unit.proofs.Emitting.{print_is_proper, straight_print}
 use Rattle.inf_unit.proofs.instructions.printing.Goals as goal
 
 pub returns-clause-proper : goal.returns-clause-proper
-returns-clause-proper c = subst IsProper (sym c.with_text.ensures) (print_is_proper c.args.packed.items c.requires)
+returns-clause-proper c = subst IsProper (sym c.with_text.ensures) (print_is_proper c.args.packed.now c.requires)
 
 pub returns-clause-straight : goal.returns-clause-straight
 returns-clause-straight c =
     let IsStraight : Parts → Type 0 = λ parts. label_count (instruction_cells parts) ≡ 0 in
-    subst IsStraight (sym c.with_text.ensures) (straight_print c.args.packed.items)
+    subst IsStraight (sym c.with_text.ensures) (straight_print c.args.packed.now)

@@ -1,0 +1,13 @@
+use Rattle.std.proofs.Common.{◌-◌, ◌≤◌, take, drop, length, sym, ap, subst, ◌∙◌, arith, length-take}
+use Rattle.inf_lexer.specs.Unread.{View}
+use Rattle.inf_lexer.proofs.Giving.{window_behind}
+use Rattle.inf_lexer.proofs.window.Window.pass.Goals as goal
+
+pub returns-clause-left : goal.returns-clause-left
+returns-clause-left c =
+    let inside = c.self.inside in
+    let some : c.args.n ≤ length (take (inside.end - inside.next) (drop inside.next inside.buffer)) =
+    subst (λ (v : View). c.args.n ≤ length v.left) (sym c.self.view_is) c.requires in
+    window_behind c.args.n inside.next inside.end inside.buffer
+    (omega (arith, some, c.self.invariant.0, length-take (inside.end - inside.next) (drop inside.next inside.buffer)))
+    ∙ ap (λ (v : View). drop c.args.n v.left) c.self.view_is

@@ -1,0 +1,14 @@
+use Rattle.std.proofs.Common.{◌≡◌, ◌≤◌, ◌+◌, ◌*◌, ◌++◌, take, length}
+use Rattle.std.specs.List.{flat_map}
+use Rattle.inf_opcode.specs.Cells.{long_bytes}
+use Rattle.inf_opcode.specs.Opcodes.{row_of}
+use Rattle.inf_opcode.specs.Instructions.{heading, operand_cells}
+use Rattle.inf_opcode.proofs.writing.front_bytes.Given as goal
+
+-- the operands so far are written behind the heading
+abbrev pub invariant-loop-operand : goal.invariant-loop-operand
+invariant-loop-operand l =
+    record {
+      bytes : l.bytes.items ≡ heading (row_of l.fn.instruction.opcode) l.operands ++ long_bytes (flat_map operand_cells (take l.operand-index l.operands));
+      few : length l.bytes.items ≤ 4 + 2 * l.operand-index;
+    }

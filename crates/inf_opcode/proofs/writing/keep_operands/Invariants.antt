@@ -1,0 +1,14 @@
+use Rattle.std.proofs.Common.{◌≡◌, ◌+◌, ◌++◌, take, length}
+use Rattle.std.specs.List.{flat_map}
+use Rattle.inf_opcode.specs.Cells.{long_bytes, kept_from}
+use Rattle.inf_opcode.specs.Instructions.{operand_cells}
+use Rattle.inf_opcode.proofs.writing.keep_operands.Given as goal
+
+-- the operands so far are kept
+abbrev pub invariant-loop-operand : goal.invariant-loop-operand
+invariant-loop-operand l =
+    let cells = flat_map operand_cells (take l.operand-index l.operands) in
+    record {
+      kept : l.kept.items ≡ l.fn.kept.items ++ kept_from l.fn.first cells;
+      place : l.place ≡ l.fn.first + length (long_bytes cells);
+    }
