@@ -25,12 +25,12 @@ CRATE = os.path.join(HERE, "crates", "inf_grammar")
 
 MARKS = {
     "->": "Arrow", "-->": "LongArrow", "-": "Minus", "--": "Decrement", "+": "Plus", "++": "Increment",
-    "*": "Star", "/": "Slash", "%": "Percent", "&": "And", "&&": "LogicalAnd", "|": "Or",
-    "||": "LogicalOr", "~": "Tilde", "~~": "LogicalNot", "~=": "NotEqual", "=": "Assign", "==": "Equal",
-    ">": "Greater", ">=": "GreaterOrEqual", "<": "Less", "<=": "LessOrEqual", "<<": "OpenAngles",
-    ">>": "CloseAngles", ",": "Comma", ";": "Semicolon", ":": "Colon", "(": "OpenParenthesis",
+    "*": "Times", "/": "Divide", "%": "Remainder", "&": "BitAnd", "&&": "LogicalAnd", "|": "BitOr",
+    "||": "LogicalOr", "~": "BitNot", "~~": "LogicalNot", "~=": "NotEqual", "=": "Assign", "==": "Equal",
+    ">": "Greater", ">=": "GreaterOrEqual", "<": "Less", "<=": "LessOrEqual", "<<": "DoubleLess",
+    ">>": "DoubleGreater", ",": "Comma", ";": "Semicolon", ":": "Colon", "(": "OpenParenthesis",
     ")": "CloseParenthesis", "[": "OpenBracket", "]": "CloseBracket", "{": "OpenBrace", "}": "CloseBrace",
-    ".": "Dot", ".&": "DotAddress", ".#": "DotLength", "#": "Hash", "##": "DoubleHash",
+    ".": "Dot", ".&": "DotAnd", ".#": "DotHash", "#": "Hash", "##": "DoubleHash",
     "?": "Question", "@": "At",
 }
 LITERALS = ["NUMBER", "CHAR", "WORD", "TEXT"]
@@ -292,7 +292,7 @@ class Tables:
         out = ["-- The classes of tokens, as sets of atoms. Made from docs/grammar.txt.",
                "use Rattle.std.specs.Prelude.{ℕ, List, [], ◌∷◌, codes}",
                "use Rattle.inf_grammar.specs.Atoms.{of_mark, of_word, name, classname, number, char, word_literal, text, joined, without}",
-               "use Rattle.inf_grammar.specs.declared.marks.Mark.TheVariants as mark", ""]
+               "use Rattle.inf_scanner.specs.declared.tokens.Mark.TheVariants as mark", ""]
         for kind, made in self.page.classes.items():
             out += [f"abbrev pub {kind.lower()} : ℕ", f"{kind.lower()} = {self.made_term(made)}", ""]
         out += ["-- each class, in the order of its number", "abbrev pub classes : List ℕ", "classes ="]

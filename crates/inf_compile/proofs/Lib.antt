@@ -1,4 +1,4 @@
-pub mod Loading
+pub mod Reading
+pub mod Endings
 pub mod WordSteps
 pub mod Stems
-pub mod Outcomes

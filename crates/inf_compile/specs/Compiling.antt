@@ -1,8 +1,10 @@
 -- What a compilation leaves in its devices.
-use Rattle.std.specs.Prelude.{◌≡◌, ℕ, ◌<◌, ◌≤◌, List, [], ◌∷◌, ◌++◌, length, take, true, Option, Some, None, IfSome, string_bytes, min, ◌+◌}
+use Rattle.std.specs.Prelude.{◌≡◌, ℕ, ◌<◌, ◌≤◌, List, [], ◌∷◌, ◌++◌, length, take, Bool, true, IsTrue, Option, Some, None, string_bytes, min, ◌+◌}
 use Rattle.inf_token.specs.Files.{Opening, Openings, Sources, last_count}
 use Rattle.inf_symbol.specs.Sinks.{Takes}
-use Rattle.inf_reader.specs.Outcome.{Ending}
+use Rattle.inf_reader.specs.Outcome.{Ending, outcome}
+use Rattle.inf_reader.specs.Reading.{compiled}
+use Rattle.inf_reader.specs.declared.mode.Mode.TheVariants as mode
 use Rattle.inf_reader.specs.declared.outcome.Status.{Status}
 use Rattle.inf_compile.specs.declared.compile.Fault.{Fault}
 use Rattle.inf_compile.specs.declared.compile.Fault.TheVariants as fault
@@ -24,22 +26,35 @@ GaveTooMuch before now = min (before + (most_source_bytes + 1)) last_count ≤ n
 abbrev pub with_openings : Openings → List Opening → Openings
 with_openings old more = record { all = old.all ++ more; open_places = old.open_places }
 
--- the opening of a source of this name that was read to its end, if it is there
-abbrev pub opening_of : List ℕ → Option (List ℕ) → List Opening
-opening_of name None = []
-opening_of name (Some source) = record { name = name; given = source; is_read_out = true } ∷ []
-
 -- the bytes that a story's sink took: those of the story, or none at all
 abbrev pub TakesStory : Option (List ℕ) → Option (List ℕ) → Option (List ℕ) → Type 0
 TakesStory None old new = new ≡ old
 TakesStory (Some story) old new = Takes old new story
 
--- The source that an honest reader of files gave is the one that it has, with at most the bytes that a source may have,
--- and it was opened once and read to its end.
-pub record IsSource (sources : Sources) (name : List ℕ) (old new : Openings) (given : Option (List ℕ)) : Type 0 where
-  pub same : given ≡ sources name
-  pub fits : IfSome given (λ source. length source ≤ most_source_bytes)
-  pub openings : new ≡ with_openings old (opening_of name given)
+-- What an honest reader of files gave of a source: a front of it, of at most the bytes that a source may have. It was opened once
+-- and closed again. At most 4,096 bytes were given behind the last token that was read, and where reading came to the end, all
+-- bytes were, and the end was read.
+pub record IsRead (name source : List ℕ) (old new : Openings) : Type 0 where
+  pub given : List ℕ
+  pub rest : List ℕ
+  pub is_read_out : Bool
+  pub whole : source ≡ given ++ rest
+  pub fits : length given ≤ most_source_bytes
+  pub opened : new ≡ with_openings old (record { name = name; given = given; is_read_out = is_read_out } ∷ [])
+  pub near : length given + length (compiled name source).cursor.rest ≤ length source + 4096
+  pub to_end : (compiled name source).reading.mode ≡ mode.Ended → (rest ≡ []) × (is_read_out ≡ true)
+
+-- the source of this name, if there is one; where there is none, nothing is opened
+abbrev pub IsSource : List ℕ → Option (List ℕ) → Openings → Openings → Type 0
+IsSource name None old new = new ≡ old
+IsSource name (Some source) old new = IsRead name source old new
+
+-- What comes of the source of this name is the outcome of some source, and with an honest reader of the one that it has.
+pub record Comes (is_honest : Bool) (sources : Sources) (name : List ℕ) (old new : Openings) (serial : List ℕ) (e : Ending) : Type 0 where
+  pub given : Option (List ℕ)
+  pub is_outcome : e ≡ outcome serial name given
+  pub same : IsTrue is_honest → given ≡ sources name
+  pub read : IsTrue is_honest → IsSource name (sources name) old new
 
 -- Both sinks took what the outcome says: all messages, and the story or nothing.
 pub record Delivers (o : Ending) (messages_old messages_new story_old story_new : Option (List ℕ)) : Type 0 where

@@ -1,4 +1,3 @@
 pub mod Words
 pub mod Dates
 pub mod Compiling
-pub mod Loading

@@ -1,4 +1,4 @@
-ghost use Rattle.std.specs.Prelude.{◌≡◌, IfOk, map};
+ghost use Rattle.std.specs.Prelude.{◌≡◌, ◌<◌, IfOk, length, map};
 ghost use Rattle.std.specs.Option.{option_copied};
 ghost use Rattle.std.specs.String.{string_bytes};
 ghost use Rattle.inf_compile.specs.Words.{no_words, take_word, choice_of, read_words, stem, source_name, story_name};
@@ -132,8 +132,10 @@ fn stem_of(name: &str) -> Option<&str>
 /// The name of the source's file: the word, with `.inf` where its last part has no extension.
 ///
 /// The only error is that no memory was left.
+#[tactic(auto, using(crate::proofs::Reading::source_name_some))]
 pub fn source_name(alloc: Global, options: &Options<'_>) -> Result<String, AllocError>
-    ensures { IfOk result (λ s. string_bytes s ≡ source_name options.now.source) }
+    ensures bytes { IfOk result (λ s. string_bytes s ≡ source_name options.now.source) }
+    ensures some { IfOk result (λ s. 0 < length (string_bytes s)) }
 {
     let mut name = String::from_str(alloc, options.source)?;
     if stem_of(options.source).is_none() {

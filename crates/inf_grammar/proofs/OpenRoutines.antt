@@ -14,7 +14,7 @@ use Rattle.inf_machine.proofs.Sets.{has_and, has_zero}
 use Rattle.inf_machine.proofs.Taking.{choice, chosen_fits, chosen_less, some_work, taken_row}
 use Rattle.inf_machine.proofs.TokenLaws.{bad_tokens_begin_nothing}
 use Rattle.inf_grammar.specs.declared.actions.Action.{Action}
-use Rattle.inf_grammar.specs.declared.marks.Mark.TheVariants as mark
+use Rattle.inf_scanner.specs.declared.tokens.Mark.TheVariants as mark
 use Rattle.inf_grammar.specs.Atoms.{mark_atom, of_word}
 use Rattle.inf_grammar.specs.Brackets.{open_behind, open_behind_all, begin_array, is_bracket_open, OpenRoutinesAreBracketed, LeftRoutinesAreBracketed}
 use Rattle.inf_grammar.specs.Evaluated.{language_is_decided, rows_past}

@@ -5,8 +5,8 @@ use Rattle.std.specs.Str.{str_eq_ignore_ascii_case}
 use Rattle.inf_grammar.specs.Words.{words}
 use Rattle.inf_grammar.specs.declared.atoms.Token.{Token as Seen}
 use Rattle.inf_grammar.specs.declared.atoms.Token.TheVariants as seen
-use Rattle.inf_grammar.specs.declared.marks.Mark.{Mark}
-use Rattle.inf_grammar.specs.declared.marks.Mark.TheVariants as mark
+use Rattle.inf_scanner.specs.declared.tokens.Mark.{Mark}
+use Rattle.inf_scanner.specs.declared.tokens.Mark.TheVariants as mark
 
 abbrev pub mark_atom : Mark → ℕ
 mark_atom mark.Arrow = 0
@@ -15,14 +15,14 @@ mark_atom mark.Minus = 2
 mark_atom mark.Decrement = 3
 mark_atom mark.Plus = 4
 mark_atom mark.Increment = 5
-mark_atom mark.Star = 6
-mark_atom mark.Slash = 7
-mark_atom mark.Percent = 8
-mark_atom mark.And = 9
+mark_atom mark.Times = 6
+mark_atom mark.Divide = 7
+mark_atom mark.Remainder = 8
+mark_atom mark.BitAnd = 9
 mark_atom mark.LogicalAnd = 10
-mark_atom mark.Or = 11
+mark_atom mark.BitOr = 11
 mark_atom mark.LogicalOr = 12
-mark_atom mark.Tilde = 13
+mark_atom mark.BitNot = 13
 mark_atom mark.LogicalNot = 14
 mark_atom mark.NotEqual = 15
 mark_atom mark.Assign = 16
@@ -31,8 +31,8 @@ mark_atom mark.Greater = 18
 mark_atom mark.GreaterOrEqual = 19
 mark_atom mark.Less = 20
 mark_atom mark.LessOrEqual = 21
-mark_atom mark.OpenAngles = 22
-mark_atom mark.CloseAngles = 23
+mark_atom mark.DoubleLess = 22
+mark_atom mark.DoubleGreater = 23
 mark_atom mark.Comma = 24
 mark_atom mark.Semicolon = 25
 mark_atom mark.Colon = 26
@@ -43,8 +43,8 @@ mark_atom mark.CloseBracket = 30
 mark_atom mark.OpenBrace = 31
 mark_atom mark.CloseBrace = 32
 mark_atom mark.Dot = 33
-mark_atom mark.DotAddress = 34
-mark_atom mark.DotLength = 35
+mark_atom mark.DotAnd = 34
+mark_atom mark.DotHash = 35
 mark_atom mark.Hash = 36
 mark_atom mark.DoubleHash = 37
 mark_atom mark.Question = 38

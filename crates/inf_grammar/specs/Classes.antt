@@ -1,7 +1,7 @@
 -- The classes of tokens, as sets of atoms. Made from docs/grammar.txt.
 use Rattle.std.specs.Prelude.{ℕ, List, [], ◌∷◌, codes}
 use Rattle.inf_grammar.specs.Atoms.{of_mark, of_word, name, classname, number, char, word_literal, text, joined, without}
-use Rattle.inf_grammar.specs.declared.marks.Mark.TheVariants as mark
+use Rattle.inf_scanner.specs.declared.tokens.Mark.TheVariants as mark
 
 abbrev pub operand : ℕ
 operand = without name (of_word (codes "has") ∷ of_word (codes "hasnt") ∷ of_word (codes "in") ∷ of_word (codes "notin") ∷ of_word (codes "ofclass") ∷ of_word (codes "provides") ∷ of_word (codes "or") ∷ of_word (codes "to") ∷ [])
@@ -104,9 +104,9 @@ classes =
     ∷ (of_word (codes "has"))
     ∷ (of_mark mark.Minus)
     ∷ barename
-    ∷ (of_mark mark.Tilde)
-    ∷ (of_mark mark.Star)
-    ∷ (of_mark mark.Slash)
+    ∷ (of_mark mark.BitNot)
+    ∷ (of_mark mark.Times)
+    ∷ (of_mark mark.Divide)
     ∷ (of_word (codes "reverse"))
     ∷ (of_mark mark.LogicalNot)
     ∷ (of_mark mark.LogicalAnd)
@@ -124,13 +124,13 @@ classes =
     ∷ (of_word (codes "provides"))
     ∷ (of_word (codes "or"))
     ∷ (of_mark mark.Plus)
-    ∷ (of_mark mark.Percent)
-    ∷ (of_mark mark.And)
-    ∷ (of_mark mark.Or)
+    ∷ (of_mark mark.Remainder)
+    ∷ (of_mark mark.BitAnd)
+    ∷ (of_mark mark.BitOr)
     ∷ (of_mark mark.Increment)
     ∷ (of_mark mark.Decrement)
-    ∷ (of_mark mark.DotAddress)
-    ∷ (of_mark mark.DotLength)
+    ∷ (of_mark mark.DotAnd)
+    ∷ (of_mark mark.DotHash)
     ∷ (of_mark mark.Dot)
     ∷ (of_mark mark.OpenParenthesis)
     ∷ (of_mark mark.CloseParenthesis)
@@ -161,8 +161,8 @@ classes =
     ∷ (of_word (codes "new_line"))
     ∷ (of_mark mark.OpenBrace)
     ∷ (of_mark mark.CloseBrace)
-    ∷ (of_mark mark.OpenAngles)
-    ∷ (of_mark mark.CloseAngles)
+    ∷ (of_mark mark.DoubleLess)
+    ∷ (of_mark mark.DoubleGreater)
     ∷ (of_mark mark.At)
     ∷ (of_word (codes "else"))
     ∷ (of_word (codes "until"))

@@ -182,14 +182,14 @@ abbrev pub 'minus' : Symbol Action
 abbrev pub BARENAME : Symbol Action
 BARENAME = Token 58
 
-abbrev pub 'tilde' : Symbol Action
-'tilde' = Token 59
+abbrev pub 'bit_not' : Symbol Action
+'bit_not' = Token 59
 
-abbrev pub 'star' : Symbol Action
-'star' = Token 60
+abbrev pub 'times' : Symbol Action
+'times' = Token 60
 
-abbrev pub 'slash' : Symbol Action
-'slash' = Token 61
+abbrev pub 'divide' : Symbol Action
+'divide' = Token 61
 
 abbrev pub 'reverse' : Symbol Action
 'reverse' = Token 62
@@ -236,20 +236,20 @@ abbrev pub 'ofclass' : Symbol Action
 abbrev pub 'provides' : Symbol Action
 'provides' = Token 76
 
-abbrev pub 'or_word' : Symbol Action
-'or_word' = Token 77
+abbrev pub 'or' : Symbol Action
+'or' = Token 77
 
 abbrev pub 'plus' : Symbol Action
 'plus' = Token 78
 
-abbrev pub 'percent' : Symbol Action
-'percent' = Token 79
+abbrev pub 'remainder' : Symbol Action
+'remainder' = Token 79
 
-abbrev pub 'and' : Symbol Action
-'and' = Token 80
+abbrev pub 'bit_and' : Symbol Action
+'bit_and' = Token 80
 
-abbrev pub 'or' : Symbol Action
-'or' = Token 81
+abbrev pub 'bit_or' : Symbol Action
+'bit_or' = Token 81
 
 abbrev pub 'increment' : Symbol Action
 'increment' = Token 82
@@ -257,11 +257,11 @@ abbrev pub 'increment' : Symbol Action
 abbrev pub 'decrement' : Symbol Action
 'decrement' = Token 83
 
-abbrev pub 'dot_address' : Symbol Action
-'dot_address' = Token 84
+abbrev pub 'dot_and' : Symbol Action
+'dot_and' = Token 84
 
-abbrev pub 'dot_length' : Symbol Action
-'dot_length' = Token 85
+abbrev pub 'dot_hash' : Symbol Action
+'dot_hash' = Token 85
 
 abbrev pub 'dot' : Symbol Action
 'dot' = Token 86
@@ -353,11 +353,11 @@ abbrev pub 'open_brace' : Symbol Action
 abbrev pub 'close_brace' : Symbol Action
 'close_brace' = Token 115
 
-abbrev pub 'open_angles' : Symbol Action
-'open_angles' = Token 116
+abbrev pub 'double_less' : Symbol Action
+'double_less' = Token 116
 
-abbrev pub 'close_angles' : Symbol Action
-'close_angles' = Token 117
+abbrev pub 'double_greater' : Symbol Action
+'double_greater' = Token 117
 
 abbrev pub 'at' : Symbol Action
 'at' = Token 118

@@ -3,7 +3,7 @@ use Rattle.std.specs.Prelude.{List, [], ◌∷◌}
 use Rattle.inf_machine.specs.Grammar.{Row}
 use Rattle.inf_grammar.specs.declared.actions.Action.{Action}
 use Rattle.inf_grammar.specs.Rows.{row}
-use Rattle.inf_grammar.specs.Parts.{ !and, !assign, !bit_and, !bit_not, !bit_or, !byte_entry, !comma, !count, !divide, !end_attribute, !end_class, !end_directive, !end_embedded, !end_entry, !end_header, !end_line, !end_locals, !end_property, !end_routine, !end_text, !end_value, !equal, !greater, !greater_or_equal, !has, !has_not, !in, !less, !less_or_equal, !minus, !name, !negate, !not, !not_in, !of_class, !or, !outer, !part, !plus, !provides, !remainder, !routine, !times, !unequal, !word_entry, 'abbreviate', 'additive', 'alias', 'and', 'array', 'arrow', 'assign', 'attribute', 'class', 'close_bracket', 'comma', 'constant', 'default', 'end', 'endif', 'equal', 'error', 'extend', 'fake_action', 'fatalerror', 'first', 'global', 'greater', 'greater_or_equal', 'has', 'hash', 'hasnt', 'ifdef', 'iffalse', 'ifndef', 'ifnot', 'iftrue', 'in', 'include', 'last', 'less', 'less_or_equal', 'logical_and', 'logical_not', 'logical_or', 'long_arrow', 'lowstring', 'message', 'meta', 'minus', 'nearby', 'not_equal', 'notin', 'object', 'ofclass', 'open_bracket', 'or', 'or_word', 'percent', 'plus', 'property', 'provides', 'release', 'replace', 'reverse', 'semicolon', 'serial', 'slash', 'star', 'string', 'stub', 'switches', 'system_file', 'table', 'tilde', 'verb', 'warning', 'with', BARENAME, BODYNAME, NAME, NOTADDITIVE, NOTALIAS, NUMBER, OFCLASS, TEXT, WORD, after_prim, after_unary, array_entry, array_operator, array_tail, assign, assign_tail, assign_tail_1, attribute, attribute_1, bare_prim, bit, body, directive, directive_1, directive_10, directive_11, directive_12, directive_13, directive_14, directive_15, directive_2, directive_3, directive_4, directive_5, directive_6, directive_7, directive_8, directive_9, entry, expression_tail, file, inc, initial, initial_1, line, line_1, line_2, line_3, line_4, logic, logic_operator, logic_tail, neg, negated, object, object_1, object_2, object_3, object_4, other_assign, other_prim, part, part_1, part_2, piece, prefixed, prim, properties, properties_1, property, property_1, property_2, step_prefix, sum, sum_operator, sum_tail, term, term_operator, term_tail, test, test_tail, test_tail_1, tested, tested_1, top_item, value, value_1, value_2, value_3, whole_directive, whole_directive_1, whole_directive_2, whole_directive_3, whole_directive_4, whole_directive_5, whole_directive_6}
+use Rattle.inf_grammar.specs.Parts.{ !and, !assign, !bit_and, !bit_not, !bit_or, !byte_entry, !comma, !count, !divide, !end_attribute, !end_class, !end_directive, !end_embedded, !end_entry, !end_header, !end_line, !end_locals, !end_property, !end_routine, !end_text, !end_value, !equal, !greater, !greater_or_equal, !has, !has_not, !in, !less, !less_or_equal, !minus, !name, !negate, !not, !not_in, !of_class, !or, !outer, !part, !plus, !provides, !remainder, !routine, !times, !unequal, !word_entry, 'abbreviate', 'additive', 'alias', 'array', 'arrow', 'assign', 'attribute', 'bit_and', 'bit_not', 'bit_or', 'class', 'close_bracket', 'comma', 'constant', 'default', 'divide', 'end', 'endif', 'equal', 'error', 'extend', 'fake_action', 'fatalerror', 'first', 'global', 'greater', 'greater_or_equal', 'has', 'hash', 'hasnt', 'ifdef', 'iffalse', 'ifndef', 'ifnot', 'iftrue', 'in', 'include', 'last', 'less', 'less_or_equal', 'logical_and', 'logical_not', 'logical_or', 'long_arrow', 'lowstring', 'message', 'meta', 'minus', 'nearby', 'not_equal', 'notin', 'object', 'ofclass', 'open_bracket', 'or', 'plus', 'property', 'provides', 'release', 'remainder', 'replace', 'reverse', 'semicolon', 'serial', 'string', 'stub', 'switches', 'system_file', 'table', 'times', 'verb', 'warning', 'with', BARENAME, BODYNAME, NAME, NOTADDITIVE, NOTALIAS, NUMBER, OFCLASS, TEXT, WORD, after_prim, after_unary, array_entry, array_operator, array_tail, assign, assign_tail, assign_tail_1, attribute, attribute_1, bare_prim, bit, body, directive, directive_1, directive_10, directive_11, directive_12, directive_13, directive_14, directive_15, directive_2, directive_3, directive_4, directive_5, directive_6, directive_7, directive_8, directive_9, entry, expression_tail, file, inc, initial, initial_1, line, line_1, line_2, line_3, line_4, logic, logic_operator, logic_tail, neg, negated, object, object_1, object_2, object_3, object_4, other_assign, other_prim, part, part_1, part_2, piece, prefixed, prim, properties, properties_1, property, property_1, property_2, step_prefix, sum, sum_operator, sum_tail, term, term_operator, term_tail, test, test_tail, test_tail_1, tested, tested_1, top_item, value, value_1, value_2, value_3, whole_directive, whole_directive_1, whole_directive_2, whole_directive_3, whole_directive_4, whole_directive_5, whole_directive_6}
 
 abbrev pub rules_1 : List (List (Row Action))
 rules_1 =
@@ -236,11 +236,11 @@ rules_1 =
     ∷ (row (attribute_1 ∷ !end_attribute ∷ [])
     ∷ [])
     -- attribute_1
-    ∷ (row ('tilde' ∷ BODYNAME ∷ [])
+    ∷ (row ('bit_not' ∷ BODYNAME ∷ [])
     ∷ row (BODYNAME ∷ [])
     ∷ [])
     -- line
-    ∷ (row ('star' ∷ line_1 ∷ 'arrow' ∷ NAME ∷ line_4 ∷ !end_line ∷ [])
+    ∷ (row ('times' ∷ line_1 ∷ 'arrow' ∷ NAME ∷ line_4 ∷ !end_line ∷ [])
     ∷ [])
     -- line_1
     ∷ (row (NAME ∷ line_2 ∷ line_1 ∷ [])
@@ -252,7 +252,7 @@ rules_1 =
     ∷ row []
     ∷ [])
     -- line_3
-    ∷ (row ('slash' ∷ WORD ∷ line_3 ∷ [])
+    ∷ (row ('divide' ∷ WORD ∷ line_3 ∷ [])
     ∷ row []
     ∷ [])
     -- line_4
@@ -278,7 +278,7 @@ rules_1 =
     ∷ [])
     -- prefixed
     ∷ (row ('logical_not' ∷ negated ∷ !not ∷ logic_tail ∷ assign_tail ∷ [])
-    ∷ row ('tilde' ∷ bit ∷ !bit_not ∷ term_tail ∷ sum_tail ∷ test_tail ∷ logic_tail ∷ assign_tail ∷ [])
+    ∷ row ('bit_not' ∷ bit ∷ !bit_not ∷ term_tail ∷ sum_tail ∷ test_tail ∷ logic_tail ∷ assign_tail ∷ [])
     ∷ row (step_prefix ∷ after_unary ∷ [])
     ∷ [])
     -- assign_tail
@@ -328,7 +328,7 @@ rules_1 =
     ∷ (row (!count ∷ sum ∷ !part ∷ tested_1 ∷ [])
     ∷ [])
     -- tested_1
-    ∷ (row ('or_word' ∷ sum ∷ !part ∷ tested_1 ∷ [])
+    ∷ (row ('or' ∷ sum ∷ !part ∷ tested_1 ∷ [])
     ∷ row []
     ∷ [])
     -- sum
@@ -350,14 +350,14 @@ rules_1 =
     ∷ row []
     ∷ [])
     -- term_operator
-    ∷ (row ('star' ∷ bit ∷ !times ∷ [])
-    ∷ row ('slash' ∷ bit ∷ !divide ∷ [])
-    ∷ row ('percent' ∷ bit ∷ !remainder ∷ [])
-    ∷ row ('and' ∷ bit ∷ !bit_and ∷ [])
-    ∷ row ('or' ∷ bit ∷ !bit_or ∷ [])
+    ∷ (row ('times' ∷ bit ∷ !times ∷ [])
+    ∷ row ('divide' ∷ bit ∷ !divide ∷ [])
+    ∷ row ('remainder' ∷ bit ∷ !remainder ∷ [])
+    ∷ row ('bit_and' ∷ bit ∷ !bit_and ∷ [])
+    ∷ row ('bit_or' ∷ bit ∷ !bit_or ∷ [])
     ∷ [])
     -- bit
-    ∷ (row ('tilde' ∷ bit ∷ !bit_not ∷ [])
+    ∷ (row ('bit_not' ∷ bit ∷ !bit_not ∷ [])
     ∷ row (neg ∷ array_tail ∷ [])
     ∷ [])
     -- array_tail

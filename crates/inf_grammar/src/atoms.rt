@@ -4,9 +4,9 @@ ghost use Rattle.inf_grammar.specs.Atoms.{atom_of, place_in};
 ghost use Rattle.inf_grammar.specs.Tables.{all_letters, first_letter, letter_span, nowhere};
 ghost use Rattle.inf_grammar.specs.Words.{words};
 
-use crate::marks::Mark;
 use crate::rules::Span;
 use crate::words::{LETTERS, WORDS};
+use inf_scanner::Mark;
 
 /// A token, as far as the grammar looks at it.
 #[derive(Clone, Copy)]

@@ -1,16 +1,15 @@
 -- A bad token is passed over as the tokens before it tell.
-use Rattle.std.proofs.Common.{◌≡◌, ℕ, suc, zero, ◌+◌, ◌<◌, List, [], ◌∷◌, map, Bool, true, false, not, ◌&&◌, ◌==◌, nat_le, length, cond, is_some, refl, sym, ap, ◌∙◌, arith, if◌then◌else◌}
+use Rattle.std.proofs.Common.{◌≡◌, ℕ, suc, zero, ◌+◌, ◌<◌, List, [], ◌∷◌, map, Bool, true, false, not, ◌&&◌, ◌==◌, is_some, refl, sym, ap, ◌∙◌, arith, if◌then◌else◌}
 use Rattle.std.proofs.lemmas.Bool.{and_parts, eqb-true, ne_eqb}
-use Rattle.inf_token.specs.Spelling.{Spelled, next_token, is_mark}
-use Rattle.inf_token.specs.declared.spelling.Mark.TheVariants as mark
-use Rattle.inf_token.specs.declared.spelling.TokenKind.{TokenKind}
-use Rattle.inf_token.specs.declared.spelling.TokenKind.TheVariants as kind
+use Rattle.inf_scanner.specs.declared.tokens.Mark.TheVariants as mark
+use Rattle.inf_scanner.specs.declared.tokens.TokenKind.{TokenKind}
+use Rattle.inf_scanner.specs.declared.tokens.TokenKind.TheVariants as kind
+use Rattle.inf_unit.specs.Tokens.{Spelled, is_mark}
 use Rattle.inf_machine.specs.declared.symbols.Symbol.{Symbol}
 use Rattle.inf_machine.specs.declared.symbols.Symbol.TheVariants.{Rule}
 use Rattle.inf_machine.specs.Machine.{taken, read}
 use Rattle.inf_machine.proofs.TokenLaws.{bad_tokens_begin_nothing}
 use Rattle.inf_grammar.specs.declared.actions.Action.{Action}
-use Rattle.inf_grammar.specs.declared.marks.Mark.TheVariants as marks
 use Rattle.inf_grammar.specs.Atoms.{mark_atom, place_in}
 use Rattle.inf_grammar.specs.Brackets.{open_behind, open_behind_all, is_array}
 use Rattle.inf_grammar.specs.Evaluated.{language_is_decided}
@@ -19,8 +18,9 @@ use Rattle.inf_grammar.specs.Routines.{is_in_routine}
 use Rattle.inf_grammar.specs.Sources.{is_inside}
 use Rattle.inf_grammar.specs.Words.{words}
 use Rattle.inf_grammar.proofs.OpenRoutines.{first_taken, open_routines_are_bracketed}
-use Rattle.inf_reader.specs.Tests.{longest_name, characters, fit_characters, name_atom, text_atom, bad_atom, atom_of_kind, atom_of}
+use Rattle.inf_reader.specs.Tests.{name_atom, atom_of_kind, atom_of}
 use Rattle.inf_unit.specs.Statements.{no_unit, unit_behind}
+use Rattle.inf_reader.specs.Cursors.{next_token}
 use Rattle.inf_reader.specs.Selection.{begins_piece, have_come, is_piece_come}
 use Rattle.inf_reader.specs.Reading.{Reading, State, piece_rule, passed, between, turn}
 use Rattle.inf_reader.specs.Pieces.{BeginsPiece, AllAreTaken, front, behind, turned, at_hand_by, at_hand, taking}
@@ -30,10 +30,10 @@ use Rattle.inf_laws.specs.BadTokens.{opened_by, opened_by_all, skip_behind, BadT
 -- Brackets among tokens and among what the grammar sees of them
 
 abbrev open_atom : ℕ
-open_atom = mark_atom marks.OpenBracket
+open_atom = mark_atom mark.OpenBracket
 
 abbrev close_atom : ℕ
-close_atom = mark_atom marks.CloseBracket
+close_atom = mark_atom mark.CloseBracket
 
 name_is_none : (bytes : List ℕ) (other : ℕ) → other < 40 → (name_atom bytes == other) ≡ false
 name_is_none bytes other l = above (place_in bytes words)
@@ -41,34 +41,24 @@ name_is_none bytes other l = above (place_in bytes words)
     above : (n : ℕ) → (40 + n == other) ≡ false
     above n = ne_eqb (40 + n) other (λ e. omega (arith, e, l))
 
-of_two : (b : Bool) (x y other : ℕ) → (x == other) ≡ false → (y == other) ≡ false → (cond b x y == other) ≡ false
-of_two true x y other e f = e
-of_two false x y other e f = f
-
 opens_alike : (k : TokenKind) (bytes : List ℕ) → (atom_of_kind k bytes == open_atom) ≡ is_mark mark.OpenBracket k
-opens_alike (kind.Mark mark.OpenBracket) bytes = refl
-opens_alike (kind.Mark mark.CloseBracket) bytes = refl
-opens_alike (kind.Mark mark.OpenParenthesis) bytes = refl
-opens_alike (kind.Mark mark.CloseParenthesis) bytes = refl
-opens_alike (kind.Mark mark.Semicolon) bytes = refl
-opens_alike (kind.Mark mark.Comma) bytes = refl
-opens_alike kind.Name bytes = of_two (nat_le (length bytes) longest_name) (name_atom bytes) bad_atom open_atom (name_is_none bytes open_atom (omega arith)) refl
-opens_alike kind.Text bytes = of_two (is_some (fit_characters (characters bytes))) text_atom bad_atom open_atom refl refl
-opens_alike kind.UnclosedText bytes = refl
-opens_alike kind.Unfit bytes = refl
+opens_alike (kind.Mark m) bytes = refl
+opens_alike kind.Name bytes = name_is_none bytes open_atom (omega arith)
+opens_alike (kind.Number n) bytes = refl
+opens_alike (kind.Char c) bytes = refl
+opens_alike (kind.Word w) bytes = refl
+opens_alike kind.Text bytes = refl
+opens_alike (kind.Bad b) bytes = refl
 opens_alike kind.End bytes = refl
 
 closes_alike : (k : TokenKind) (bytes : List ℕ) → (atom_of_kind k bytes == close_atom) ≡ is_mark mark.CloseBracket k
-closes_alike (kind.Mark mark.OpenBracket) bytes = refl
-closes_alike (kind.Mark mark.CloseBracket) bytes = refl
-closes_alike (kind.Mark mark.OpenParenthesis) bytes = refl
-closes_alike (kind.Mark mark.CloseParenthesis) bytes = refl
-closes_alike (kind.Mark mark.Semicolon) bytes = refl
-closes_alike (kind.Mark mark.Comma) bytes = refl
-closes_alike kind.Name bytes = of_two (nat_le (length bytes) longest_name) (name_atom bytes) bad_atom close_atom (name_is_none bytes close_atom (omega arith)) refl
-closes_alike kind.Text bytes = of_two (is_some (fit_characters (characters bytes))) text_atom bad_atom close_atom refl refl
-closes_alike kind.UnclosedText bytes = refl
-closes_alike kind.Unfit bytes = refl
+closes_alike (kind.Mark m) bytes = refl
+closes_alike kind.Name bytes = name_is_none bytes close_atom (omega arith)
+closes_alike (kind.Number n) bytes = refl
+closes_alike (kind.Char c) bytes = refl
+closes_alike (kind.Word w) bytes = refl
+closes_alike kind.Text bytes = refl
+closes_alike (kind.Bad b) bytes = refl
 closes_alike kind.End bytes = refl
 
 one_alike : (is_open : Bool) (t : Spelled) → open_behind is_open (atom_of t) ≡ opened_by is_open t

@@ -4,7 +4,7 @@ use Rattle.std.specs.Prelude.{Contains, find, is_some, option_map, slice_index_o
 use Rattle.std.specs.Str.{bytes_eq, str_eq_ignore_ascii_case}
 use Rattle.std.proofs.lemmas.Bool.{cond_both, le-ltb, lt-ltb, ltb-false, ltb-true}
 use Rattle.std.proofs.lemmas.List.Elements.{Contains-append_cases, Contains-append_left, Contains-append_right}
-use Rattle.inf_token.specs.Spelling.{Spelled}
+use Rattle.inf_symbol.specs.Spellings.{Name}
 use Rattle.inf_symbol.specs.Messages.{Blame, Declared}
 use Rattle.inf_symbol.specs.Names.{Named, declaration_of, folded, is_system_name}
 use Rattle.inf_symbol.specs.Locals.{Headed, Local, earlier, local_of, most_locals, no_locals, number_from, number_of, with_local_by, with_locals}
@@ -106,45 +106,45 @@ number_tells n name (l ∷ locals) = go (str_eq_ignore_ascii_case l.name name) (
     go true later = refl
     go false later = later
 
-name_told : (locals : List Local) (place : ℕ) (t : Spelled) → IsTold (operand_fault locals t) (wrong_name locals place t)
-name_told locals place t = go (number_of t.bytes locals) (is_local t.bytes locals) (number_tells 1 t.bytes locals)
+name_told : (locals : List Local) (place : ℕ) (n : Name) → IsTold (operand_fault locals n) (wrong_name locals place n)
+name_told locals place n = go (number_of n.bytes locals) (is_local n.bytes locals) (number_tells 1 n.bytes locals)
   where
-    hidden : (b : Bool) → found_if (b && false) (system_operand place t) ≡ []
+    hidden : (b : Bool) → found_if (b && false) (system_operand place n) ≡ []
     hidden true = refl
     hidden false = refl
 
-    plain : (b : Bool) → IsTold (cond b (Some (system_operand 0 t).blame) None) (found_if (b && true) (system_operand place t))
-    plain true = told_one (system_operand place t)
+    plain : (b : Bool) → IsTold (cond b (Some (system_operand 0 n).blame) None) (found_if (b && true) (system_operand place n))
+    plain true = told_one (system_operand place n)
     plain false = refl
 
-    go : (o : Option ℕ) (local : Bool) → is_some o ≡ local → IsTold (operand_fault_by o t) (found_if (is_system_name t.bytes && not local) (system_operand place t))
-    go (Some n) true e = hidden (is_system_name t.bytes)
-    go (Some n) false e = cc
+    go : (o : Option ℕ) (local : Bool) → is_some o ≡ local → IsTold (operand_fault_by o n) (found_if (is_system_name n.bytes && not local) (system_operand place n))
+    go (Some number) true e = hidden (is_system_name n.bytes)
+    go (Some number) false e = cc
     go None true e = cc
-    go None false e = plain (is_system_name t.bytes)
+    go None false e = plain (is_system_name n.bytes)
 
-among_name : (locals : List Local) (place : ℕ) (t : Spelled) (g : Finding) → Contains (wrong_name locals place t) g → g ≡ system_operand place t
-among_name locals place t g among = among_if (is_system_name t.bytes && not (is_local t.bytes locals)) (system_operand place t) g among
+among_name : (locals : List Local) (place : ℕ) (n : Name) (g : Finding) → Contains (wrong_name locals place n) g → g ≡ system_operand place n
+among_name locals place n g among = among_if (is_system_name n.bytes && not (is_local n.bytes locals)) (system_operand place n) g among
 
-among_names : (locals : List Local) (place : ℕ) (tokens : List Spelled) (g : Finding) → Contains (wrong_names locals place tokens) g → place ≤ g.place
+among_names : (locals : List Local) (place : ℕ) (names : List Name) (g : Finding) → Contains (wrong_names locals place names) g → place ≤ g.place
 among_names locals place [] g among = absurd (one_of_none g among)
-among_names locals place (t ∷ tokens) g among =
-    go (Contains-append_cases (wrong_name locals place t) (wrong_names locals (place + 2) tokens) g among) (among_names locals (place + 2) tokens g)
+among_names locals place (n ∷ names) g among =
+    go (Contains-append_cases (wrong_name locals place n) (wrong_names locals (place + 2) names) g among) (among_names locals (place + 2) names g)
   where
-    go : Contains (wrong_name locals place t) g ⊎ Contains (wrong_names locals (place + 2) tokens) g → (Contains (wrong_names locals (place + 2) tokens) g → place + 2 ≤ g.place) → place ≤ g.place
-    go (inl here) later = let at : g.place ≡ place = ap (λ f. f.place) (among_name locals place t g here) in omega (arith, at)
+    go : Contains (wrong_name locals place n) g ⊎ Contains (wrong_names locals (place + 2) names) g → (Contains (wrong_names locals (place + 2) names) g → place + 2 ≤ g.place) → place ≤ g.place
+    go (inl here) later = let at : g.place ≡ place = ap (λ f. f.place) (among_name locals place n g here) in omega (arith, at)
     go (inr there) later = omega (arith, later there)
 
-names_told : (locals : List Local) (place : ℕ) (tokens : List Spelled) → IsTold (operands_fault locals tokens) (wrong_names locals place tokens)
+names_told : (locals : List Local) (place : ℕ) (names : List Name) → IsTold (operands_fault locals names) (wrong_names locals place names)
 names_told locals place [] = refl
-names_told locals place (t ∷ tokens) =
-    told_first (operand_fault locals t) (operands_fault locals tokens) (wrong_name locals place t) (wrong_names locals (place + 2) tokens)
-    (name_told locals place t) (names_told locals (place + 2) tokens)
-    (λ f g here there. let at : f.place ≡ place = ap (λ f. f.place) (among_name locals place t f here) in
-    inl (omega (arith, at, among_names locals (place + 2) tokens g there)))
+names_told locals place (n ∷ names) =
+    told_first (operand_fault locals n) (operands_fault locals names) (wrong_name locals place n) (wrong_names locals (place + 2) names)
+    (name_told locals place n) (names_told locals (place + 2) names)
+    (λ f g here there. let at : f.place ≡ place = ap (λ f. f.place) (among_name locals place n f here) in
+    inl (omega (arith, at, among_names locals (place + 2) names g there)))
 
 pub returns_tell_the_first : ReturnsTellTheFirst
-returns_tell_the_first locals t = name_told locals 1 t
+returns_tell_the_first locals n = name_told locals 1 n
 
 -- Calls
 
@@ -180,14 +180,14 @@ calls_tell_the_first line locals called arguments =
 
 -- Headers
 
-abbrev new_local : Spelled → Local
-new_local t = record { name = t.bytes; line = t.line; is_named = false }
+abbrev new_local : Name → Local
+new_local n = record { name = n.bytes; line = n.line; is_named = false }
 
-first_named-push : (name : List ℕ) (before : List Spelled) (t : Spelled) → first_named name (before ++ t ∷ []) ≡ either (first_named name before) (cond (str_eq_ignore_ascii_case t.bytes name) (Some t) None)
-first_named-push name [] t = refl
-first_named-push name (x ∷ before) t = go (str_eq_ignore_ascii_case x.bytes name) (first_named-push name before t)
+first_named-push : (name : List ℕ) (before : List Name) (n : Name) → first_named name (before ++ n ∷ []) ≡ either (first_named name before) (cond (str_eq_ignore_ascii_case n.bytes name) (Some n) None)
+first_named-push name [] n = refl
+first_named-push name (x ∷ before) n = go (str_eq_ignore_ascii_case x.bytes name) (first_named-push name before n)
   where
-    go : (b : Bool) → first_named name (before ++ t ∷ []) ≡ either (first_named name before) (cond (str_eq_ignore_ascii_case t.bytes name) (Some t) None) → cond b (Some x) (first_named name (before ++ t ∷ [])) ≡ either (cond b (Some x) (first_named name before)) (cond (str_eq_ignore_ascii_case t.bytes name) (Some t) None)
+    go : (b : Bool) → first_named name (before ++ n ∷ []) ≡ either (first_named name before) (cond (str_eq_ignore_ascii_case n.bytes name) (Some n) None) → cond b (Some x) (first_named name (before ++ n ∷ [])) ≡ either (cond b (Some x) (first_named name before)) (cond (str_eq_ignore_ascii_case n.bytes name) (Some n) None)
     go true later = refl
     go false later = later
 
@@ -200,80 +200,80 @@ local_of-push name (m ∷ ls) l = go (str_eq_ignore_ascii_case m.name name) (loc
     go false later = later
 
 -- The locals are the different ones of these names.
-abbrev AreOf : List Spelled → List Local → Type 0
+abbrev AreOf : List Name → List Local → Type 0
 AreOf before ls = (name : List ℕ) → local_of name ls ≡ option_map new_local (first_named name before)
 
-are_of-repeated : (before : List Spelled) (t first : Spelled) (ls : List Local) → AreOf before ls → first_named t.bytes before ≡ Some first → AreOf (before ++ t ∷ []) ls
-are_of-repeated before t first ls of is name =
-    of name ∙ ap (option_map new_local) (sym (first_named-push name before t ∙ go (str_eq_ignore_ascii_case t.bytes name) refl))
+are_of-repeated : (before : List Name) (n first : Name) (ls : List Local) → AreOf before ls → first_named n.bytes before ≡ Some first → AreOf (before ++ n ∷ []) ls
+are_of-repeated before n first ls of is name =
+    of name ∙ ap (option_map new_local) (sym (first_named-push name before n ∙ go (str_eq_ignore_ascii_case n.bytes name) refl))
   where
-    go : (b : Bool) → str_eq_ignore_ascii_case t.bytes name ≡ b → either (first_named name before) (cond b (Some t) None) ≡ first_named name before
+    go : (b : Bool) → str_eq_ignore_ascii_case n.bytes name ≡ b → either (first_named name before) (cond b (Some n) None) ≡ first_named name before
     go true e =
-        let found : first_named name before ≡ Some first = ap (λ k. find (λ x. bytes_eq (folded x.bytes) k) before) (sym (same_names t.bytes name e)) ∙ is in
-        ap (λ o. either o (Some t)) found ∙ sym found
+        let found : first_named name before ≡ Some first = ap (λ k. find (λ x. bytes_eq (folded x.bytes) k) before) (sym (same_names n.bytes name e)) ∙ is in
+        ap (λ o. either o (Some n)) found ∙ sym found
     go false e = either-none (first_named name before)
 
-are_of-new : (before : List Spelled) (t : Spelled) (ls : List Local) → AreOf before ls → AreOf (before ++ t ∷ []) (ls ++ new_local t ∷ [])
-are_of-new before t ls of name =
-    local_of-push name ls (new_local t)
-    ∙ ap (λ o. either o (cond (str_eq_ignore_ascii_case t.bytes name) (Some (new_local t)) None)) (of name)
-    ∙ go (first_named name before) (str_eq_ignore_ascii_case t.bytes name)
-    ∙ ap (option_map new_local) (sym (first_named-push name before t))
+are_of-new : (before : List Name) (n : Name) (ls : List Local) → AreOf before ls → AreOf (before ++ n ∷ []) (ls ++ new_local n ∷ [])
+are_of-new before n ls of name =
+    local_of-push name ls (new_local n)
+    ∙ ap (λ o. either o (cond (str_eq_ignore_ascii_case n.bytes name) (Some (new_local n)) None)) (of name)
+    ∙ go (first_named name before) (str_eq_ignore_ascii_case n.bytes name)
+    ∙ ap (option_map new_local) (sym (first_named-push name before n))
   where
-    go : (o : Option Spelled) (b : Bool) → either (option_map new_local o) (cond b (Some (new_local t)) None) ≡ option_map new_local (either o (cond b (Some t) None))
+    go : (o : Option Name) (b : Bool) → either (option_map new_local o) (cond b (Some (new_local n)) None) ≡ option_map new_local (either o (cond b (Some n) None))
     go None true = refl
     go None false = refl
     go (Some x) b = refl
 
 -- the first local that is named again
-abbrev repeat_by : Option Spelled → Spelled → Option Blame
-repeat_by None t = None
-repeat_by (Some first) t = Some (record { line = t.line; message = Declared t.bytes first.line })
+abbrev repeat_by : Option Name → Name → Option Blame
+repeat_by None n = None
+repeat_by (Some first) n = Some (record { line = n.line; message = Declared n.bytes first.line })
 
-abbrev repeat_of : List Spelled → List Spelled → Option Blame
+abbrev repeat_of : List Name → List Name → Option Blame
 repeat_of before [] = None
-repeat_of before (t ∷ tokens) = first_fault (repeat_by (first_named t.bytes before) t) (repeat_of (before ++ t ∷ []) tokens)
+repeat_of before (n ∷ names) = first_fault (repeat_by (first_named n.bytes before) n) (repeat_of (before ++ n ∷ []) names)
 
-repeated_told : (o : Option Spelled) (place : ℕ) (t : Spelled) → IsTold (repeat_by o t) (repeated_one o place t)
-repeated_told None place t = refl
-repeated_told (Some first) place t = told_one (repeated_local first place t)
+repeated_told : (o : Option Name) (place : ℕ) (n : Name) → IsTold (repeat_by o n) (repeated_one o place n)
+repeated_told None place n = refl
+repeated_told (Some first) place n = told_one (repeated_local first place n)
 
-among_repeated : (o : Option Spelled) (place : ℕ) (t : Spelled) (g : Finding) → Contains (repeated_one o place t) g → g.place ≡ place
-among_repeated None place t g among = absurd (one_of_none g among)
-among_repeated (Some first) place t g among =
-    ap (λ f. f.place) (one_of_one (repeated_local first place t) g among)
+among_repeated : (o : Option Name) (place : ℕ) (n : Name) (g : Finding) → Contains (repeated_one o place n) g → g.place ≡ place
+among_repeated None place n g among = absurd (one_of_none g among)
+among_repeated (Some first) place n g among =
+    ap (λ f. f.place) (one_of_one (repeated_local first place n) g among)
 
-among_repeats : (before : List Spelled) (place : ℕ) (tokens : List Spelled) (g : Finding) → Contains (repeated_locals before place tokens) g → place ≤ g.place
+among_repeats : (before : List Name) (place : ℕ) (names : List Name) (g : Finding) → Contains (repeated_locals before place names) g → place ≤ g.place
 among_repeats before place [] g among = absurd (one_of_none g among)
-among_repeats before place (t ∷ tokens) g among =
-    go (Contains-append_cases (repeated_one (first_named t.bytes before) place t) (repeated_locals (before ++ t ∷ []) (place + 1) tokens) g among)
-    (among_repeats (before ++ t ∷ []) (place + 1) tokens g)
+among_repeats before place (n ∷ names) g among =
+    go (Contains-append_cases (repeated_one (first_named n.bytes before) place n) (repeated_locals (before ++ n ∷ []) (place + 1) names) g among)
+    (among_repeats (before ++ n ∷ []) (place + 1) names g)
   where
-    go : Contains (repeated_one (first_named t.bytes before) place t) g ⊎ Contains (repeated_locals (before ++ t ∷ []) (place + 1) tokens) g → (Contains (repeated_locals (before ++ t ∷ []) (place + 1) tokens) g → place + 1 ≤ g.place) → place ≤ g.place
-    go (inl here) later = omega (arith, among_repeated (first_named t.bytes before) place t g here)
+    go : Contains (repeated_one (first_named n.bytes before) place n) g ⊎ Contains (repeated_locals (before ++ n ∷ []) (place + 1) names) g → (Contains (repeated_locals (before ++ n ∷ []) (place + 1) names) g → place + 1 ≤ g.place) → place ≤ g.place
+    go (inl here) later = omega (arith, among_repeated (first_named n.bytes before) place n g here)
     go (inr there) later = omega (arith, later there)
 
-repeats_told : (before : List Spelled) (place : ℕ) (tokens : List Spelled) → IsTold (repeat_of before tokens) (repeated_locals before place tokens)
+repeats_told : (before : List Name) (place : ℕ) (names : List Name) → IsTold (repeat_of before names) (repeated_locals before place names)
 repeats_told before place [] = refl
-repeats_told before place (t ∷ tokens) =
-    told_first (repeat_by (first_named t.bytes before) t) (repeat_of (before ++ t ∷ []) tokens) (repeated_one (first_named t.bytes before) place t) (repeated_locals (before ++ t ∷ []) (place + 1) tokens)
-    (repeated_told (first_named t.bytes before) place t) (repeats_told (before ++ t ∷ []) (place + 1) tokens)
-    (λ f g here there. inl (omega (arith, among_repeated (first_named t.bytes before) place t f here, among_repeats (before ++ t ∷ []) (place + 1) tokens g there)))
+repeats_told before place (n ∷ names) =
+    told_first (repeat_by (first_named n.bytes before) n) (repeat_of (before ++ n ∷ []) names) (repeated_one (first_named n.bytes before) place n) (repeated_locals (before ++ n ∷ []) (place + 1) names)
+    (repeated_told (first_named n.bytes before) place n) (repeats_told (before ++ n ∷ []) (place + 1) names)
+    (λ f g here there. inl (omega (arith, among_repeated (first_named n.bytes before) place n f here, among_repeats (before ++ n ∷ []) (place + 1) names g there)))
 
 -- more than 15 locals stay more
-full_stays : (tokens : List Spelled) (h : Headed) → h.are_too_many ≡ true → (with_locals tokens h).are_too_many ≡ true
+full_stays : (names : List Name) (h : Headed) → h.are_too_many ≡ true → (with_locals names h).are_too_many ≡ true
 full_stays [] h full = full
-full_stays (t ∷ tokens) h full = full_stays tokens (with_local_by t (local_of t.bytes h.locals) h) (go (local_of t.bytes h.locals))
+full_stays (n ∷ names) h full = full_stays names (with_local_by n (local_of n.bytes h.locals) h) (go (local_of n.bytes h.locals))
   where
-    go : (o : Option Local) → (with_local_by t o h).are_too_many ≡ true
+    go : (o : Option Local) → (with_local_by n o h).are_too_many ≡ true
     go (Some l) = full
     go None =
-        cond_both (ltb (length h.locals) most_locals) (record h { locals = h.locals ++ new_local t ∷ [] }) (record h { are_too_many = true }) (λ x. x.are_too_many ≡ true) (λ _. full) (λ _. refl)
+        cond_both (ltb (length h.locals) most_locals) (record h { locals = h.locals ++ new_local n ∷ [] }) (record h { are_too_many = true }) (λ x. x.are_too_many ≡ true) (λ _. full) (λ _. refl)
 
 -- What a header says of its locals: there are more than 15 different ones, or the first that comes again is told.
-data Ends (before tokens : List Spelled) (h after : Headed) : Type 0 where
-  Full : after.are_too_many ≡ true → 15 < length h.locals + different before tokens → Ends before tokens h after
-  Fits : after.are_too_many ≡ false → length h.locals + different before tokens ≤ 15 → after.repeated ≡ first_fault h.repeated (repeat_of before tokens) → Ends before tokens h after
+data Ends (before names : List Name) (h after : Headed) : Type 0 where
+  Full : after.are_too_many ≡ true → 15 < length h.locals + different before names → Ends before names h after
+  Fits : after.are_too_many ≡ false → length h.locals + different before names ≤ 15 → after.repeated ≡ first_fault h.repeated (repeat_of before names) → Ends before names h after
 
 first-earlier : (o later : Option Blame) (b : Blame) → first_fault (earlier o b) later ≡ first_fault o (Some b)
 first-earlier None later b = refl
@@ -284,70 +284,70 @@ first-none None = refl
 first-none (Some b) = refl
 
 -- what the names behind one more make of it
-onward : (before tokens : List Spelled) (t : Spelled) (o : Option Spelled) (h next after : Headed) → first_named t.bytes before ≡ o → length next.locals ≡ length h.locals + cond (is_some o) 0 1 → ((later : Option Blame) → first_fault next.repeated later ≡ first_fault h.repeated (first_fault (repeat_by o t) later)) → Ends (before ++ t ∷ []) tokens next after → Ends before (t ∷ tokens) h after
-onward before tokens t o h next after is len same (Full full more) =
-    let count : different before (t ∷ tokens) ≡ cond (is_some o) 0 1 + different (before ++ t ∷ []) tokens = ap (λ x. cond (is_some x) 0 1 + different (before ++ t ∷ []) tokens) is in
+onward : (before names : List Name) (n : Name) (o : Option Name) (h next after : Headed) → first_named n.bytes before ≡ o → length next.locals ≡ length h.locals + cond (is_some o) 0 1 → ((later : Option Blame) → first_fault next.repeated later ≡ first_fault h.repeated (first_fault (repeat_by o n) later)) → Ends (before ++ n ∷ []) names next after → Ends before (n ∷ names) h after
+onward before names n o h next after is len same (Full full more) =
+    let count : different before (n ∷ names) ≡ cond (is_some o) 0 1 + different (before ++ n ∷ []) names = ap (λ x. cond (is_some x) 0 1 + different (before ++ n ∷ []) names) is in
     Full full (omega (arith, len, count, more))
-onward before tokens t o h next after is len same (Fits fits few repeated) =
-    let count : different before (t ∷ tokens) ≡ cond (is_some o) 0 1 + different (before ++ t ∷ []) tokens = ap (λ x. cond (is_some x) 0 1 + different (before ++ t ∷ []) tokens) is in
+onward before names n o h next after is len same (Fits fits few repeated) =
+    let count : different before (n ∷ names) ≡ cond (is_some o) 0 1 + different (before ++ n ∷ []) names = ap (λ x. cond (is_some x) 0 1 + different (before ++ n ∷ []) names) is in
     Fits fits (omega (arith, len, count, few))
-    (repeated ∙ same (repeat_of (before ++ t ∷ []) tokens)
-    ∙ ap (λ x. first_fault h.repeated (first_fault (repeat_by x t) (repeat_of (before ++ t ∷ []) tokens))) (sym is))
+    (repeated ∙ same (repeat_of (before ++ n ∷ []) names)
+    ∙ ap (λ x. first_fault h.repeated (first_fault (repeat_by x n) (repeat_of (before ++ n ∷ []) names))) (sym is))
 
 -- what a header says of its locals, after some of them
-ends : (tokens before : List Spelled) (h : Headed) → AreOf before h.locals → h.are_too_many ≡ false → length h.locals ≤ 15 → Ends before tokens h (with_locals tokens h)
+ends : (names before : List Name) (h : Headed) → AreOf before h.locals → h.are_too_many ≡ false → length h.locals ≤ 15 → Ends before names h (with_locals names h)
 ends [] before h of fits few = Fits fits (omega (arith, few)) (first-none h.repeated)
-ends (t ∷ tokens) before h of fits few = go (first_named t.bytes before) refl (ends tokens (before ++ t ∷ []))
+ends (n ∷ names) before h of fits few = go (first_named n.bytes before) refl (ends names (before ++ n ∷ []))
   where
-    fresh : (b : Bool) → ltb (length h.locals) 15 ≡ b → first_named t.bytes before ≡ None → ((h : Headed) → AreOf (before ++ t ∷ []) h.locals → h.are_too_many ≡ false → length h.locals ≤ 15 → Ends (before ++ t ∷ []) tokens h (with_locals tokens h)) → Ends before (t ∷ tokens) h (with_locals tokens (cond b (record h { locals = h.locals ++ new_local t ∷ [] }) (record h { are_too_many = true })))
+    fresh : (b : Bool) → ltb (length h.locals) 15 ≡ b → first_named n.bytes before ≡ None → ((h : Headed) → AreOf (before ++ n ∷ []) h.locals → h.are_too_many ≡ false → length h.locals ≤ 15 → Ends (before ++ n ∷ []) names h (with_locals names h)) → Ends before (n ∷ names) h (with_locals names (cond b (record h { locals = h.locals ++ new_local n ∷ [] }) (record h { are_too_many = true })))
     fresh true room is later =
-        let more : Headed = record h { locals = h.locals ++ new_local t ∷ [] } in
-        let len = length-append h.locals (new_local t ∷ []) in
-        onward before tokens t None h more (with_locals tokens more) is len (λ x. refl)
-        (later more (are_of-new before t h.locals of) fits (omega (arith, len, ltb-true (length h.locals) 15 room)))
+        let more : Headed = record h { locals = h.locals ++ new_local n ∷ [] } in
+        let len = length-append h.locals (new_local n ∷ []) in
+        onward before names n None h more (with_locals names more) is len (λ x. refl)
+        (later more (are_of-new before n h.locals of) fits (omega (arith, len, ltb-true (length h.locals) 15 room)))
     fresh false room is later =
         let full : Headed = record h { are_too_many = true } in
-        let count : different before (t ∷ tokens) ≡ 1 + different (before ++ t ∷ []) tokens = ap (λ x. cond (is_some x) 0 1 + different (before ++ t ∷ []) tokens) is in
-        Full (full_stays tokens full refl) (omega (arith, count, ltb-false (length h.locals) 15 room))
+        let count : different before (n ∷ names) ≡ 1 + different (before ++ n ∷ []) names = ap (λ x. cond (is_some x) 0 1 + different (before ++ n ∷ []) names) is in
+        Full (full_stays names full refl) (omega (arith, count, ltb-false (length h.locals) 15 room))
 
-    go : (o : Option Spelled) → first_named t.bytes before ≡ o → ((h : Headed) → AreOf (before ++ t ∷ []) h.locals → h.are_too_many ≡ false → length h.locals ≤ 15 → Ends (before ++ t ∷ []) tokens h (with_locals tokens h)) → Ends before (t ∷ tokens) h (with_locals tokens (with_local_by t (local_of t.bytes h.locals) h))
+    go : (o : Option Name) → first_named n.bytes before ≡ o → ((h : Headed) → AreOf (before ++ n ∷ []) h.locals → h.are_too_many ≡ false → length h.locals ≤ 15 → Ends (before ++ n ∷ []) names h (with_locals names h)) → Ends before (n ∷ names) h (with_locals names (with_local_by n (local_of n.bytes h.locals) h))
     go None is later =
-        subst (λ l. Ends before (t ∷ tokens) h (with_locals tokens (with_local_by t l h))) (sym (of t.bytes ∙ ap (option_map new_local) is))
+        subst (λ l. Ends before (n ∷ names) h (with_locals names (with_local_by n l h))) (sym (of n.bytes ∙ ap (option_map new_local) is))
         (fresh (ltb (length h.locals) 15) refl is later)
     go (Some first) is later =
-        let b : Blame = record { line = t.line; message = Declared t.bytes first.line } in
+        let b : Blame = record { line = n.line; message = Declared n.bytes first.line } in
         let again : Headed = record h { repeated = earlier h.repeated b } in
         let len : length h.locals ≡ length h.locals + 0 = omega arith in
-        subst (λ l. Ends before (t ∷ tokens) h (with_locals tokens (with_local_by t l h))) (sym (of t.bytes ∙ ap (option_map new_local) is))
-        (onward before tokens t (Some first) h again (with_locals tokens again) is len (λ x. first-earlier h.repeated x b)
-        (later again (are_of-repeated before t first h.locals of is) fits few))
+        subst (λ l. Ends before (n ∷ names) h (with_locals names (with_local_by n l h))) (sym (of n.bytes ∙ ap (option_map new_local) is))
+        (onward before names n (Some first) h again (with_locals names again) is len (λ x. first-earlier h.repeated x b)
+        (later again (are_of-repeated before n first h.locals of is) fits few))
 
 -- The name of a routine
 
-declared_told : (o : Option Declaration) (name : Spelled) → IsTold (declared_fault name o) (declared_name o name)
+declared_told : (o : Option Declaration) (name : Name) → IsTold (declared_fault name o) (declared_name o name)
 declared_told None name = refl
 declared_told (Some d) name = told_one (declared_before d name)
 
-among_declared : (o : Option Declaration) (name : Spelled) (g : Finding) → Contains (declared_name o name) g → g.place ≡ 1
+among_declared : (o : Option Declaration) (name : Name) (g : Finding) → Contains (declared_name o name) g → g.place ≡ 1
 among_declared None name g among = absurd (one_of_none g among)
 among_declared (Some d) name g among =
     ap (λ f. f.place) (one_of_one (declared_before d name) g among)
 
-routine_told : (names : List Named) (name : Spelled) → IsTold (name_fault (folded name.bytes) name names) (taken_name names name)
+routine_told : (names : List Named) (name : Name) → IsTold (name_fault (folded name.bytes) name names) (taken_name names name)
 routine_told names name = go (is_system_name name.bytes)
   where
     go : (b : Bool) → IsTold (cond b (Some (system_routine name).blame) (declared_fault name (declaration_of (folded name.bytes) names))) (cond b (system_routine name ∷ []) (declared_name (declaration_of (folded name.bytes) names) name))
     go true = told_one (system_routine name)
     go false = declared_told (declaration_of (folded name.bytes) names) name
 
-among_routine : (names : List Named) (name : Spelled) (g : Finding) → Contains (taken_name names name) g → g.place ≡ 1
+among_routine : (names : List Named) (name : Name) (g : Finding) → Contains (taken_name names name) g → g.place ≡ 1
 among_routine names name g among = go (is_system_name name.bytes) among
   where
     go : (b : Bool) → Contains (cond b (system_routine name ∷ []) (declared_name (declaration_of (folded name.bytes) names) name)) g → g.place ≡ 1
     go true among = ap (λ f. f.place) (one_of_one (system_routine name) g among)
     go false among = among_declared (declaration_of (folded name.bytes) names) name g among
 
-header_told : (line : ℕ) (names : List Named) (name : Spelled) (locals : List Spelled) (h : Headed) → Ends [] locals no_locals h → IsTold (header_fault line (name_fault (folded name.bytes) name names) h) (taken_name names name ++ (repeated_locals [] 2 locals ++ many_locals line locals))
+header_told : (line : ℕ) (names : List Named) (name : Name) (locals : List Name) (h : Headed) → Ends [] locals no_locals h → IsTold (header_fault line (name_fault (folded name.bytes) name names) h) (taken_name names name ++ (repeated_locals [] 2 locals ++ many_locals line locals))
 header_told line names name locals h (Full full more) =
     let of_name = taken_name names name in
     let repeats = repeated_locals [] 2 locals in

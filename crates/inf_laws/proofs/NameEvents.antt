@@ -83,7 +83,7 @@ headers_declare name place names = system (is_system_name name.bytes)
     system false = known (declaration_of (folded name.bytes) names)
 
 pub operands_use : OperandsUse
-operands_use t o = refl
+operands_use n o = refl
 
 -- Undeclared names
 

@@ -3,7 +3,7 @@ use Rattle.std.proofs.Common.{◌≡◌, ℕ, List, [], ◌∷◌, ◌++◌, len
 use Rattle.std.specs.List.{list_any, list_all}
 use Rattle.std.specs.Str.{bytes_eq, str_eq_ignore_ascii_case}
 use Rattle.std.proofs.lemmas.Bool.{and_from, and_parts, cond_both, not-true, or_from, or_parts}
-use Rattle.inf_token.specs.Spelling.{Spelled}
+use Rattle.inf_symbol.specs.Spellings.{Name}
 use Rattle.inf_symbol.specs.Messages.{Reported, UnusedLocal, with_warning}
 use Rattle.inf_symbol.specs.Names.{folded}
 use Rattle.inf_symbol.specs.Locals.{Local, Headed, local_of, most_locals, no_locals, with_all_named, with_all_unused, with_local_by, with_locals, with_named}
@@ -54,19 +54,19 @@ marked_by_nothing : (ls : List Local) → ls ≡ map (marked (λ n. false)) ls
 marked_by_nothing [] = refl
 marked_by_nothing (l ∷ ls) = ap (λ rest. l ∷ rest) (marked_by_nothing ls)
 
-with_all_named-marks : (tokens : List Spelled) (ls : List Local) → AreDifferent ls → with_all_named tokens ls ≡ map (marked (λ n. is_named_by n tokens)) ls
+with_all_named-marks : (names : List Name) (ls : List Local) → AreDifferent ls → with_all_named names ls ≡ map (marked (λ n. is_named_by n names)) ls
 with_all_named-marks [] ls d = marked_by_nothing ls
-with_all_named-marks (t ∷ tokens) ls d =
-    ap (with_all_named tokens) (with_named-marks t.bytes ls d)
-    ∙ with_all_named-marks tokens (map (marked (is_same t.bytes)) ls) (different-marked (is_same t.bytes) ls d)
-    ∙ marked_twice (is_same t.bytes) (λ n. is_named_by n tokens) ls
+with_all_named-marks (first ∷ names) ls d =
+    ap (with_all_named names) (with_named-marks first.bytes ls d)
+    ∙ with_all_named-marks names (map (marked (is_same first.bytes)) ls) (different-marked (is_same first.bytes) ls d)
+    ∙ marked_twice (is_same first.bytes) (λ n. is_named_by n names) ls
 
-with_units-marks : (units : List (List Spelled)) (ls : List Local) → AreDifferent ls → with_units units ls ≡ map (marked (λ n. is_named_in n units)) ls
+with_units-marks : (units : List (List Name)) (ls : List Local) → AreDifferent ls → with_units units ls ≡ map (marked (λ n. is_named_in n units)) ls
 with_units-marks [] ls d = marked_by_nothing ls
-with_units-marks (tokens ∷ units) ls d =
-    ap (with_units units) (with_all_named-marks tokens ls d)
-    ∙ with_units-marks units (map (marked (λ n. is_named_by n tokens)) ls) (different-marked (λ n. is_named_by n tokens) ls d)
-    ∙ marked_twice (λ n. is_named_by n tokens) (λ n. is_named_in n units) ls
+with_units-marks (names ∷ units) ls d =
+    ap (with_units units) (with_all_named-marks names ls d)
+    ∙ with_units-marks units (map (marked (λ n. is_named_by n names)) ls) (different-marked (λ n. is_named_by n names) ls d)
+    ∙ marked_twice (λ n. is_named_by n names) (λ n. is_named_in n units) ls
 
 warned : (file : List ℕ) (line : ℕ) (test : List ℕ → Bool) (ls : List Local) (r : Reported) → AreUnnamed ls → with_all_unused file line (map (marked test) ls) r ≡ with_warnings file line (filter (λ l. not (test l.name)) ls) r
 warned file line test [] r un = refl
@@ -112,20 +112,20 @@ unnamed-push (m ∷ ls) l un is =
     let parts = and_parts (not m.is_named) (list_all (λ l. not l.is_named) ls) un in
     and_from (not m.is_named) (list_all (λ l. not l.is_named) (ls ++ l ∷ [])) parts.0 (unnamed-push ls l parts.1 is)
 
-one_more : (t : Spelled) (h : Headed) (o : Option Local) → local_of t.bytes h.locals ≡ o → AreNew h.locals → AreNew (with_local_by t o h).locals
-one_more t h (Some l) e new = new
-one_more t h None e new =
-    let l : Local = record { name = t.bytes; line = t.line; is_named = false } in
+one_more : (n : Name) (h : Headed) (o : Option Local) → local_of n.bytes h.locals ≡ o → AreNew h.locals → AreNew (with_local_by n o h).locals
+one_more n h (Some l) e new = new
+one_more n h None e new =
+    let l : Local = record { name = n.bytes; line = n.line; is_named = false } in
     let more : Headed = record h { locals = h.locals ++ l ∷ [] } in
     let full : Headed = record h { are_too_many = true } in
     cond_both (ltb (length h.locals) most_locals) more full (λ x. AreNew x.locals)
-    (λ _. record { different = different-push h.locals l new.different (absent t.bytes h.locals e); unnamed = unnamed-push h.locals l new.unnamed refl })
+    (λ _. record { different = different-push h.locals l new.different (absent n.bytes h.locals e); unnamed = unnamed-push h.locals l new.unnamed refl })
     (λ _. new)
 
-all_new : (tokens : List Spelled) (h : Headed) → AreNew h.locals → AreNew (with_locals tokens h).locals
+all_new : (names : List Name) (h : Headed) → AreNew h.locals → AreNew (with_locals names h).locals
 all_new [] h new = new
-all_new (t ∷ tokens) h new =
-    all_new tokens (with_local_by t (local_of t.bytes h.locals) h) (one_more t h (local_of t.bytes h.locals) refl new)
+all_new (first ∷ names) h new =
+    all_new names (with_local_by first (local_of first.bytes h.locals) h) (one_more first h (local_of first.bytes h.locals) refl new)
 
 pub headers_make_new : HeadersMakeNew
-headers_make_new tokens = all_new tokens no_locals (record { different = tt; unnamed = refl })
+headers_make_new names = all_new names no_locals (record { different = tt; unnamed = refl })

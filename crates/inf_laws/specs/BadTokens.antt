@@ -1,7 +1,8 @@
 -- How a bad token is passed over, said of the tokens of its piece before it.
 use Rattle.std.specs.Prelude.{◌≡◌, ℕ, suc, List, [], ◌∷◌, Bool, true, false, if◌then◌else◌}
-use Rattle.inf_token.specs.Spelling.{Spelled, next_token, is_mark}
-use Rattle.inf_token.specs.declared.spelling.Mark.TheVariants as mark
+use Rattle.inf_scanner.specs.declared.tokens.Mark.TheVariants as mark
+use Rattle.inf_unit.specs.Tokens.{Spelled, is_mark}
+use Rattle.inf_reader.specs.Cursors.{next_token}
 use Rattle.inf_reader.specs.Reading.{State, between, passed}
 use Rattle.inf_reader.specs.Pieces.{BeginsPiece, AllAreTaken, front, behind, turned, telling}
 use Rattle.inf_reader.specs.declared.mode.Mode.{Mode}

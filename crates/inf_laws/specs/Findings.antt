@@ -1,8 +1,8 @@
 -- The error of a unit: each rule finds its own errors, and the first of all, by its place and then by its number, is told.
 use Rattle.std.specs.Prelude.{◌≡◌, ◌+◌, ◌<◌, ◌⊎◌, ℕ, List, [], ◌∷◌, ◌++◌, length, find, Contains, ◌&&◌, not, nat_lt, if◌then◌else◌, Option, Some, None, is_some}
 use Rattle.std.specs.Str.{str_eq_ignore_ascii_case}
-use Rattle.inf_token.specs.Spelling.{Spelled}
-use Rattle.inf_symbol.specs.Messages.{Blame, Declared, SystemName, WrongKind, TooManyArguments, TooManyLocals}
+use Rattle.inf_symbol.specs.Spellings.{Name}
+use Rattle.inf_symbol.specs.Messages.{Bytes, Blame, Declared, SystemName, WrongKind, TooManyArguments, TooManyLocals}
 use Rattle.inf_symbol.specs.Names.{Named, folded, is_system_name, declaration_of}
 use Rattle.inf_symbol.specs.Locals.{Local, with_locals, no_locals}
 use Rattle.inf_symbol.specs.declared.names.Declaration.{Declaration}
@@ -35,98 +35,98 @@ IsTold (Some b) all = (f : Finding) × (f.blame ≡ b) × IsLeast f all
 -- A call and a return
 
 -- a system name as an operand: its kind is wrong
-abbrev pub system_operand : ℕ → Spelled → Finding
-system_operand place t = record { place = place; number = 9; blame = record { line = t.line; message = WrongKind t } }
+abbrev pub system_operand : ℕ → Name → Finding
+system_operand place n = record { place = place; number = 9; blame = record { line = n.line; message = WrongKind (Bytes n.bytes) } }
 
 -- it is found where no local of this name hides it
-abbrev pub wrong_name : List Local → ℕ → Spelled → List Finding
-wrong_name locals place t =
-    if is_system_name t.bytes && not (is_local t.bytes locals) then system_operand place t ∷ [] else []
+abbrev pub wrong_name : List Local → ℕ → Name → List Finding
+wrong_name locals place n =
+    if is_system_name n.bytes && not (is_local n.bytes locals) then system_operand place n ∷ [] else []
 
 -- The names of a call are every second of its tokens: a parenthesis or a comma stands behind each.
-abbrev pub wrong_names : List Local → ℕ → List Spelled → List Finding
+abbrev pub wrong_names : List Local → ℕ → List Name → List Finding
 wrong_names locals place [] = []
-wrong_names locals place (t ∷ tokens) = wrong_name locals place t ++ wrong_names locals (place + 2) tokens
+wrong_names locals place (n ∷ names) = wrong_name locals place n ++ wrong_names locals (place + 2) names
 
 -- more than seven arguments, which is told where the call begins
 abbrev pub too_many_arguments : ℕ → Finding
 too_many_arguments line = record { place = 0; number = 14; blame = record { line = line; message = TooManyArguments } }
 
-abbrev pub many_arguments : ℕ → List Spelled → List Finding
+abbrev pub many_arguments : ℕ → List Name → List Finding
 many_arguments line arguments = if nat_lt 7 (length arguments) then too_many_arguments line ∷ [] else []
 
-abbrev pub call_findings : ℕ → List Local → Spelled → List Spelled → List Finding
+abbrev pub call_findings : ℕ → List Local → Name → List Name → List Finding
 call_findings line locals called arguments =
     wrong_names locals 0 (called ∷ arguments) ++ many_arguments line arguments
 
 -- the name stands behind the word `return`
-abbrev pub return_findings : List Local → Spelled → List Finding
-return_findings locals t = wrong_name locals 1 t
+abbrev pub return_findings : List Local → Name → List Finding
+return_findings locals n = wrong_name locals 1 n
 
 -- A header
 
 -- a local that an earlier name of the header is, too
-abbrev pub repeated_local : Spelled → ℕ → Spelled → Finding
-repeated_local first place t =
-    record { place = place; number = 8; blame = record { line = t.line; message = Declared t.bytes first.line } }
+abbrev pub repeated_local : Name → ℕ → Name → Finding
+repeated_local first place n =
+    record { place = place; number = 8; blame = record { line = n.line; message = Declared n.bytes first.line } }
 
 -- the first of these that is this name, in any case
-abbrev pub first_named : List ℕ → List Spelled → Option Spelled
-first_named name tokens = find (λ t. str_eq_ignore_ascii_case t.bytes name) tokens
+abbrev pub first_named : List ℕ → List Name → Option Name
+first_named name names = find (λ n. str_eq_ignore_ascii_case n.bytes name) names
 
-abbrev pub repeated_one : Option Spelled → ℕ → Spelled → List Finding
-repeated_one None place t = []
-repeated_one (Some first) place t = repeated_local first place t ∷ []
+abbrev pub repeated_one : Option Name → ℕ → Name → List Finding
+repeated_one None place n = []
+repeated_one (Some first) place n = repeated_local first place n ∷ []
 
-abbrev pub repeated_locals : List Spelled → ℕ → List Spelled → List Finding
+abbrev pub repeated_locals : List Name → ℕ → List Name → List Finding
 repeated_locals before place [] = []
-repeated_locals before place (t ∷ tokens) =
-    repeated_one (first_named t.bytes before) place t ++ repeated_locals (before ++ t ∷ []) (place + 1) tokens
+repeated_locals before place (n ∷ names) =
+    repeated_one (first_named n.bytes before) place n ++ repeated_locals (before ++ n ∷ []) (place + 1) names
 
 -- how many different names these add to those before
-abbrev pub different : List Spelled → List Spelled → ℕ
+abbrev pub different : List Name → List Name → ℕ
 different before [] = 0
-different before (t ∷ tokens) =
-    (if is_some (first_named t.bytes before) then 0 else 1) + different (before ++ t ∷ []) tokens
+different before (n ∷ names) =
+    (if is_some (first_named n.bytes before) then 0 else 1) + different (before ++ n ∷ []) names
 
 -- more than 15 different locals, which is told at the bracket
 abbrev pub too_many_locals : ℕ → Finding
 too_many_locals line = record { place = 0; number = 19; blame = record { line = line; message = TooManyLocals } }
 
-abbrev pub many_locals : ℕ → List Spelled → List Finding
+abbrev pub many_locals : ℕ → List Name → List Finding
 many_locals line locals = if nat_lt 15 (different [] locals) then too_many_locals line ∷ [] else []
 
 -- the name of the routine behind the bracket: it was declared before
-abbrev pub declared_before : Declaration → Spelled → Finding
+abbrev pub declared_before : Declaration → Name → Finding
 declared_before d name =
     record { place = 1; number = 8; blame = record { line = name.line; message = Declared name.bytes d.line } }
 
 -- or it is a system name, which the language itself declares
-abbrev pub system_routine : Spelled → Finding
+abbrev pub system_routine : Name → Finding
 system_routine name = record { place = 1; number = 8; blame = record { line = name.line; message = SystemName name.bytes } }
 
-abbrev pub declared_name : Option Declaration → Spelled → List Finding
+abbrev pub declared_name : Option Declaration → Name → List Finding
 declared_name None name = []
 declared_name (Some d) name = declared_before d name ∷ []
 
-abbrev pub taken_name : List Named → Spelled → List Finding
+abbrev pub taken_name : List Named → Name → List Finding
 taken_name names name =
     if is_system_name name.bytes then system_routine name ∷ []
     else declared_name (declaration_of (folded name.bytes) names) name
 
-abbrev pub header_findings : ℕ → List Named → Spelled → List Spelled → List Finding
+abbrev pub header_findings : ℕ → List Named → Name → List Name → List Finding
 header_findings line names name locals =
     taken_name names name ++ (repeated_locals [] 2 locals ++ many_locals line locals)
 
 -- What is told of a unit that begins on this line
 
 abbrev pub CallsTellTheFirst : Type 0
-CallsTellTheFirst = (line : ℕ) (locals : List Local) (called : Spelled) (arguments : List Spelled)
+CallsTellTheFirst = (line : ℕ) (locals : List Local) (called : Name) (arguments : List Name)
     → IsTold (call_fault line locals called arguments) (call_findings line locals called arguments)
 
 abbrev pub ReturnsTellTheFirst : Type 0
-ReturnsTellTheFirst = (locals : List Local) (t : Spelled) → IsTold (operand_fault locals t) (return_findings locals t)
+ReturnsTellTheFirst = (locals : List Local) (n : Name) → IsTold (operand_fault locals n) (return_findings locals n)
 
 abbrev pub HeadersTellTheFirst : Type 0
-HeadersTellTheFirst = (line : ℕ) (names : List Named) (name : Spelled) (locals : List Spelled)
+HeadersTellTheFirst = (line : ℕ) (names : List Named) (name : Name) (locals : List Name)
     → IsTold (header_fault line (name_fault (folded name.bytes) name names) (with_locals locals no_locals)) (header_findings line names name locals)

@@ -2,7 +2,7 @@
 use Rattle.std.specs.Prelude.{◌≡◌, ℕ, List, [], ◌∷◌, ◌++◌, Bool, false, ◌||◌, if◌then◌else◌, Option, Some, None, is_some}
 use Rattle.std.specs.List.{list_any}
 use Rattle.std.specs.Str.{str_eq_ignore_ascii_case}
-use Rattle.inf_token.specs.Spelling.{Spelled}
+use Rattle.inf_symbol.specs.Spellings.{Name}
 use Rattle.inf_symbol.specs.Messages.{Reported, Undeclared, with_error}
 use Rattle.inf_symbol.specs.Names.{Named, folded, is_system_name, declaration_of, with_declared, with_used, with_all_undeclared}
 use Rattle.inf_symbol.specs.declared.names.Declaration.{Declaration}
@@ -25,13 +25,13 @@ with_events (e ∷ events) names = with_events events (with_event e names)
 
 -- The header of a routine is such an event, unless its name is a system name, and so is an operand that is no local.
 abbrev pub HeadersDeclare : Type 0
-HeadersDeclare = (name : Spelled) (place : ℕ) (names : List Named)
+HeadersDeclare = (name : Name) (place : ℕ) (names : List Named)
     → with_name (folded name.bytes) name place (name_fault (folded name.bytes) name names) names
     ≡ (if is_system_name name.bytes then names
     else with_event (Declares name.bytes (record { line = name.line; place = place })) names)
 
 abbrev pub OperandsUse : Type 0
-OperandsUse = (t : Spelled) (o : Operands) → (with_operand_by None t (folded t.bytes) o).names ≡ with_event (Uses t.bytes t.line) o.names
+OperandsUse = (n : Name) (o : Operands) → (with_operand_by None n (folded n.bytes) o).names ≡ with_event (Uses n.bytes n.line) o.names
 
 -- The first declaration of a name counts
 

@@ -1,9 +1,9 @@
 -- How a bad piece is skipped, said of the tokens behind its bad token.
 use Rattle.std.specs.Prelude.{◌≡◌, ◌<◌, ◌≤◌, ℕ, List, [], ◌∷◌, ◌++◌, length, take, true, not, ◌||◌}
 use Rattle.std.specs.List.{list_all}
-use Rattle.inf_token.specs.Spelling.{Spelled, is_end, is_mark}
-use Rattle.inf_token.specs.declared.spelling.Mark.{Mark}
-use Rattle.inf_token.specs.declared.spelling.Mark.TheVariants as mark
+use Rattle.inf_scanner.specs.declared.tokens.Mark.{Mark}
+use Rattle.inf_scanner.specs.declared.tokens.Mark.TheVariants as mark
+use Rattle.inf_unit.specs.Tokens.{Spelled, is_end, is_mark}
 use Rattle.inf_reader.specs.Reading.{State, taken_at}
 use Rattle.inf_reader.specs.declared.mode.Mode.{Mode}
 use Rattle.inf_reader.specs.declared.mode.Mode.TheVariants as mode

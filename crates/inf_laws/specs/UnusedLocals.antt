@@ -1,8 +1,8 @@
--- The warnings about the locals of a routine, said of the tokens of its statements.
+-- The warnings about the locals of a routine, said of the names in its statements.
 use Rattle.std.specs.Prelude.{◌≡◌, ℕ, List, [], ◌∷◌, filter, Bool, true, false, not, ⊤}
 use Rattle.std.specs.List.{list_any, list_all}
 use Rattle.std.specs.Str.{str_eq_ignore_ascii_case}
-use Rattle.inf_token.specs.Spelling.{Spelled}
+use Rattle.inf_symbol.specs.Spellings.{Name}
 use Rattle.inf_symbol.specs.Messages.{Reported, UnusedLocal, with_warning}
 use Rattle.inf_symbol.specs.Locals.{Local, with_all_named, with_all_unused, with_locals, no_locals}
 
@@ -18,20 +18,20 @@ AreDifferent (l ∷ locals) = (is_local l.name locals ≡ false) × AreDifferent
 abbrev pub AreUnnamed : List Local → Type 0
 AreUnnamed locals = list_all (λ l. not l.is_named) locals ≡ true
 
--- the locals after these units, each of which has these tokens
-abbrev pub with_units : List (List Spelled) → List Local → List Local
+-- the locals after these units, each of which has these names
+abbrev pub with_units : List (List Name) → List Local → List Local
 with_units [] locals = locals
-with_units (tokens ∷ units) locals = with_units units (with_all_named tokens locals)
+with_units (names ∷ units) locals = with_units units (with_all_named names locals)
 
--- some token of some unit is this name, in any case
-abbrev pub is_named_by : List ℕ → List Spelled → Bool
-is_named_by name tokens = list_any (λ t. str_eq_ignore_ascii_case name t.bytes) tokens
+-- some name of some unit is this one, in any case
+abbrev pub is_named_by : List ℕ → List Name → Bool
+is_named_by name names = list_any (λ n. str_eq_ignore_ascii_case name n.bytes) names
 
-abbrev pub is_named_in : List ℕ → List (List Spelled) → Bool
-is_named_in name units = list_any (λ tokens. is_named_by name tokens) units
+abbrev pub is_named_in : List ℕ → List (List Name) → Bool
+is_named_in name units = list_any (λ names. is_named_by name names) units
 
--- the locals that no token of these units names, in order
-abbrev pub unused : List (List Spelled) → List Local → List Local
+-- the locals that no name of these units is, in any case, in order
+abbrev pub unused : List (List Name) → List Local → List Local
 unused units locals = filter (λ l. not (is_named_in l.name units)) locals
 
 -- a warning for each
@@ -40,9 +40,9 @@ with_warnings file line [] r = r
 with_warnings file line (l ∷ locals) r = with_warnings file line locals (with_warning file line (UnusedLocal l.name) r)
 
 -- Where the names of a routine's locals differ, and none was named yet, the warnings after some units are those about the locals
--- that no token of any unit names.
+-- that no name of any unit is.
 abbrev pub UnusedAreWarned : Type 0
-UnusedAreWarned = (file : List ℕ) (line : ℕ) (units : List (List Spelled)) (locals : List Local) (r : Reported)
+UnusedAreWarned = (file : List ℕ) (line : ℕ) (units : List (List Name)) (locals : List Local) (r : Reported)
     → AreDifferent locals → AreUnnamed locals
     → with_all_unused file line (with_units units locals) r ≡ with_warnings file line (unused units locals) r
 
@@ -52,4 +52,4 @@ pub record AreNew (locals : List Local) : Type 0 where
   pub unnamed : AreUnnamed locals
 
 abbrev pub HeadersMakeNew : Type 0
-HeadersMakeNew = (tokens : List Spelled) → AreNew (with_locals tokens no_locals).locals
+HeadersMakeNew = (names : List Name) → AreNew (with_locals names no_locals).locals

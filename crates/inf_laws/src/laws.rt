@@ -26,7 +26,7 @@ pub fn first_declarations_count()
     ensures operands { OperandsUse }
 {}
 
-/// The warnings at the end of a routine are about the locals that no token of a statement names, in
+/// The warnings at the end of a routine are about the locals that no name in a statement is, in
 /// order. The locals of each header are such that this speaks of them.
 pub fn unused_locals_are_warned()
     ensures warned { UnusedAreWarned }

@@ -1,14 +1,12 @@
 -- Reading leads through a piece or to its bad token.
-use Rattle.std.proofs.Common.{◌≡◌, ℕ, suc, zero, ◌<◌, List, [], ◌∷◌, ◌++◌, length, map, take, drop, cond, ◌&&◌, Bool, true, false, Option, Some, None, is_some, nat_le, refl, sym, ap, subst, ◌∙◌, arith, append_assoc}
+use Rattle.std.proofs.Common.{◌≡◌, ℕ, suc, zero, ◌<◌, List, [], ◌∷◌, ◌++◌, length, map, take, drop, cond, ◌&&◌, Bool, true, false, Option, Some, None, is_some, refl, sym, ap, subst, ◌∙◌, arith, append_assoc}
 use Rattle.std.proofs.lemmas.Bool.{and_parts, and_from}
 use Rattle.std.proofs.lemmas.List.{append-nil, map-append, take-append-drop}
-use Rattle.std.specs.Prelude.{Result, Ok, Err}
-use Rattle.inf_characters.specs.declared.reading.TextFault.{TextFault}
-use Rattle.inf_characters.specs.declared.texts.TextItem.{TextItem}
-use Rattle.inf_token.specs.Spelling.{Spelled, next_token, is_end}
-use Rattle.inf_token.specs.declared.spelling.TokenKind.{TokenKind}
-use Rattle.inf_token.specs.declared.spelling.TokenKind.TheVariants as kind
-use Rattle.inf_symbol.specs.Messages.{Message, LongName}
+use Rattle.inf_scanner.specs.declared.tokens.TokenKind.{TokenKind}
+use Rattle.inf_scanner.specs.declared.tokens.TokenKind.TheVariants as kind
+use Rattle.inf_symbol.specs.Messages.{Message}
+use Rattle.inf_unit.specs.Tokens.{Spelled, is_end}
+use Rattle.inf_reader.specs.Cursors.{next_token}
 use Rattle.inf_grammar.specs.declared.actions.Action.{Action}
 use Rattle.inf_machine.specs.declared.symbols.Symbol.{Symbol}
 use Rattle.inf_machine.specs.declared.symbols.Symbol.TheVariants.{Rule}
@@ -17,7 +15,7 @@ use Rattle.inf_grammar.specs.Language.{grammar, known}
 use Rattle.inf_machine.specs.Machine.{fits, taken, read, Read}
 use Rattle.inf_grammar.specs.Evaluated.{language_is_decided}
 use Rattle.inf_machine.proofs.TokenLaws.{bad_tokens_begin_nothing, texts_are_taken}
-use Rattle.inf_reader.specs.Tests.{longest_name, characters, fit_characters, text_fault_of, fault_of_kind, name_atom, text_atom, bad_atom, end_atom, atom_of_kind, atom_of}
+use Rattle.inf_reader.specs.Tests.{fault_of_kind, bad_atom, end_atom, atom_of_kind, atom_of}
 use Rattle.inf_unit.specs.Statements.{Unit, no_unit, unit_behind}
 use Rattle.inf_reader.specs.Selection.{begins_piece, has_come, have_come, is_piece_come}
 use Rattle.inf_reader.specs.Reading.{Reading, State, Stand, piece_rule, piece_begun, took, bad, judged, read_at, step_in, stand, turn, run}
@@ -148,9 +146,11 @@ end_is : (k : TokenKind) (bytes : List ℕ) → is_end k ≡ true → atom_of_ki
 end_is kind.End bytes e = refl
 end_is (kind.Mark m) bytes e = cc
 end_is kind.Name bytes e = cc
+end_is (kind.Number n) bytes e = cc
 end_is kind.Text bytes e = cc
-end_is kind.UnclosedText bytes e = cc
-end_is kind.Unfit bytes e = cc
+end_is (kind.Char c) bytes e = cc
+end_is (kind.Word w) bytes e = cc
+end_is (kind.Bad b) bytes e = cc
 
 fits_no_end : (t : Spelled) (stack : List (Symbol Action)) → fits grammar known (atom_of t) stack ≡ true → is_end t.kind ≡ true → ⊥
 fits_no_end t stack f e =
@@ -252,19 +252,13 @@ fronts_begin tokens n b = record {
 
 -- What is faulty by itself
 
-long_name : (b : Bool) (bytes : List ℕ) (m : Message) → cond b None (Some LongName) ≡ Some m → cond b (name_atom bytes) bad_atom ≡ bad_atom
-long_name true bytes m h = cc
-long_name false bytes m h = refl
-
-bad_text : (r : Result (List TextItem) TextFault) (m : Message) → text_fault_of r ≡ Some m → cond (is_some (fit_characters r)) text_atom bad_atom ≡ bad_atom
-bad_text (Ok items) m h = cc
-bad_text (Err e) m h = refl
-
-faulty_is_bad : (k : TokenKind) (bytes : List ℕ) (m : Message) → fault_of_kind k bytes ≡ Some m → atom_of_kind k bytes ≡ bad_atom
-faulty_is_bad kind.Name bytes m h = long_name (nat_le (length bytes) longest_name) bytes m h
-faulty_is_bad kind.Text bytes m h = bad_text (characters bytes) m h
-faulty_is_bad kind.UnclosedText bytes m h = refl
-faulty_is_bad kind.Unfit bytes m h = refl
+faulty_is_bad : (k : TokenKind) (bytes : List ℕ) (m : Message) → fault_of_kind k ≡ Some m → atom_of_kind k bytes ≡ bad_atom
+faulty_is_bad (kind.Bad b) bytes m h = refl
+faulty_is_bad kind.Name bytes m h = cc
+faulty_is_bad (kind.Number n) bytes m h = cc
+faulty_is_bad kind.Text bytes m h = cc
+faulty_is_bad (kind.Char c) bytes m h = cc
+faulty_is_bad (kind.Word w) bytes m h = cc
 faulty_is_bad (kind.Mark mark) bytes m h = cc
 faulty_is_bad kind.End bytes m h = cc
 

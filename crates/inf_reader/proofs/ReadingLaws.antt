@@ -22,8 +22,8 @@ run_on file (suc n) m s =
 pub sources_are_read : SourcesAreRead
 sources_are_read file source = record {
   ends = ends;
-  stays = λ further. run_on file (turns_of source) further (start file source) ∙ run_ended file further (compiled file source) ends;
+  stays = λ further. run_on file (turns_of source) further (start source) ∙ run_ended file further (compiled file source) ends;
 }
   where
     ends : has_ended (compiled file source) ≡ true
-    ends = run_ends file (turns_of source) (start file source) (omega arith)
+    ends = run_ends file (turns_of source) (start source) (omega arith)

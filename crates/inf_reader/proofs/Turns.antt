@@ -1,15 +1,20 @@
 -- Reading ends: each turn ends it or leaves less of the source, so enough turns read the whole.
 use Rattle.std.proofs.Common.{◌≡◌, ◌⊎◌, inl, inr, ℕ, suc, zero, ◌<◌, ◌≤◌, List, [], ◌∷◌, length, cond, ◌||◌, ◌&&◌, Bool, true, false, refl, sym, ap, ◌∙◌, arith}
 use Rattle.std.proofs.Math.Bool.{or-true, and-false}
-use Rattle.inf_token.specs.Spelling.{Spelled, Cursor, behind_gap, token_at, next_token, is_end}
-use Rattle.inf_token.specs.declared.spelling.TokenKind.{TokenKind}
-use Rattle.inf_token.specs.declared.spelling.TokenKind.TheVariants as kind
-use Rattle.inf_token.proofs.Progress.{of_both, gap_le, token_lt}
+use Rattle.inf_characters.specs.declared.characters.CharSet.TheVariants as set
+use Rattle.inf_scanner.specs.declared.tokens.TokenKind.{TokenKind}
+use Rattle.inf_scanner.specs.declared.tokens.TokenKind.TheVariants as kind
+use Rattle.inf_scanner.specs.TokenLaws.{Takes}
+use Rattle.inf_scanner.specs.Tokens.{Read, next_token as scanned}
+use Rattle.inf_scanner.proofs.TokenLaws.{tokens_take_bytes}
+use Rattle.inf_unit.specs.Tokens.{Spelled, is_end}
+use Rattle.inf_unit.proofs.Cases.{of_both}
 use Rattle.inf_grammar.specs.declared.actions.Action.{Action}
 use Rattle.inf_machine.specs.declared.symbols.Symbol.{Symbol}
 use Rattle.inf_unit.specs.Actions.{Work}
+use Rattle.inf_reader.specs.Cursors.{Cursor, most_quoted, next_token, read_token}
 use Rattle.inf_reader.specs.Selection.{has_come}
-use Rattle.inf_reader.specs.Reading.{Reading, State, Stand, bad, took, judged, read_at, step_in, step, taken_at, is_mode_ended, has_ended, turn, run, compiled, start, turns_of}
+use Rattle.inf_reader.specs.Reading.{Reading, State, Stand, bad, took, judged, read_at, step_in, step, taken_at, is_mode_ended, has_ended, turn, run}
 use Rattle.inf_reader.specs.declared.mode.Mode.{Mode}
 use Rattle.inf_reader.specs.declared.mode.Mode.TheVariants as mode
 use Rattle.inf_reader.proofs.Misfits.{end_fits_nothing}
@@ -18,18 +23,18 @@ use Rattle.inf_reader.proofs.Misfits.{end_fits_nothing}
 abbrev pub Moves : ℕ → Spelled × Cursor → Type 0
 Moves n t = (is_end t.0.kind ≡ true) ⊎ (length t.1.rest < n)
 
-token_moves : (bs : List ℕ) (line : ℕ) → Moves (length bs) (token_at bs line)
-token_moves [] line = inl refl
-token_moves (b ∷ bs) line = inr (token_lt b bs line)
+moves_of : (bytes : List ℕ) (r : Read) → Takes bytes r → Moves (length bytes) (read_token r)
+moves_of bytes r takes = elim takes.one [
+  | inl e ↦ inl (ap is_end e)
+  | inr less ↦ inr less
+]
 
 moves_less : (m n : ℕ) (t : Spelled × Cursor) → m ≤ n → Moves m t → Moves n t
 moves_less m n t le (inl e) = inl e
 moves_less m n t le (inr h) = inr (omega arith)
 
 pub next_moves : (c : Cursor) → Moves (length c.rest) (next_token c)
-next_moves c =
-    let gap = behind_gap false c.rest c.line in
-    moves_less (length gap.rest) (length c.rest) (next_token c) (gap_le false c.rest c.line) (token_moves gap.rest gap.line)
+next_moves c = moves_of c.rest (scanned set.Latin1 most_quoted c.lines c.rest) (tokens_take_bytes set.Latin1 most_quoted c.lines c.rest)
 
 -- the token behind another
 pub next_moves_on : (n : ℕ) (c : Cursor) → length c.rest < n → Moves n (next_token c)
@@ -55,7 +60,7 @@ end_read file bytes line [] r w = refl
 end_read file bytes line (symbol ∷ stack) r w =
     end_in_piece file (has_come r.unit (record { kind = kind.End; bytes = bytes; line = line })) bytes line r w
 
-end_at : (m : Mode) (file : List ℕ) (k : TokenKind) (bytes : List ℕ) (line : ℕ) (r : Reading) (w : Work) → is_end k ≡ true → r.mode ≡ m
+pub end_at : (m : Mode) (file : List ℕ) (k : TokenKind) (bytes : List ℕ) (line : ℕ) (r : Reading) (w : Work) → is_end k ≡ true → r.mode ≡ m
     → (step_in m file (record { kind = k; bytes = bytes; line = line }) r w).reading.mode ≡ mode.Ended
 end_at mode.Reads file kind.End bytes line r w h e = end_read file bytes line r.stack r w
 end_at mode.SkipsRoutine file kind.End bytes line r w h e = refl
@@ -63,11 +68,13 @@ end_at mode.SkipsDirective file kind.End bytes line r w h e = refl
 end_at mode.Ended file kind.End bytes line r w h e = e
 end_at m file (kind.Mark mark) bytes line r w h e = cc
 end_at m file kind.Name bytes line r w h e = cc
+end_at m file (kind.Number n) bytes line r w h e = cc
 end_at m file kind.Text bytes line r w h e = cc
-end_at m file kind.UnclosedText bytes line r w h e = cc
-end_at m file kind.Unfit bytes line r w h e = cc
+end_at m file (kind.Char c) bytes line r w h e = cc
+end_at m file (kind.Word word) bytes line r w h e = cc
+end_at m file (kind.Bad b) bytes line r w h e = cc
 
-ended : (b : Bool) (m : Mode) → m ≡ mode.Ended → b || is_mode_ended m ≡ true
+pub ended : (b : Bool) (m : Mode) → m ≡ mode.Ended → b || is_mode_ended m ≡ true
 ended b m e = ap (λ x. b || is_mode_ended x) e ∙ or-true b
 
 -- behind a token that is not the end less is left
@@ -148,17 +155,3 @@ left_falls file s going = by_case (turn_shortens file s)
         let over : left (turn file s) ≡ 0 = ap (λ b. cond b 0 (suc (length (turn file s).cursor.rest))) e in
         omega (arith, here, over)
     by_case (inr less) = omega (arith, here, at_most, less)
-
--- No turn opens a source.
-abbrev pub SameOpenings : State → State → Type 0
-SameOpenings old new = new.openings ≡ old.openings
-
-run_opens : (file : List ℕ) (n : ℕ) (s : State) → SameOpenings s (run file n s)
-run_opens file zero s = refl
-run_opens file (suc n) s =
-    of_both (SameOpenings s) (has_ended s) s (run file n (turn file s)) (λ _. refl)
-    (λ _. run_opens file n (turn file s))
-
--- what is compiled of a source keeps its one opening
-pub compiled_openings : (file source : List ℕ) → (compiled file source).openings ≡ record { name = file; given = source; is_read_out = true } ∷ []
-compiled_openings file source = run_opens file (turns_of source) (start file source)

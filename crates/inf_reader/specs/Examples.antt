@@ -12,7 +12,7 @@ name = codes "t.inf"
 
 -- a source with errors: these messages, no story
 abbrev pub Refuses : Option (List ℕ) → List ℕ → Type 0
-Refuses source messages = (serial : List ℕ) → (outcome serial name source).ending ≡ record { messages = messages; story = None; status = status.Errors }
+Refuses source messages = (serial : List ℕ) → outcome serial name source ≡ record { messages = messages; story = None; status = status.Errors }
 
 abbrev pub NoSource : Type 0
 NoSource = Refuses None (codes "t.inf(1): Fatal error: No file \"t.inf\"\n")
@@ -83,4 +83,4 @@ pub record IsHello (o : Ending) : Type 0 where
   pub length_word : HasWordAt 0x1A story 244
 
 abbrev pub HelloIsAStory : Type 0
-HelloIsAStory = (serial : List ℕ) → length serial ≡ 6 → IsHello (outcome serial name (Some hello)).ending
+HelloIsAStory = (serial : List ℕ) → length serial ≡ 6 → IsHello (outcome serial name (Some hello))

@@ -1,3 +1,4 @@
+pub mod Cursors
 pub mod Tests
 pub mod Selection
 pub mod Reading

@@ -1,9 +1,9 @@
--- What comes of a compilation: the openings of its sources, the lines of its messages, its story or none, and its status.
-use Rattle.std.specs.Prelude.{ℕ, List, [], codes, Bool, not, ◌&&◌, ◌==◌, if◌then◌else◌, Option, Some, None}
-use Rattle.inf_token.specs.Files.{Opening}
+-- What comes of a compilation: the lines of its messages, its story or none, and its status.
+use Rattle.std.specs.Prelude.{ℕ, List, codes, Bool, not, ◌&&◌, ◌==◌, if◌then◌else◌, Option, Some, None}
 use Rattle.inf_symbol.specs.Messages.{Reported, nothing_reported, with_error, with_fatal, with_closing, NoMain, StoryTooLong, NoFile}
 use Rattle.inf_symbol.specs.Names.{declaration_of, places, with_all_undeclared}
-use Rattle.inf_reader.specs.Reading.{State, compiled}
+use Rattle.inf_unit.specs.Actions.{Work}
+use Rattle.inf_reader.specs.Reading.{compiled}
 use Rattle.inf_layout.specs.Story.{story, is_too_long}
 use Rattle.inf_symbol.specs.declared.names.Declaration.{Declaration}
 use Rattle.inf_reader.specs.declared.outcome.Status.{Status}
@@ -15,11 +15,6 @@ pub record Ending : Type 0 where
   pub story : Option (List ℕ)
   pub status : Status
 
--- the openings in their order, with what was given of each, and the ending
-pub record Outcome : Type 0 where
-  pub openings : List Opening
-  pub ending : Ending
-
 -- with an error or a fatal message no story comes
 abbrev pub refused : Reported → Ending
 refused r = record { messages = (with_closing r).lines; story = None; status = status.Errors }
@@ -28,31 +23,30 @@ abbrev pub is_clean : Reported → Bool
 is_clean r = not r.is_over && (r.errors == 0)
 
 -- the story of the routines, where it is not too long; messages about it stand at the first line
-abbrev pub laid : List ℕ → List ℕ → ℕ → State → Reported → Ending
-laid serial file main s r =
-    if is_too_long main (places s.work.names) s.work.output.code.finished then refused (with_fatal file 1 StoryTooLong r)
-    else record { messages = (with_closing r).lines; story = Some (story serial main (places s.work.names) s.work.output.code.finished); status = status.Success }
+abbrev pub laid : List ℕ → List ℕ → ℕ → Work → Reported → Ending
+laid serial file main w r =
+    if is_too_long main (places w.names) w.output.code.finished then refused (with_fatal file 1 StoryTooLong r)
+    else record { messages = (with_closing r).lines; story = Some (story serial main (places w.names) w.output.code.finished); status = status.Success }
 
 -- the routine with which a story begins
 abbrev pub main_name : List ℕ
 main_name = codes "main"
 
 -- the ending of a source that was read: without its first routine it has an error
-abbrev pub begun : List ℕ → List ℕ → State → Reported → Option Declaration → Ending
-begun serial file s r None = refused (with_error file 1 1 NoMain r)
-begun serial file s r (Some main) = if is_clean r then laid serial file main.place s r else refused r
+abbrev pub begun : List ℕ → List ℕ → Work → Reported → Option Declaration → Ending
+begun serial file w r None = refused (with_error file 1 1 NoMain r)
+begun serial file w r (Some main) = if is_clean r then laid serial file main.place w r else refused r
 
 -- at the end the names are told that were used and never declared
-abbrev pub finished : List ℕ → List ℕ → State → Ending
-finished serial file s =
-    begun serial file s (with_all_undeclared file s.work.names s.work.report) (declaration_of main_name s.work.names)
+abbrev pub finished : List ℕ → List ℕ → Work → Ending
+finished serial file w =
+    begun serial file w (with_all_undeclared file w.names w.report) (declaration_of main_name w.names)
 
 -- the ending of a source that is not there
 abbrev pub missing : List ℕ → Ending
 missing file = refused (with_fatal file 1 NoFile nothing_reported)
 
 -- the outcome of the source of this name, if there is one
-abbrev pub outcome : List ℕ → List ℕ → Option (List ℕ) → Outcome
-outcome serial file None = record { openings = []; ending = missing file }
-outcome serial file (Some source) =
-    let s = compiled file source in record { openings = s.openings; ending = finished serial file s }
+abbrev pub outcome : List ℕ → List ℕ → Option (List ℕ) → Ending
+outcome serial file None = missing file
+outcome serial file (Some source) = finished serial file (compiled file source).work

@@ -1,7 +1,8 @@
 -- The pieces of a source, and how reading leads through one: what is told as bad is the first token with which a piece's tokens
 -- begin no piece.
 use Rattle.std.specs.Prelude.{◌≡◌, ℕ, ◌<◌, List, [], ◌∷◌, ◌++◌, map, take, true, false, zero, suc, Some}
-use Rattle.inf_token.specs.Spelling.{Spelled, Cursor, next_token, is_end}
+use Rattle.inf_unit.specs.Tokens.{Spelled, is_end}
+use Rattle.inf_reader.specs.Cursors.{Cursor, next_token}
 use Rattle.inf_symbol.specs.Messages.{Message}
 use Rattle.inf_grammar.specs.declared.actions.Action.{Action}
 use Rattle.inf_machine.specs.declared.symbols.Symbol.{Symbol}

@@ -3,19 +3,20 @@
 -- and tokens are passed over to where the piece ends. The unit that it cuts gives nothing.
 -- Designer's Manual, fourth edition, sections 1.3, 1.4 and 1.7.
 use Rattle.std.specs.Prelude.{ℕ, List, [], ◌∷◌, length, Bool, true, false, ◌||◌, ◌&&◌, if◌then◌else◌, zero, suc}
-use Rattle.inf_token.specs.Spelling.{Spelled, Cursor, next_token, is_mark, is_end}
-use Rattle.inf_token.specs.Files.{Opening}
-use Rattle.inf_token.specs.declared.spelling.Mark.TheVariants as mark
-use Rattle.inf_token.specs.declared.spelling.TokenKind.{TokenKind}
-use Rattle.inf_symbol.specs.Messages.{with_error}
+use Rattle.inf_scanner.specs.Lines.{first_line}
+use Rattle.inf_scanner.specs.declared.tokens.Mark.TheVariants as mark
+use Rattle.inf_scanner.specs.declared.tokens.TokenKind.{TokenKind}
+use Rattle.inf_symbol.specs.Messages.{Message, Reported, is_fatal, with_error, with_fatal}
+use Rattle.inf_unit.specs.Tokens.{Spelled, is_end, is_mark}
 use Rattle.inf_grammar.specs.declared.actions.Action.{Action}
 use Rattle.inf_machine.specs.declared.symbols.Symbol.{Symbol}
 use Rattle.inf_machine.specs.declared.symbols.Symbol.TheVariants.{Rule}
 use Rattle.inf_machine.specs.Machine.{fits, taken}
 use Rattle.inf_grammar.specs.Routines.{is_in_routine}
 use Rattle.inf_grammar.specs.Language.{grammar, known}
-use Rattle.inf_unit.specs.Statements.{Unit, no_unit, unit_behind}
+use Rattle.inf_unit.specs.Statements.{Unit, name_of, no_unit, unit_behind}
 use Rattle.inf_unit.specs.Actions.{Gathered, Work, no_work, acted}
+use Rattle.inf_reader.specs.Cursors.{Cursor, next_token}
 use Rattle.inf_reader.specs.Tests.{atom_of, complaint_of, read_of}
 use Rattle.inf_reader.specs.Selection.{begins_piece, has_come}
 use Rattle.inf_reader.specs.declared.mode.Mode.{Mode}
@@ -31,18 +32,25 @@ pub record Reading : Type 0 where
 abbrev pub between : Mode → Reading
 between m = record { mode = m; stack = []; unit = no_unit }
 
--- The sources opened so far with what was given of them, what is left of the source, what is read of it, and what was compiled.
+-- What is still to come of the source, what is read of it, and what was compiled.
 pub record State : Type 0 where
-  pub openings : List Opening
   pub cursor : Cursor
   pub reading : Reading
   pub work : Work
 
--- before the first turn the source is given whole
-abbrev pub start : List ℕ → List ℕ → State
-start file source = record {
-  openings = record { name = file; given = source; is_read_out = true } ∷ [];
-  cursor = record { rest = source; line = 1 };
+-- what was read, and what was compiled
+pub record Stand : Type 0 where
+  pub reading : Reading
+  pub work : Work
+
+-- before the first token
+abbrev pub begun_stand : Stand
+begun_stand = record { reading = between mode.Reads; work = no_work }
+
+-- before the first turn all of the source is still to come
+abbrev pub start : List ℕ → State
+start source = record {
+  cursor = record { rest = source; lines = first_line };
   reading = between mode.Reads;
   work = no_work;
 }
@@ -52,6 +60,9 @@ is_mode_ended mode.Ended = true
 is_mode_ended _ = false
 
 -- nothing is read after the end of the source or a fatal message
+abbrev pub has_ended_at : Stand → Bool
+has_ended_at s = s.work.report.is_over || is_mode_ended s.reading.mode
+
 abbrev pub has_ended : State → Bool
 has_ended s = s.work.report.is_over || is_mode_ended s.reading.mode
 
@@ -72,22 +83,21 @@ skip_of stack = if is_in_routine stack then mode.SkipsRoutine else mode.SkipsDir
 
 -- Tokens
 
--- what was read, and what was compiled
-pub record Stand : Type 0 where
-  pub reading : Reading
-  pub work : Work
+-- what is wrong with a token at a line: a text that is too long ends the compilation
+abbrev pub with_complaint : List ℕ → ℕ → Message → Reported → Reported
+with_complaint file line m r = if is_fatal m then with_fatal file line m r else with_error file line line m r
 
 -- The bad token of a piece is told, and is the first that is passed over. The unit that it stands in gives nothing, and a
 -- routine that it stands in is never finished: what there is of it and of its locals is left, and nothing reads it.
 abbrev pub bad : List ℕ → Spelled → Reading → Work → Stand
 bad file t r w = record {
   reading = between (passed (skip_of r.stack) t.kind);
-  work = record w { report = with_error file t.line t.line (complaint_of t) w.report };
+  work = record w { report = with_complaint file t.line (complaint_of t) w.report };
 }
 
 -- what is gathered behind a token that was taken
 abbrev pub gathering : Spelled → Gathered → Gathered
-gathering t g = record g { read = read_of t }
+gathering t g = record g { named = name_of t; read = read_of t }
 
 -- A token that fits is taken: first the actions on the way to it act.
 abbrev pub took : List ℕ → Spelled → Reading → Work → Stand
@@ -148,4 +158,4 @@ turns_of source = suc (length source)
 
 -- what is compiled of a source
 abbrev pub compiled : List ℕ → List ℕ → State
-compiled file source = run file (turns_of source) (start file source)
+compiled file source = run file (turns_of source) (start source)

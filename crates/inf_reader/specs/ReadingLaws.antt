@@ -5,7 +5,7 @@ use Rattle.inf_reader.specs.Reading.{has_ended, compiled, run, turns_of, start}
 -- Each source is read to its end or to a fatal message, and further turns change nothing.
 pub record IsRead (file source : List ℕ) : Type 0 where
   pub ends : has_ended (compiled file source) ≡ true
-  pub stays : (further : ℕ) → run file (turns_of source + further) (start file source) ≡ compiled file source
+  pub stays : (further : ℕ) → run file (turns_of source + further) (start source) ≡ compiled file source
 
 abbrev pub SourcesAreRead : Type 0
 SourcesAreRead = (file source : List ℕ) → IsRead file source

@@ -6,11 +6,13 @@
 use Rattle.std.specs.Prelude.{ℕ, List, [], ◌∷◌, codes, Bool, true, false, not, ◌||◌, ◌&&◌, if◌then◌else◌, Option, Some, None}
 use Rattle.std.specs.List.{list_any}
 use Rattle.std.specs.Str.{str_eq_ignore_ascii_case}
-use Rattle.inf_token.specs.Spelling.{Spelled, is_mark}
-use Rattle.inf_token.specs.declared.spelling.Mark.TheVariants as mark
-use Rattle.inf_token.specs.declared.spelling.TokenKind.{TokenKind}
-use Rattle.inf_token.specs.declared.spelling.TokenKind.TheVariants as kind
-use Rattle.inf_unit.specs.Statements.{Unit, no_unit, unit_behind, statement_of}
+use Rattle.inf_scanner.specs.declared.tokens.Mark.TheVariants as mark
+use Rattle.inf_scanner.specs.declared.tokens.TokenKind.{TokenKind}
+use Rattle.inf_scanner.specs.declared.tokens.TokenKind.TheVariants as kind
+use Rattle.inf_unit.specs.Tokens.{Spelled, is_mark}
+use Rattle.inf_unit.specs.Statements.{Unit, no_unit, unit_behind}
+use Rattle.inf_unit.specs.declared.unit.Head.{Head}
+use Rattle.inf_unit.specs.declared.unit.Head.TheVariants as head
 use Rattle.inf_unit.specs.declared.unit.Statement.{Statement}
 use Rattle.inf_unit.specs.declared.unit.Statement.TheVariants as statement
 use Rattle.inf_reader.specs.Tests.{is_operand}
@@ -34,36 +36,33 @@ abbrev pub begins_statement : TokenKind → List ℕ → Bool
 begins_statement kind.Name bytes = not (is_later_word bytes)
 begins_statement k bytes = is_mark mark.Semicolon k || is_mark mark.CloseBracket k
 
--- whether the last token closes a call
-abbrev pub is_closed : Option Spelled → Bool
-is_closed None = false
-is_closed (Some t) = is_mark mark.CloseParenthesis t.kind
-
 -- behind the name of what is called only its bracket has come, and behind the closing one only the end
-abbrev pub goes_on_call : List Spelled → Option Spelled → Spelled → Bool
-goes_on_call [] last t = is_mark mark.OpenParenthesis t.kind
-goes_on_call (_ ∷ _) last t =
-    if is_closed last then is_mark mark.Semicolon t.kind
+abbrev pub goes_on_call : Unit → Spelled → Bool
+goes_on_call u t =
+    if not u.has_more then is_mark mark.OpenParenthesis t.kind else
+    if u.is_closed then is_mark mark.Semicolon t.kind
     else is_operand t || is_mark mark.Comma t.kind || is_mark mark.CloseParenthesis t.kind
 
 -- right behind `print` only a text has come
-abbrev pub goes_on_print : List Spelled → Spelled → Bool
-goes_on_print [] t = is_text t.kind
-goes_on_print (_ ∷ _) t = is_text t.kind || is_mark mark.Comma t.kind || is_mark mark.Semicolon t.kind
+abbrev pub goes_on_print : Unit → Spelled → Bool
+goes_on_print u t =
+    if not u.has_more then is_text t.kind
+    else is_text t.kind || is_mark mark.Comma t.kind || is_mark mark.Semicolon t.kind
 
-abbrev pub goes_on : Statement → List Spelled → Option Spelled → Spelled → Bool
-goes_on statement.Print rest last t = goes_on_print rest t
-goes_on statement.Return rest last t = is_operand t || is_mark mark.Semicolon t.kind
-goes_on statement.Call rest last t = goes_on_call rest last t
-goes_on _ rest last t = is_mark mark.Semicolon t.kind
+abbrev pub goes_on : Statement → Unit → Spelled → Bool
+goes_on statement.Print u t = goes_on_print u t
+goes_on statement.Return u t = is_operand t || is_mark mark.Semicolon t.kind
+goes_on statement.Call u t = goes_on_call u t
+goes_on _ u t = is_mark mark.Semicolon t.kind
 
 -- whether a token may go on with a unit that begins so, as far as what has come goes; in a header all may
-abbrev pub has_come_behind : List Spelled → Option Spelled → Spelled → Bool
-has_come_behind [] last t = begins_statement t.kind t.bytes
-has_come_behind (first ∷ rest) last t = is_mark mark.OpenBracket first.kind || goes_on (statement_of first) rest last t
+abbrev pub has_come_behind : Option Head → Unit → Spelled → Bool
+has_come_behind None u t = begins_statement t.kind t.bytes
+has_come_behind (Some (head.Header line)) u t = true
+has_come_behind (Some (head.Statement s line)) u t = goes_on s u t
 
 abbrev pub has_come : Unit → Spelled → Bool
-has_come u t = has_come_behind u.tokens u.last t
+has_come u t = has_come_behind u.head u t
 
 -- whether a list of tokens, behind those of a unit, goes on with what has come
 abbrev pub have_come : Unit → List Spelled → Bool

@@ -4,6 +4,7 @@
 mod laws;
 mod mode;
 pub mod outcome;
+mod progress;
 mod reader;
 mod selection;
 pub mod session;

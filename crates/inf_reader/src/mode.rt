@@ -1,9 +1,8 @@
 ghost use Rattle.std.specs.Prelude.{◌≡◌};
 ghost use Rattle.inf_reader.specs.Reading.{passed};
 
-use crate::tokens::is_end;
-use inf_token::spelling::{Mark, TokenKind};
-use inf_unit::tokens::is_mark;
+use inf_scanner::Mark;
+use inf_unit::tokens::{Spelled, is_end, is_mark};
 
 /// How the next token of a source is read.
 #[derive(Clone, Copy, Debug, PartialEq, Eq)]
@@ -19,16 +18,16 @@ pub enum Mode {
 }
 
 /// How reading goes on behind a token that is passed over.
-pub fn passed(skip: Mode, token: TokenKind) -> Mode
-    ensures { result ≡ passed skip token }
+pub fn passed(skip: Mode, token: &Spelled<'_>) -> Mode
+    ensures { result ≡ passed skip token.now.kind }
 {
-    if is_end(token) {
+    if is_end(token.kind) {
         return Mode::Ended;
     }
     match skip {
-        Mode::SkipsRoutine if is_mark(token, Mark::CloseBracket) => Mode::SkipsDirective,
+        Mode::SkipsRoutine if is_mark(token.kind, Mark::CloseBracket) => Mode::SkipsDirective,
         Mode::SkipsRoutine => Mode::SkipsRoutine,
-        _ if is_mark(token, Mark::Semicolon) => Mode::Reads,
+        _ if is_mark(token.kind, Mark::Semicolon) => Mode::Reads,
         _ => Mode::SkipsDirective,
     }
 }

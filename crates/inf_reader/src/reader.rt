@@ -8,21 +8,21 @@ ghost use Rattle.inf_reader.specs.declared.mode.Mode.TheVariants as mode;
 
 use crate::mode::{Mode, passed};
 use inf_grammar::{Action, Machine, PIECE};
-use inf_token::spelling::TokenKind;
+use inf_unit::tokens::Spelled;
 use inf_unit::unit::Unit;
 use std::alloc::{AllocError, Global};
 
 /// How the next token is read, what of the piece at hand is still to come, and the unit at hand.
 #[derive(Drop)]
-pub struct Reader<'a> {
+pub struct Reader {
     pub mode: Mode,
     pub machine: Machine,
-    pub unit: Unit<'a>,
+    pub unit: Unit,
 }
 
-impl<'a> Reader<'a> {
+impl Reader {
     /// Before the first piece.
-    pub fn new(alloc: Global) -> Reader<'a>
+    pub fn new(alloc: Global) -> Reader
         ensures { reading result ≡ between mode.Reads }
     {
         Reader {
@@ -54,8 +54,8 @@ impl<'a> Reader<'a> {
     }
 
     /// The piece at hand is bad: it is given up, and its bad token passed over.
-    pub fn give_up(&mut self, token: TokenKind)
-        ensures { reading self.new ≡ between (passed (skip_of (reading self.old).stack) token) }
+    pub fn give_up(&mut self, token: &Spelled<'_>)
+        ensures { reading self.new ≡ between (passed (skip_of (reading self.old).stack) token.now.kind) }
     {
         let skip = if self.machine.is_in_routine() {
             Mode::SkipsRoutine

@@ -1,27 +1,35 @@
-ghost use Rattle.std.specs.Prelude.{◌≡◌, ◌<◌, ◌^◌, ◌+◌, OnOk, IfOk, IfSome, Some, is_none, length};
-ghost use Rattle.inf_reader.specs.Reading.{has_ended, turn};
-ghost use Rattle.inf_token.specs.Tokens.{spelled};
+//! The reading of a source that a reader of files gives piece by piece.
+ghost use Rattle.std.specs.Prelude.{◌≡◌, ℕ, ◌+◌, ◌-◌, ◌<◌, ◌≤◌, ◌⊎◌, List, OnOk, IfOk, IfSome, IsErrOf, IsTrue, is_none, length, min};
+ghost use Rattle.inf_characters.specs.declared.characters.CharSet.TheVariants as charset;
+ghost use Rattle.inf_token.specs.Files.{Rose, last_count};
+ghost use Rattle.inf_lexer.specs.Readers.{at_front};
+ghost use Rattle.inf_lexer.specs.Unread.{Along, Ends, Heard};
 ghost use Rattle.inf_symbol.specs.Reported.{reported};
-ghost use Rattle.inf_reader.specs.Translations.{seen};
 ghost use Rattle.inf_symbol.specs.Names.{places};
 ghost use Rattle.inf_symbol.specs.NameMap.{named as name_list};
 ghost use Rattle.inf_layout.specs.Story.{story, is_too_long};
-ghost use Rattle.inf_reader.specs.Outcome.{outcome, missing, finished, refused};
+ghost use Rattle.inf_unit.specs.Works.{work as work_of};
+ghost use Rattle.inf_reader.specs.Cursors.{most_quoted};
+ghost use Rattle.inf_reader.specs.Outcome.{finished, missing, refused};
+ghost use Rattle.inf_reader.specs.Reading.{State};
+ghost use Rattle.inf_reader.specs.Sessions.{HasRead, IsReady, IsTooMuch};
+ghost use Rattle.inf_reader.specs.Translations.{seen};
 
-use crate::mode::{Mode, passed};
 use crate::outcome::{Status, Translation};
-use crate::reader::Reader;
-use crate::selection::{begins_piece, has_come};
-use crate::tokens::{atom_at, complaint_of, is_end, text_of};
-use inf_grammar::Action;
+use crate::progress::Progress;
 use inf_layout::code::Code;
 use inf_layout::layout::story;
+use inf_lexer::{LexFault, Lexer};
 use inf_symbol::messages::Message;
 use inf_symbol::names::Names;
 use inf_symbol::report::Report;
-use inf_token::spelling::{Lexer, Token};
+use inf_token::files::Files;
+use inf_unit::tokens::Spelled;
 use inf_unit::work::Work;
-use std::alloc::{AllocError, Global};
+use std::alloc::{AllocError, AllocFailed, Global};
+
+/// How many bytes a text or quote may have.
+pub const MOST_QUOTED: u32 = 4000;
 
 /// Where the messages about a whole source stand.
 const FIRST_LINE: u32 = 1;
@@ -29,171 +37,127 @@ const FIRST_LINE: u32 = 1;
 /// The reading of one source, and what was compiled of it so far.
 #[derive(Drop)]
 pub struct Session<'a> {
-    alloc: Global,
     file: &'a [u8],
-    source: &'a [u8],
-    lexer: Lexer<'a>,
-    reader: Reader<'a>,
-    /// The actions on the way to the token at hand.
-    actions: Vec<Action>,
-    work: Work<'a>,
+    lexer: Lexer,
+    progress: Progress,
 }
 
 impl<'a> Session<'a> {
-    ghost use Rattle.inf_reader.specs.Reading.{start, run, turns_of, taken_at, read_at, judged, bad, stand};
-    ghost use Rattle.inf_reader.specs.Sessions.{state, reading};
-    ghost use Rattle.inf_unit.specs.Works.{work};
-    ghost use Rattle.inf_token.specs.Tokens.{HasRoom, cursor};
+    ghost use Rattle.inf_reader.specs.Reading.{has_ended_at, run, start, turn, turns_of};
+    ghost use Rattle.inf_reader.specs.Sessions.{Moves, Stops, standing, state};
 
-    /// At the front of a source, which has fewer than 2^32 - 1 bytes. It takes no memory until
+    /// At the front of a source of this name, of which the lexer has read nothing yet. It takes no memory until
     /// something is read.
-    pub fn new(alloc: Global, file: &'a [u8], source: &'a [u8]) -> Session<'a>
-        requires { length source.now + 1 < 2 ^ 32 }
-        ensures state { state result ≡ start file.now source.now }
-        ensures room { HasRoom result.lexer }
+    fn new(alloc: Global, file: &'a [u8], lexer: Lexer) -> Session<'a>
+        requires { lexer ≡ at_front charset.Latin1 most_quoted lexer.file }
+        ensures state { (rest : List ℕ) → state result rest ≡ start rest }
+        ensures ready { IsReady result.lexer }
+        ensures window { result.lexer.window ≡ lexer.window }
         ensures file { result.file.now ≡ file.now }
     {
         Session {
-            alloc,
             file,
-            source,
-            lexer: Lexer::new(source),
-            reader: Reader::new(alloc),
-            actions: Vec::new(alloc),
-            work: Work::new(alloc),
+            lexer,
+            progress: Progress::new(alloc),
         }
     }
 
-    /// Whether there is nothing left to read.
-    pub fn has_ended(&self) -> bool
-        ensures { result ≡ has_ended (state self.now) }
-    {
-        self.work.report.is_over || matches!(self.reader.mode, Mode::Ended)
-    }
-
-    /// Reads the whole source.
-    pub fn read(&mut self) -> Result<(), AllocError>
-        requires { HasRoom self.old.lexer }
-        ensures state { let turns = turns_of (cursor self.old.lexer).rest in
-            OnOk result (state self.new ≡ run self.old.file.now turns (state self.old)) }
+    /// Reads to the end of the source, or to a fatal message. The lexer's source is the one that was opened last and is
+    /// not closed.
+    fn read<F: Files>(&mut self, files: &mut F) -> Result<(), LexFault>
+        requires is_open { 0 < F.depth files.old }
+        requires ready { IsReady self.old.lexer }
+        requires few { self.old.lexer.window.given ≤ 16777216 }
+        ensures heard { IfOk result (λ _. Heard State (F.is_honest files.old) (F.sources files.old)
+            (F.openings files.old) (F.openings files.new) self.old.lexer.window self.new.lexer.window
+            (state self.new) (λ rest. run self.old.file.now (turns_of rest) (state self.old rest))) }
+        ensures stops { IfOk result (λ _. Stops (standing self.old.progress) (standing self.new.progress) self.new.lexer.window) }
         ensures file { self.new.file ≡ self.old.file }
+        ensures end { IsTrue (F.is_honest files.old) → Ends (F.sources files.old) (F.openings files.old) self.old.lexer.window →
+            Ends (F.sources files.old) (F.openings files.new) self.new.lexer.window }
+        ensures window { OnOk result (length self.old.lexer.window.left ≤ 4096 → length self.new.lexer.window.left ≤ 4096) }
+        ensures few { OnOk result (self.new.lexer.window.given ≤ 16777216) }
+        ensures gave { IsTrue (F.is_honest files.old) → Along (F.sources files.old)
+            (F.openings files.old) (F.openings files.new) self.old.lexer.window.given self.new.lexer.window.given }
+        ensures given { min (F.given files.old + (self.new.lexer.window.given - self.old.lexer.window.given)) last_count
+            ≤ F.given files.new }
+        ensures cause { IsErrOf result LexFault.Read → Rose (F.faults files.old) (F.faults files.new)
+            ⊎ (16777216 < self.new.lexer.window.given) }
+        ensures depth { F.depth files.new ≡ F.depth files.old }
+        ensures faults { F.faults files.old ≤ F.faults files.new }
+        ensures sources { F.sources files.new ≡ F.sources files.old }
+        ensures honesty { F.is_honest files.new ≡ F.is_honest files.old }
     {
-        while !self.has_ended() {
-            self.turn()?;
+        while !self.progress.has_ended() {
+            self.turn(files)?;
         }
         Ok(())
     }
 
     /// One turn takes the next token: the actions of the grammar on the way to it act. Or the token
     /// is bad, or is passed over.
-    pub fn turn(&mut self) -> Result<(), AllocError>
-        requires { HasRoom self.old.lexer }
-        ensures state { OnOk result (state self.new ≡ turn self.old.file.now (state self.old)) }
-        ensures room { HasRoom self.new.lexer }
+    fn turn<F: Files>(&mut self, files: &mut F) -> Result<(), LexFault>
+        requires is_open { 0 < F.depth files.old }
+        requires ready { IsReady self.old.lexer }
+        ensures heard { IfOk result (λ _. Heard State (F.is_honest files.old) (F.sources files.old)
+            (F.openings files.old) (F.openings files.new) self.old.lexer.window self.new.lexer.window
+            (state self.new) (λ rest. turn self.old.file.now (state self.old rest))) }
+        ensures moves { IfOk result (λ _. Moves (standing self.new.progress) self.old.lexer.window self.new.lexer.window) }
+        ensures stops { IfOk result (λ _. Stops (standing self.old.progress) (standing self.new.progress) self.new.lexer.window) }
+        ensures ready { OnOk result (IsReady self.new.lexer) }
         ensures file { self.new.file ≡ self.old.file }
+        ensures end { IsTrue (F.is_honest files.old) → Ends (F.sources files.old) (F.openings files.old) self.old.lexer.window →
+            Ends (F.sources files.old) (F.openings files.new) self.new.lexer.window }
+        ensures window { length self.new.lexer.window.left ≤ 4096 }
+        ensures few { OnOk result (self.new.lexer.window.given ≤ 16777216) }
+        ensures gave { IsTrue (F.is_honest files.old) → Along (F.sources files.old)
+            (F.openings files.old) (F.openings files.new) self.old.lexer.window.given self.new.lexer.window.given }
+        ensures given { min (F.given files.old + (self.new.lexer.window.given - self.old.lexer.window.given)) last_count
+            ≤ F.given files.new }
+        ensures cause { IsErrOf result LexFault.Read → Rose (F.faults files.old) (F.faults files.new)
+            ⊎ (16777216 < self.new.lexer.window.given) }
+        ensures depth { F.depth files.new ≡ F.depth files.old }
+        ensures faults { F.faults files.old ≤ F.faults files.new }
+        ensures sources { F.sources files.new ≡ F.sources files.old }
+        ensures honesty { F.is_honest files.new ≡ F.is_honest files.old }
     {
-        let token = self.lexer.next();
-        self.take(token)
-    }
-
-    /// Takes a token, behind which the lexer stands.
-    fn take(&mut self, token: Token<'a>) -> Result<(), AllocError>
-        ensures state { OnOk result (state self.new
-            ≡ taken_at self.old.file.now (spelled token.entry) (state self.old)) }
-        ensures same { (self.new.lexer ≡ self.old.lexer) × (self.new.file ≡ self.old.file) }
-    {
-        match self.reader.mode {
-            Mode::Reads => self.read_token(token),
-            Mode::SkipsRoutine | Mode::SkipsDirective => {
-                self.reader.mode = passed(self.reader.mode, token.kind);
-                Ok(())
-            }
-            Mode::Ended => Ok(()),
-        }
-    }
-
-    /// A token of a piece, or the end between the pieces.
-    fn read_token(&mut self, token: Token<'a>) -> Result<(), AllocError>
-        ensures state { let before = reading self.old.reader in
-            OnOk result (state self.new ≡ stand (state self.old)
-            (read_at self.old.file.now (spelled token.entry) before.stack before (work self.old.work))) }
-        ensures same { (self.new.lexer ≡ self.old.lexer) × (self.new.file ≡ self.old.file) }
-    {
-        if !self.reader.machine.is_done() {
-            let may_come = has_come(&self.reader.unit, token);
-            return self.judge(token, may_come);
-        }
-        if is_end(token.kind) {
-            self.reader.mode = Mode::Ended;
-            return Ok(());
-        }
-        self.reader.begin()?;
-        self.judge(token, begins_piece(token))
-    }
-
-    /// Takes a token of the piece at hand if it fits and may go on with it; else it is the bad one.
-    fn judge(&mut self, token: Token<'a>, has_come: bool) -> Result<(), AllocError>
-        ensures state { let before = reading self.old.reader in
-            OnOk result (state self.new ≡ stand (state self.old)
-            (judged self.old.file.now has_come (spelled token.entry) before (work self.old.work))) }
-        ensures same { (self.new.lexer ≡ self.old.lexer) × (self.new.file ≡ self.old.file) }
-    {
-        let text = text_of(self.alloc, token)?;
-        let atom = atom_at(token, text.is_some());
-        if !(has_come && self.reader.machine.fits(atom)) {
-            return self.bad(token);
-        }
-        self.reader.take(atom, &mut self.actions)?;
-        let (file, unit) = (self.file, &self.reader.unit);
-        self.work
-            .act_all(file, unit, token.line, self.actions.as_slice())?;
-        self.work.gather(text);
-        self.reader.unit.add(token)
-    }
-
-    /// Tells the bad token of a piece, and passes over it.
-    fn bad(&mut self, token: Token<'_>) -> Result<(), AllocError>
-        ensures state { let before = reading self.old.reader in
-            OnOk result (state self.new ≡ stand (state self.old)
-            (bad self.old.file.now (spelled token.entry) before (work self.old.work))) }
-        ensures same { (self.new.lexer ≡ self.old.lexer) × (self.new.file ≡ self.old.file) }
-    {
-        let message = complaint_of(self.alloc, token)?;
-        self.reader.give_up(token.kind);
-        self.work
-            .report
-            .error(self.file, token.line, token.line, message)
-    }
-
-    /// Ends the compilation of a source that was read. A name that was used and never declared is
-    /// an error, and that there is no routine `Main`. A story comes only where no error was found.
-    pub fn finish(self, serial: &[u8]) -> Result<Translation, AllocError>
-        ensures { IfOk result (λ t. seen t ≡ finished serial.now self.entry.file.now (state self.entry)) }
-    {
-        let file = self.file;
-        let work = self.work;
-        let mut report = work.report;
-        let names = work.names;
-        let output = work.output;
-        names.tell_undeclared(file, &mut report)?;
-        let Some(main) = names.find(b"main") else {
-            report.error(file, FIRST_LINE, FIRST_LINE, Message::NoMain)?;
-            return refused(report);
+        let token = self.lexer.next(files)?;
+        let spelled = Spelled {
+            kind: token.kind,
+            bytes: self.lexer.spelling(),
+            line: token.place.line,
         };
-        if report.is_over || report.errors != 0 {
-            return refused(report);
-        }
-        let Some(story) = story_of(self.alloc, serial, main.place, &names, output.code)? else {
-            report.fatal(file, FIRST_LINE, Message::StoryTooLong)?;
-            return refused(report);
-        };
-        report.close()?;
-        Ok(Translation {
-            messages: report.lines,
-            story: Some(story),
-            status: Status::Success,
-        })
+        self.progress.take(self.file, &spelled)?;
+        Ok(())
     }
+}
+
+/// Ends the compilation of a source that was read. A name that was used and never declared is
+/// an error, and that there is no routine `Main`. A story comes only where no error was found.
+fn finish(alloc: Global, file: &[u8], serial: &[u8], work: Work) -> Result<Translation, AllocError>
+    ensures { IfOk result (λ t. seen t ≡ finished serial.now file.now (work_of work)) }
+{
+    let mut report = work.report;
+    let names = work.names;
+    let output = work.output;
+    names.tell_undeclared(file, &mut report)?;
+    let Some(main) = names.find(b"main") else {
+        report.error(file, FIRST_LINE, FIRST_LINE, Message::NoMain)?;
+        return refused(report);
+    };
+    if report.is_over || report.errors != 0 {
+        return refused(report);
+    }
+    let Some(story) = story_of(alloc, serial, main.place, &names, output.code)? else {
+        report.fatal(file, FIRST_LINE, Message::StoryTooLong)?;
+        return refused(report);
+    };
+    report.close()?;
+    Ok(Translation {
+        messages: report.lines,
+        story: Some(story),
+        status: Status::Success,
+    })
 }
 
 /// The story of some code, in which the routine at a place is called first, and the names get the
@@ -202,7 +166,7 @@ fn story_of(
     alloc: Global,
     serial: &[u8],
     main: usize,
-    names: &Names<'_>,
+    names: &Names,
     code: Code,
 ) -> Result<Option<Vec<u8>>, AllocError>
     ensures long { IfOk result (λ o. is_none o ≡ is_too_long main (places (name_list names.now)) code.finished) }
@@ -227,19 +191,39 @@ fn refused(mut report: Report) -> Result<Translation, AllocError>
 }
 
 /// Compiles a source of this name: its messages, and its story where it has no error. The serial
-/// number has six digits, and a source fewer than 2^32 - 1 bytes.
-pub fn translate(
+/// number has six digits. The lexer has read nothing yet; its source is the one that was opened last and is not closed,
+/// and it is read to its end, or to a fatal message.
+///
+/// `Read` comes where the source could not be read, or has more than 16,777,216 bytes; `Memory` where a growth was
+/// refused.
+pub fn translate<F: Files>(
     alloc: Global,
     file: &[u8],
-    source: &[u8],
+    lexer: Lexer,
+    files: &mut F,
     serial: &[u8],
-) -> Result<Translation, AllocError>
-    requires { length source.now + 1 < 2 ^ 32 }
-    ensures { IfOk result (λ t. seen t ≡ (outcome serial.now file.now (Some source.now)).ending) }
+) -> Result<Translation, LexFault>
+    requires is_open { 0 < F.depth files.old }
+    requires front { lexer ≡ at_front charset.Latin1 most_quoted lexer.file }
+
+    // What comes of the bytes that were given, whatever follows them.
+    ensures read { IfOk result (λ t. HasRead (F.is_honest files.old) (F.sources files.old)
+        (F.openings files.old) (F.openings files.new) serial.now file.now (seen t)) }
+
+    // A refusal has its cause.
+    ensures cause { IsErrOf result LexFault.Read → Rose (F.faults files.old) (F.faults files.new)
+        ⊎ IsTooMuch (F.is_honest files.old) (F.sources files.old) (F.openings files.old) (F.openings files.new)
+        (F.given files.old) (F.given files.new) }
+    ensures depth { F.depth files.new ≡ F.depth files.old }
+    ensures faults { F.faults files.old ≤ F.faults files.new }
+    ensures sources { F.sources files.new ≡ F.sources files.old }
+    ensures honesty { F.is_honest files.new ≡ F.is_honest files.old }
 {
-    let mut session = Session::new(alloc, file, source);
-    session.read()?;
-    session.finish(serial)
+    let mut session = Session::new(alloc, file, lexer);
+    session.read(files)?;
+    let progress = session.progress;
+    let translation = finish(alloc, file, serial, progress.work)?;
+    Ok(translation)
 }
 
 /// What comes of a source that is not there.

@@ -46,14 +46,14 @@ pub enum Mark {
     Greater,
     /// `>=`
     GreaterOrEqual,
-    /// `>>`
-    DoubleGreater,
     /// `<`
     Less,
     /// `<=`
     LessOrEqual,
     /// `<<`
     DoubleLess,
+    /// `>>`
+    DoubleGreater,
     /// `,`
     Comma,
     /// `;`

@@ -8,7 +8,7 @@ use Rattle.inf_symbol.specs.declared.locals.Local.{Local}
 
 -- whether a local has this name, in any case
 abbrev pub has : List ℕ → Local → Bool
-has name l = str_eq_ignore_ascii_case l.name.now name
+has name l = str_eq_ignore_ascii_case l.name.items name
 
 -- a local that was named
 abbrev pub as_named : Local → Local

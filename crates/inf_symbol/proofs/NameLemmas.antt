@@ -7,11 +7,10 @@ use Rattle.std.specs.Str.{bytes_eq}
 use Rattle.indexmap.specs.IndexMap.{insert_entry}
 use Rattle.inf_symbol.specs.Messages.{Reported}
 use Rattle.inf_symbol.specs.NameMap.{standing}
-use Rattle.inf_symbol.specs.Names.{Named, declaration_in, declaration_of, index_of, packed_address, place_in, places, with_all_undeclared, with_declared, with_undeclared, with_used}
+use Rattle.inf_symbol.specs.Names.{IsUsed, Named, Standing, declaration_in, declaration_of, index_of, packed_address, place_in, places, with_all_undeclared, with_declared, with_undeclared, with_used}
 use Rattle.inf_symbol.specs.declared.names.Declaration.{Declaration}
 use Rattle.inf_symbol.specs.declared.names.Entry.{Entry}
 use Rattle.inf_symbol.specs.declared.names.Entry.TheVariants as entry
-use Rattle.std.specs.Borrow.{Bor}
 
 -- whether a stored name is this one
 abbrev pub has : {A : Type 0} → List ℕ → Vec ℕ A → Bool
@@ -51,14 +50,14 @@ with_used-present key spelling line (e ∷ es) is = go (bytes_eq key e.0.items) 
     go true is later = refl
     go false is later = ap (λ names. as_named e ∷ names) (later is)
 
--- and a new one goes behind the others
-pub with_used-insert : {A : Type 0} (key : Vec ℕ A) (spelling : Bor (List ℕ)) (line : ℕ) (es : List (Vec ℕ A × Entry)) → is_some (lookup (has key.items) es) ≡ false → map as_named (insert_entry (λ a b. bytes_eq a.items b.items) es key (entry.Used spelling line)) ≡ with_used key.items spelling.now line (map as_named es)
-with_used-insert key spelling line [] is = refl
-with_used-insert key spelling line (e ∷ es) is = go (bytes_eq key.items e.0.items) is (with_used-insert key spelling line es)
+-- and a new one, which stands for a used name, goes behind the others
+pub with_used-insert : {A : Type 0} (key : Vec ℕ A) (e : Entry) (spelling : List ℕ) (line : ℕ) (es : List (Vec ℕ A × Entry)) → standing e ≡ IsUsed spelling line → is_some (lookup (has key.items) es) ≡ false → map as_named (insert_entry (λ a b. bytes_eq a.items b.items) es key e) ≡ with_used key.items spelling line (map as_named es)
+with_used-insert key e spelling line [] used is = ap (λ (s : Standing). record { name = key.items; standing = s } ∷ []) used
+with_used-insert key e spelling line (x ∷ es) used is = go (bytes_eq key.items x.0.items) is (with_used-insert key e spelling line es used)
   where
-    go : (t : Bool) → is_some (cond t (Some e.1) (lookup (has key.items) es)) ≡ false → (is_some (lookup (has key.items) es) ≡ false → map as_named (insert_entry (λ a b. bytes_eq a.items b.items) es key (entry.Used spelling line)) ≡ with_used key.items spelling.now line (map as_named es)) → map as_named (cond t ((e.0, entry.Used spelling line) ∷ es) (e ∷ insert_entry (λ a b. bytes_eq a.items b.items) es key (entry.Used spelling line))) ≡ cond t (as_named e ∷ map as_named es) (as_named e ∷ with_used key.items spelling.now line (map as_named es))
+    go : (t : Bool) → is_some (cond t (Some x.1) (lookup (has key.items) es)) ≡ false → (is_some (lookup (has key.items) es) ≡ false → map as_named (insert_entry (λ a b. bytes_eq a.items b.items) es key e) ≡ with_used key.items spelling line (map as_named es)) → map as_named (cond t ((x.0, e) ∷ es) (x ∷ insert_entry (λ a b. bytes_eq a.items b.items) es key e)) ≡ cond t (as_named x ∷ map as_named es) (as_named x ∷ with_used key.items spelling line (map as_named es))
     go true is later = cc
-    go false is later = ap (λ names. as_named e ∷ names) (later is)
+    go false is later = ap (λ names. as_named x ∷ names) (later is)
 
 pub index_of-place : {A : Type 0} (key : List ℕ) (es : List (Vec ℕ A × Entry)) → index_of key (map as_named es) ≡ position_or_len (has key) (keys_of es)
 index_of-place key [] = refl

@@ -1,5 +1,6 @@
 pub mod Sinks
 pub mod Messages
+pub mod Spellings
 pub mod Reports
 pub mod Reported
 pub mod Names

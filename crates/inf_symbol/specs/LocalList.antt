@@ -7,7 +7,7 @@ use Rattle.inf_symbol.specs.declared.locals.Headed.{Headed as CodeHeaded}
 use Rattle.inf_symbol.specs.Reports.{blamed}
 
 abbrev pub local : CodeLocal → Local
-local l = record { name = l.name.now; line = l.line; is_named = l.is_named }
+local l = record { name = l.name.items; line = l.line; is_named = l.is_named }
 
 abbrev pub listed : Locals → List Local
 listed locals = map local locals.list.items

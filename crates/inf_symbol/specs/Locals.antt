@@ -1,7 +1,7 @@
 -- The local variables of a routine. Designer's Manual, fourth edition, section 1.4; Z-Machine Standard 1.1, section 5.2.
 use Rattle.std.specs.Prelude.{ℕ, ◌+◌, List, [], ◌∷◌, ◌++◌, length, Bool, true, false, nat_lt, if◌then◌else◌, Option, Some, None}
 use Rattle.std.specs.Str.{str_eq_ignore_ascii_case}
-use Rattle.inf_token.specs.Spelling.{Spelled}
+use Rattle.inf_symbol.specs.Spellings.{Name}
 use Rattle.inf_symbol.specs.Messages.{Blame, Declared, UnusedLocal, Reported, with_warning}
 
 -- a local variable: as the header of its routine spells it, the line there, and whether a statement has named it
@@ -34,9 +34,9 @@ with_named name (l ∷ locals) =
     if str_eq_ignore_ascii_case l.name name then record { name = l.name; line = l.line; is_named = true } ∷ locals
     else l ∷ with_named name locals
 
-abbrev pub with_all_named : List Spelled → List Local → List Local
+abbrev pub with_all_named : List Name → List Local → List Local
 with_all_named [] locals = locals
-with_all_named (t ∷ tokens) locals = with_all_named tokens (with_named t.bytes locals)
+with_all_named (n ∷ names) locals = with_all_named names (with_named n.bytes locals)
 
 -- The locals that a header names: the first 15 different ones, the first that it names again, and whether there are more.
 pub record Headed : Type 0 where
@@ -52,20 +52,20 @@ abbrev pub earlier : Option Blame → Blame → Option Blame
 earlier None later = Some later
 earlier (Some first) later = Some first
 
-abbrev pub with_local_by : Spelled → Option Local → Headed → Headed
-with_local_by t (Some l) h = record h { repeated = earlier h.repeated (record { line = t.line; message = Declared t.bytes l.line }) }
-with_local_by t None h =
+abbrev pub with_local_by : Name → Option Local → Headed → Headed
+with_local_by n (Some l) h = record h { repeated = earlier h.repeated (record { line = n.line; message = Declared n.bytes l.line }) }
+with_local_by n None h =
     if nat_lt (length h.locals) most_locals
-    then record h { locals = h.locals ++ record { name = t.bytes; line = t.line; is_named = false } ∷ [] }
+    then record h { locals = h.locals ++ record { name = n.bytes; line = n.line; is_named = false } ∷ [] }
     else record h { are_too_many = true }
 
 -- one name more
-abbrev pub with_local : Spelled → Headed → Headed
-with_local t h = with_local_by t (local_of t.bytes h.locals) h
+abbrev pub with_local : Name → Headed → Headed
+with_local n h = with_local_by n (local_of n.bytes h.locals) h
 
-abbrev pub with_locals : List Spelled → Headed → Headed
+abbrev pub with_locals : List Name → Headed → Headed
 with_locals [] h = h
-with_locals (t ∷ tokens) h = with_locals tokens (with_local t h)
+with_locals (n ∷ names) h = with_locals names (with_local n h)
 
 -- a warning for each local that no statement named, at the end of its routine
 abbrev pub with_unused : List ℕ → ℕ → Local → Reported → Reported

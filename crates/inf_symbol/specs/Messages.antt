@@ -1,12 +1,17 @@
 -- The messages of a compilation: their texts, their lines, and how errors are counted.
 use Rattle.std.specs.Prelude.{ℕ, ◌+◌, List, [], ◌++◌, codes, decimal, Bool, true, false, ◌==◌, if◌then◌else◌, Option, Some, None}
-use Rattle.inf_token.specs.Spelling.{Spelled}
-use Rattle.inf_token.specs.declared.spelling.TokenKind.{TokenKind}
-use Rattle.inf_token.specs.declared.spelling.TokenKind.TheVariants as kind
+
+-- A token as messages name it: by its bytes, which are those between its quotes where it has single ones; but a text by that word,
+-- and the end of the source.
+pub data Told : Type 0 where
+  Bytes : (bytes : List ℕ) → Told
+  Quote : (bytes : List ℕ) → Told
+  Text : Told
+  End : Told
 
 pub data Message : Type 0 where
   -- errors
-  Syntax : (token : Spelled) → Message
+  Syntax : (token : Told) → Message
   IllegalCharacter : Message
   UnclosedQuote : Message
   NumberOutOfRange : Message
@@ -15,7 +20,7 @@ pub data Message : Type 0 where
   NoZscii : Message
   Declared : (name : List ℕ) (line : ℕ) → Message
   SystemName : (name : List ℕ) → Message
-  WrongKind : (token : Spelled) → Message
+  WrongKind : (token : Told) → Message
   Undeclared : (name : List ℕ) → Message
   TooManyArguments : Message
   TooManyLocals : Message
@@ -24,6 +29,7 @@ pub data Message : Type 0 where
   UnusedLocal : (name : List ℕ) → Message
   -- fatal errors
   TooManyErrors : Message
+  TextExceeded : Message
   LabelsExceeded : Message
   CodeExceeded : Message
   RefsExceeded : Message
@@ -34,11 +40,12 @@ pub data Message : Type 0 where
 abbrev pub quoted : List ℕ → List ℕ
 quoted bytes = codes "\"" ++ bytes ++ codes "\""
 
--- how a token that fits nowhere is told: a text by that word, the end by its name, every other by its bytes
-abbrev pub told : TokenKind → List ℕ → List ℕ
-told kind.Text bytes = codes "text"
-told kind.End bytes = codes "end of file"
-told _ bytes = quoted bytes
+-- how a token is told
+abbrev pub told : Told → List ℕ
+told (Bytes bytes) = quoted bytes
+told (Quote bytes) = quoted (codes "'" ++ bytes ++ codes "'")
+told Text = codes "text"
+told End = codes "end of file"
 
 -- a line of a file
 abbrev pub place : List ℕ → ℕ → List ℕ
@@ -46,7 +53,7 @@ place file line = file ++ codes "(" ++ decimal line ++ codes ")"
 
 -- what a message about a source of this file says
 abbrev pub text : List ℕ → Message → List ℕ
-text file (Syntax t) = codes "Syntax error at " ++ told t.kind t.bytes
+text file (Syntax t) = codes "Syntax error at " ++ told t
 text file IllegalCharacter = codes "Illegal character"
 text file UnclosedQuote = codes "Unclosed or empty quote"
 text file NumberOutOfRange = codes "Number out of range"
@@ -55,13 +62,14 @@ text file LongName = codes "Name longer than 32"
 text file NoZscii = codes "No ZSCII character"
 text file (Declared name line) = quoted name ++ codes " was declared at " ++ place file line
 text file (SystemName name) = quoted name ++ codes " is a system name"
-text file (WrongKind t) = codes "Wrong kind: " ++ told t.kind t.bytes
+text file (WrongKind t) = codes "Wrong kind: " ++ told t
 text file (Undeclared name) = quoted name ++ codes " was never declared"
 text file TooManyArguments = codes "Too many arguments"
 text file TooManyLocals = codes "More than 15 locals"
 text file (UnusedLocal name) = codes "Local " ++ quoted name ++ codes " is unused"
 text file NoMain = codes "No routine \"Main\""
 text file TooManyErrors = codes "Too many errors"
+text file TextExceeded = codes "MAX_QTEXT_SIZE is exceeded"
 text file LabelsExceeded = codes "MAX_LABELS is exceeded"
 text file CodeExceeded = codes "MAX_CODE is exceeded"
 text file RefsExceeded = codes "MAX_REFS is exceeded"
@@ -70,6 +78,7 @@ text file NoFile = codes "No file " ++ quoted file
 
 abbrev pub is_fatal : Message → Bool
 is_fatal TooManyErrors = true
+is_fatal TextExceeded = true
 is_fatal LabelsExceeded = true
 is_fatal CodeExceeded = true
 is_fatal RefsExceeded = true

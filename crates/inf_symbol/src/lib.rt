@@ -8,3 +8,4 @@ pub mod messages;
 pub mod names;
 pub mod report;
 pub mod sinks;
+pub mod spellings;

@@ -1,14 +1,13 @@
-ghost use Rattle.std.specs.Prelude.{◌≡◌, ◌≤◌, ◌<◌, [], OnOk, IfSome, length, option_map, map, position};
+ghost use Rattle.std.specs.Prelude.{◌≡◌, ◌≤◌, ◌<◌, [], OnOk, IfSome, length, option_map, position};
 ghost use Rattle.std.specs.Str.{str_eq_ignore_ascii_case};
 ghost use Rattle.arrayvec.specs.ArrayVec.{array_vec_len};
-ghost use Rattle.inf_token.specs.Tokens.{spelled};
-ghost use Rattle.inf_symbol.specs.Locals.{number_of, local_of, with_named, with_all_named, with_local, with_locals, with_all_unused, no_locals};
+ghost use Rattle.inf_symbol.specs.Locals.{number_of, local_of, with_named, with_local, with_all_unused, no_locals};
 ghost use Rattle.inf_symbol.specs.Reported.{reported};
 
 use crate::messages::{Blame, Message};
 use crate::report::Report;
+use crate::spellings::{Spelling, copy_of};
 use arrayvec::ArrayVec;
-use inf_token::spelling::Token;
 use std::alloc::AllocError;
 
 /// The most local variables that a routine has (Z-Machine Standard 1.1, section 5.2).
@@ -22,9 +21,9 @@ fn is_same_name(name: &[u8], other: &[u8]) -> bool
 }
 
 /// A local variable, as the header of its routine spells it.
-#[derive(Clone, Copy, Debug, Default)]
-pub struct Local<'a> {
-    pub name: &'a [u8],
+#[derive(Debug, Default, Drop)]
+pub struct Local {
+    pub name: Spelling,
     pub line: u32,
     /// Whether a statement has named it.
     pub is_named: bool,
@@ -32,23 +31,23 @@ pub struct Local<'a> {
 
 /// The local variables of a routine, in order.
 #[derive(Debug, Drop)]
-pub struct Locals<'a> {
-    pub list: ArrayVec<Local<'a>, MOST_LOCALS>,
+pub struct Locals {
+    pub list: ArrayVec<Local, MOST_LOCALS>,
 }
 
 /// What a header says of local variables: the first 15 different ones, the first name that comes
 /// again, and whether there are more.
 #[derive(Drop)]
-pub struct Headed<'a> {
-    pub locals: Locals<'a>,
-    pub repeated: Option<Blame<'a>>,
+pub struct Headed<'t> {
+    pub locals: Locals,
+    pub repeated: Option<Blame<'t>>,
     pub are_too_many: bool,
 }
 
-impl<'a> Locals<'a> {
-    ghost use Rattle.inf_symbol.specs.LocalList.{listed, local};
+impl Locals {
+    ghost use Rattle.inf_symbol.specs.LocalList.{listed};
 
-    pub fn new() -> Locals<'a>
+    pub fn new() -> Locals
         ensures { listed result ≡ [] }
     {
         Locals {
@@ -66,21 +65,21 @@ impl<'a> Locals<'a> {
 
     /// The place of the local of this name, in any case.
     fn place(&self, name: &[u8]) -> Option<usize>
-        ensures value { result ≡ position (λ l. str_eq_ignore_ascii_case l.name.now name.now) self.now.list.items }
+        ensures value { result ≡ position (λ l. str_eq_ignore_ascii_case l.name.items name.now) self.now.list.items }
         ensures within { IfSome result (λ place. place < array_vec_len self.now.list) }
         ensures few { IfSome result (λ place. place < MOST_LOCALS) }
     {
         self.list
             .iter()
-            .position(|local| is_same_name(local.name, name))
+            .position(|local| is_same_name(local.name.as_slice(), name))
     }
 
-    /// The local of this name, in any case.
-    fn find(&self, name: &[u8]) -> Option<Local<'a>>
-        ensures { option_map local result ≡ local_of name.now (listed self.now) }
+    /// The line of the local of this name, in any case.
+    fn line(&self, name: &[u8]) -> Option<u32>
+        ensures { result ≡ option_map (λ l. l.line) (local_of name.now (listed self.now)) }
     {
         let place = self.place(name)?;
-        Some(self.list[place])
+        Some(self.list[place].line)
     }
 
     /// The number of the local of this name, in any case, from 1 on (Z-Machine Standard 1.1,
@@ -92,16 +91,8 @@ impl<'a> Locals<'a> {
         Some(place as u8 + 1)
     }
 
-    /// A statement names these, of which some may be locals.
-    pub fn name_all(&mut self, names: &[Token<'_>])
-        ensures { listed self.new ≡ with_all_named (map spelled names.now) (listed self.old) }
-    {
-        for name in names {
-            self.name(name.bytes);
-        }
-    }
-
-    fn name(&mut self, name: &[u8])
+    /// A statement names this, which may be a local.
+    pub fn name(&mut self, name: &[u8])
         ensures { listed self.new ≡ with_named name.now (listed self.old) }
     {
         if let Some(place) = self.place(name) {
@@ -116,45 +107,42 @@ impl<'a> Locals<'a> {
     {
         for local in self.list.as_slice() {
             if !local.is_named {
-                report.warning(file, line, Message::UnusedLocal(local.name))?;
+                report.warning(file, line, Message::UnusedLocal(local.name.as_slice()))?;
             }
         }
         Ok(())
     }
 }
 
-impl<'a> Headed<'a> {
+impl<'t> Headed<'t> {
     ghost use Rattle.inf_symbol.specs.LocalList.{headed};
 
-    /// The locals that the names behind a routine's name declare.
-    pub fn of(names: &[Token<'a>]) -> Headed<'a>
-        ensures { headed result ≡ with_locals (map spelled names.now) no_locals }
+    /// No local yet.
+    pub fn new() -> Headed<'t>
+        ensures { headed result ≡ no_locals }
     {
-        let mut headed = Headed {
+        Headed {
             locals: Locals::new(),
             repeated: None,
             are_too_many: false,
-        };
-        for name in names {
-            headed.add(*name);
         }
-        headed
     }
 
-    fn add(&mut self, name: Token<'a>)
-        ensures { headed self.new ≡ with_local (spelled name.entry) (headed self.old) }
+    /// One name more behind the routine's name, with its line.
+    pub fn add(&mut self, name: &'t Spelling, line: u32)
+        ensures { headed self.new ≡ with_local (record { bytes = name.now.items; line = line }) (headed self.old) }
     {
-        if let Some(first) = self.locals.find(name.bytes) {
+        if let Some(first) = self.locals.line(name.as_slice()) {
             let blame = Blame {
-                line: name.line,
-                message: Message::Declared(name.bytes, first.line),
+                line,
+                message: Message::Declared(name.as_slice(), first),
             };
             self.repeated = Some(self.repeated.unwrap_or(blame));
             return;
         }
         let local = Local {
-            name: name.bytes,
-            line: name.line,
+            name: copy_of(name),
+            line,
             is_named: false,
         };
         if self.locals.list.try_push(local).is_err() {

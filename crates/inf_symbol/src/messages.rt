@@ -1,16 +1,28 @@
 ghost use Rattle.std.specs.Prelude.{◌≡◌, ◌++◌, OnOk, codes};
 ghost use Rattle.inf_symbol.specs.Messages.{text, told, quoted, place, line_of, severity, is_fatal, is_warning};
-ghost use Rattle.inf_symbol.specs.Reports.{meant};
+ghost use Rattle.inf_symbol.specs.Reports.{meant, named};
 
-use inf_token::spelling::{Token, TokenKind};
 use itoa::Buffer;
 use std::alloc::AllocError;
+
+/// A token as a message names it.
+#[derive(Clone, Copy)]
+pub enum Told<'a> {
+    /// By the bytes that the source has for it.
+    Bytes(&'a [u8]),
+    /// By the bytes between its single quotes.
+    Quote(&'a [u8]),
+    /// A text, whatever its bytes are.
+    Text,
+    /// The end of the source.
+    End,
+}
 
 /// What a message says. The names and tokens are as the source spells them.
 #[derive(Clone, Copy)]
 pub enum Message<'a> {
     /// A token that fits nowhere.
-    Syntax(Token<'a>),
+    Syntax(Told<'a>),
     IllegalCharacter,
     UnclosedQuote,
     NumberOutOfRange,
@@ -21,7 +33,7 @@ pub enum Message<'a> {
     Declared(&'a [u8], u32),
     SystemName(&'a [u8]),
     /// A token that names what cannot stand there.
-    WrongKind(Token<'a>),
+    WrongKind(Told<'a>),
     /// A name that is used, and declared nowhere.
     Undeclared(&'a [u8]),
     TooManyArguments,
@@ -30,6 +42,8 @@ pub enum Message<'a> {
     /// A local variable that no statement names.
     UnusedLocal(&'a [u8]),
     TooManyErrors,
+    /// A text or quote has more bytes than it may.
+    TextExceeded,
     /// A routine would have more labels, branches and jumps than it may.
     LabelsExceeded,
     /// The code would have more bytes than it may.
@@ -54,6 +68,7 @@ impl Message<'_> {
     {
         match self {
             Message::TooManyErrors | Message::StoryTooLong | Message::NoFile => true,
+            Message::TextExceeded => true,
             Message::LabelsExceeded | Message::CodeExceeded | Message::RefsExceeded => true,
             _ => false,
         }
@@ -106,6 +121,7 @@ impl Message<'_> {
             Message::UnusedLocal(name) => append_unused(out, name),
             Message::NoMain => out.extend_from_slice(b"No routine \"Main\""),
             Message::TooManyErrors => out.extend_from_slice(b"Too many errors"),
+            Message::TextExceeded => out.extend_from_slice(b"MAX_QTEXT_SIZE is exceeded"),
             Message::LabelsExceeded => out.extend_from_slice(b"MAX_LABELS is exceeded"),
             Message::CodeExceeded => out.extend_from_slice(b"MAX_CODE is exceeded"),
             Message::RefsExceeded => out.extend_from_slice(b"MAX_REFS is exceeded"),
@@ -126,16 +142,16 @@ fn append_quoted(out: &mut Vec<u8>, bytes: &[u8]) -> Result<(), AllocError>
     out.extend_from_slice(b"\"")
 }
 
-fn append_syntax(out: &mut Vec<u8>, token: Token<'_>) -> Result<(), AllocError>
-    ensures { let said = codes "Syntax error at " ++ told token.entry.kind token.entry.bytes.now in
+fn append_syntax(out: &mut Vec<u8>, token: Told<'_>) -> Result<(), AllocError>
+    ensures { let said = codes "Syntax error at " ++ told (named token.entry) in
         OnOk result (out.new.items ≡ out.old.items ++ said) }
 {
     out.extend_from_slice(b"Syntax error at ")?;
     append_told(out, token)
 }
 
-fn append_wrong_kind(out: &mut Vec<u8>, token: Token<'_>) -> Result<(), AllocError>
-    ensures { let said = codes "Wrong kind: " ++ told token.entry.kind token.entry.bytes.now in
+fn append_wrong_kind(out: &mut Vec<u8>, token: Told<'_>) -> Result<(), AllocError>
+    ensures { let said = codes "Wrong kind: " ++ told (named token.entry) in
         OnOk result (out.new.items ≡ out.old.items ++ said) }
 {
     out.extend_from_slice(b"Wrong kind: ")?;
@@ -152,13 +168,18 @@ fn append_unused(out: &mut Vec<u8>, name: &[u8]) -> Result<(), AllocError>
 }
 
 /// Appends how a token is told.
-fn append_told(out: &mut Vec<u8>, token: Token<'_>) -> Result<(), AllocError>
-    ensures { OnOk result (out.new.items ≡ out.old.items ++ told token.entry.kind token.entry.bytes.now) }
+fn append_told(out: &mut Vec<u8>, token: Told<'_>) -> Result<(), AllocError>
+    ensures { OnOk result (out.new.items ≡ out.old.items ++ told (named token.entry)) }
 {
-    match token.kind {
-        TokenKind::Text => out.extend_from_slice(b"text"),
-        TokenKind::End => out.extend_from_slice(b"end of file"),
-        _ => append_quoted(out, token.bytes),
+    match token {
+        Told::Bytes(bytes) => append_quoted(out, bytes),
+        Told::Quote(bytes) => {
+            out.extend_from_slice(b"\"'")?;
+            out.extend_from_slice(bytes)?;
+            out.extend_from_slice(b"'\"")
+        }
+        Told::Text => out.extend_from_slice(b"text"),
+        Told::End => out.extend_from_slice(b"end of file"),
     }
 }
 

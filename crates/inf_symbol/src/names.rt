@@ -7,6 +7,7 @@ ghost use Rattle.inf_symbol.specs.Reported.{reported};
 
 use crate::messages::Message;
 use crate::report::Report;
+use crate::spellings::{Spelling, copy_of};
 use indexmap::IndexMap;
 use std::alloc::{AllocError, Global};
 
@@ -52,14 +53,14 @@ pub struct Declaration {
 }
 
 /// What is known of a name.
-#[derive(Clone, Copy, Debug)]
-pub enum Entry<'a> {
+#[derive(Debug, Drop)]
+pub enum Entry {
     Declared(Declaration),
     /// It was used, as it is spelled there, on this line.
-    Used(&'a [u8], u32),
+    Used(Spelling, u32),
 }
 
-impl Entry<'_> {
+impl Entry {
     /// The packed address of its routine (Z-Machine Standard 1.1, section 1.2.3).
     fn packed_address(&self) -> u16
         ensures { result ≡ packed_address (place_in (standing self.now)) }
@@ -105,14 +106,14 @@ fn is_among(words: &[&str], name: &[u8]) -> bool
 
 /// The names that were declared or used so far, in the order in which they first came.
 #[derive(Drop)]
-pub struct Names<'a> {
-    pub entries: IndexMap<Vec<u8>, Entry<'a>>,
+pub struct Names {
+    pub entries: IndexMap<Vec<u8>, Entry>,
 }
 
-impl<'a> Names<'a> {
+impl Names {
     ghost use Rattle.inf_symbol.specs.NameMap.{named};
 
-    pub fn new(alloc: Global) -> Names<'a>
+    pub fn new(alloc: Global) -> Names
         ensures { named result ≡ [] }
     {
         Names {
@@ -144,17 +145,18 @@ impl<'a> Names<'a> {
     pub fn refer(
         &mut self,
         key: Vec<u8>,
-        spelling: &'a [u8],
+        spelling: &Spelling,
         line: u32,
     ) -> Result<usize, AllocError>
-        ensures names { OnOk result (named self.new ≡ with_used key.items spelling.now line (named self.old)) }
+        ensures names { OnOk result (named self.new ≡ with_used key.items spelling.now.items line (named self.old)) }
         ensures number { IfOk result (λ n. n ≡ index_of key.items (named self.old)) }
     {
         if let Some(number) = self.entries.get_index_of(key.as_slice()) {
             return Ok(number);
         }
         let number = self.entries.len();
-        self.entries.insert(key, Entry::Used(spelling, line))?;
+        self.entries
+            .insert(key, Entry::Used(copy_of(spelling), line))?;
         Ok(number)
     }
 
@@ -163,8 +165,8 @@ impl<'a> Names<'a> {
         ensures { OnOk result (reported report.new ≡ with_all_undeclared file.now (named self.now) (reported report.old)) }
     {
         for entry in self.entries.values() {
-            if let Entry::Used(name, line) = *entry {
-                report.error(file, line, line, Message::Undeclared(name))?;
+            if let Entry::Used(name, line) = entry {
+                report.error(file, *line, *line, Message::Undeclared(name.as_slice()))?;
             }
         }
         Ok(())

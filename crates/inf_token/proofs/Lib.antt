@@ -1,4 +1,1 @@
-pub mod Progress
 pub mod OpeningLemmas
-pub mod SpellingLemmas
-pub mod SpellingLaws

@@ -1,5 +1,2 @@
 pub mod Files
-pub mod Spelling
-pub mod Tokens
 pub mod MemoryFiles
-pub mod SpellingLaws

@@ -12,7 +12,7 @@ use Rattle.inf_opcode.specs.Instructions.{Parts, IsProper, bare, has_no_offset, 
 use Rattle.inf_opcode.specs.Opcodes.{row_of}
 use Rattle.inf_opcode.proofs.Counting.{labels-plain}
 use Rattle.inf_layout.proofs.Straight.{straight_is}
-use Rattle.inf_token.proofs.Progress.{of_both}
+use Rattle.inf_unit.proofs.Cases.{of_both}
 use Rattle.inf_unit.specs.Units.{call_opcode, calling, returning}
 use Rattle.inf_unit.proofs.TextWords.{text_is_words}
 

@@ -1,3 +1,4 @@
+pub mod Cases
 pub mod TextWords
 pub mod Emitting
 pub mod Growing

@@ -8,7 +8,7 @@ use Rattle.inf_assembler.specs.declared.routines.RoutineKind.TheVariants as rout
 use Rattle.inf_assembler.specs.declared.routines.Setting.{Setting}
 use Rattle.inf_assembler.specs.declared.routines.Setting.TheVariants as setting
 use Rattle.inf_assembler.specs.Routines.{fresh}
-use Rattle.inf_token.specs.Spelling.{Spelled}
+use Rattle.inf_symbol.specs.Spellings.{Name}
 use Rattle.inf_symbol.specs.Messages.{Message, Blame, Reported, LabelsExceeded, CodeExceeded, RefsExceeded, nothing_reported, with_error, with_fault, with_fatal}
 use Rattle.inf_symbol.specs.Names.{Named, folded}
 use Rattle.inf_symbol.specs.Locals.{Local, Headed, with_all_named, with_locals, no_locals, with_all_unused}
@@ -16,19 +16,23 @@ use Rattle.inf_layout.specs.declared.code.CodeLimits.{CodeLimits}
 use Rattle.inf_layout.specs.Code.{Routines, no_routines, size, with_item, with_closed, with_none_open, full_opened, full_with, full_closed}
 use Rattle.inf_grammar.specs.declared.actions.Action.{Action}
 use Rattle.inf_grammar.specs.declared.actions.Action.TheVariants as action
-use Rattle.inf_unit.specs.Statements.{Unit, statement_of}
+use Rattle.inf_unit.specs.Statements.{Unit}
 use Rattle.inf_unit.specs.Units.{name_fault, with_name, header_fault, operand_fault, call_fault, with_operands, printing, calling, returning}
+use Rattle.inf_unit.specs.declared.unit.Head.{Head}
+use Rattle.inf_unit.specs.declared.unit.Head.TheVariants as head
 use Rattle.inf_unit.specs.declared.unit.Statement.{Statement}
 use Rattle.inf_unit.specs.declared.unit.Statement.TheVariants as statement
 
--- What the unit at hand gathered: its operands, its texts, and the characters of its last token, if that is a text.
+-- What the unit at hand gathered: its operands, its texts, and its last token: the name, if it is one, and the characters, if it
+-- is a text.
 pub record Gathered : Type 0 where
-  pub operands : List Spelled
+  pub operands : List Name
   pub texts : List (List TextItem)
+  pub named : Option Name
   pub read : Option (List TextItem)
 
 abbrev pub nothing_gathered : Gathered
-nothing_gathered = record { operands = []; texts = []; read = None }
+nothing_gathered = record { operands = []; texts = []; named = None; read = None }
 
 -- The finished routines and the open one, if any, and whether the header of the one opened last had an error.
 pub record Output : Type 0 where
@@ -57,9 +61,9 @@ no_work = record { gathered = nothing_gathered; locals = []; names = []; output 
 -- The parts of a unit
 
 -- the last token is an operand
-abbrev pub with_operand_at : Option Spelled → Gathered → Gathered
-with_operand_at (Some t) g = record g { operands = g.operands ++ t ∷ [] }
-with_operand_at None g = g
+abbrev pub with_operand : Option Name → Gathered → Gathered
+with_operand (Some n) g = record g { operands = g.operands ++ n ∷ []; named = None }
+with_operand None g = g
 
 -- it is a text
 abbrev pub with_text : Option (List TextItem) → Gathered → Gathered
@@ -125,7 +129,7 @@ checked file line g w = record w { output = g.output; report = with_full file li
 
 -- A header, which begins on this line, opens a routine with its locals. With an error it still declares its name, where that
 -- is free, and its locals. Z-Machine Standard 1.1, section 5.2.
-abbrev pub header_with : List ℕ → ℕ → Spelled → List ℕ → Headed → Work → Work
+abbrev pub header_with : List ℕ → ℕ → Name → List ℕ → Headed → Work → Work
 header_with file line name key h w =
     let of_name = name_fault key name w.names in
     let fault = header_fault line of_name h in
@@ -136,10 +140,10 @@ header_with file line name key h w =
     })
 
 -- behind its bracket a header has the name of its routine and the locals
-abbrev pub header : List ℕ → List Spelled → Work → Work
-header file (bracket ∷ name ∷ locals) w =
-    header_with file bracket.line name (folded name.bytes) (with_locals locals no_locals) w
-header file _ w = w
+abbrev pub header : List ℕ → Option Head → List Name → Work → Work
+header file (Some (head.Header line)) (name ∷ locals) w =
+    header_with file line name (folded name.bytes) (with_locals locals no_locals) w
+header file _ names w = w
 
 -- The end of a routine, on this line: its unused locals are told.
 abbrev pub close : List ℕ → ℕ → Work → Work
@@ -152,23 +156,23 @@ with_instruction file line item w = checked file line (emitted item w.output) w
 
 -- A unit names some names: a local is named then, also where the unit has an error. Without one the names are used, and the
 -- operands make an instruction.
-abbrev pub instructed : List ℕ → ℕ → (List Operand → Parts) → List Spelled → Option Blame → Work → Work
-instructed file line instruction tokens (Some b) w = record w {
-  locals = with_all_named tokens w.locals;
+abbrev pub instructed : List ℕ → ℕ → (List Operand → Parts) → List Name → Option Blame → Work → Work
+instructed file line instruction names (Some b) w = record w {
+  locals = with_all_named names w.locals;
   report = with_error file b.line line b.message w.report;
 }
-instructed file line instruction tokens None w =
-    let o = with_operands w.locals tokens (record { names = w.names; operands = [] }) in
-    with_instruction file line (instruction o.operands) (record w { locals = with_all_named tokens w.locals; names = o.names })
+instructed file line instruction names None w =
+    let o = with_operands w.locals names (record { names = w.names; operands = [] }) in
+    with_instruction file line (instruction o.operands) (record w { locals = with_all_named names w.locals; names = o.names })
 
 -- the operands of a call are what is called and its arguments
-abbrev pub call : List ℕ → ℕ → List Spelled → Work → Work
+abbrev pub call : List ℕ → ℕ → List Name → Work → Work
 call file line [] w = w
-call file line (t ∷ arguments) w = instructed file line calling (t ∷ arguments) (call_fault line w.locals t arguments) w
+call file line (called ∷ arguments) w = instructed file line calling (called ∷ arguments) (call_fault line w.locals called arguments) w
 
-abbrev pub return_of : List ℕ → ℕ → List Spelled → Work → Work
+abbrev pub return_of : List ℕ → ℕ → List Name → Work → Work
 return_of file line [] w = with_instruction file line (bare opcode.Rtrue) w
-return_of file line (t ∷ more) w = instructed file line returning (t ∷ []) (operand_fault w.locals t) w
+return_of file line (name ∷ more) w = instructed file line returning (name ∷ []) (operand_fault w.locals name) w
 
 abbrev pub finish : Statement → List ℕ → ℕ → Work → Work
 finish statement.Print file line w = checked file line (printed w.gathered.texts w.output) w
@@ -179,18 +183,18 @@ finish statement.ReturnTrue file line w = with_instruction file line (bare opcod
 finish statement.ReturnFalse file line w = with_instruction file line (bare opcode.Rfalse) w
 finish statement.Call file line w = call file line w.gathered.operands w
 
--- a statement of these tokens; one of none does nothing
-abbrev pub statement_end : List ℕ → List Spelled → Work → Work
-statement_end file [] w = w
-statement_end file (first ∷ rest) w = finish (statement_of first) file first.line w
+-- a statement that began so ends
+abbrev pub statement_end : List ℕ → Option Head → Work → Work
+statement_end file (Some (head.Statement s line)) w = finish s file line w
+statement_end file _ w = w
 
--- What an action does, the unit at hand having these tokens, and the next token standing on this line.
+-- What an action does, where this is the unit at hand and the next token stands on this line.
 abbrev pub act : List ℕ → Unit → ℕ → Action → Work → Work
 act file unit line action.Begin w = record w { gathered = nothing_gathered }
-act file unit line action.Name w = record w { gathered = with_operand_at unit.last w.gathered }
+act file unit line action.Name w = record w { gathered = with_operand w.gathered.named w.gathered }
 act file unit line action.PrintText w = record w { gathered = with_text w.gathered.read w.gathered }
-act file unit line action.EndLocals w = header file unit.tokens w
-act file unit line action.EndStatement w = statement_end file unit.tokens w
+act file unit line action.EndLocals w = header file unit.head unit.names w
+act file unit line action.EndStatement w = statement_end file unit.head w
 act file unit line action.EndRoutine w = close file line w
 act file unit line _ w = w
 

@@ -1,4 +1,4 @@
-pub mod Tests
+pub mod Tokens
 pub mod Statements
 pub mod Units
 pub mod Actions

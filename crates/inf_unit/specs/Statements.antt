@@ -1,25 +1,28 @@
 -- The unit at hand, and what a statement is.
-use Rattle.std.specs.Prelude.{List, [], ◌∷◌, ◌++◌, codes, Bool, ◌||◌, if◌then◌else◌, Option, Some, None}
-use Rattle.inf_token.specs.Spelling.{Spelled, is_mark}
-use Rattle.inf_token.specs.declared.spelling.Mark.TheVariants as mark
-use Rattle.inf_unit.specs.Tests.{is_word}
+use Rattle.std.specs.Prelude.{ℕ, List, [], ◌∷◌, ◌++◌, codes, Bool, true, false, ◌||◌, if◌then◌else◌, Option, Some, None}
+use Rattle.inf_scanner.specs.declared.tokens.Mark.TheVariants as mark
+use Rattle.inf_scanner.specs.declared.tokens.TokenKind.{TokenKind}
+use Rattle.inf_scanner.specs.declared.tokens.TokenKind.TheVariants as kind
+use Rattle.inf_symbol.specs.Spellings.{Name}
+use Rattle.inf_unit.specs.Tokens.{Spelled, is_mark, is_word}
+use Rattle.inf_unit.specs.declared.unit.Head.{Head}
+use Rattle.inf_unit.specs.declared.unit.Head.TheVariants as head
 use Rattle.inf_unit.specs.declared.unit.Statement.{Statement}
 use Rattle.inf_unit.specs.declared.unit.Statement.TheVariants as statement
 
--- The tokens of the unit at hand so far, and the last of them. A unit goes up to a semicolon or a closing bracket.
+-- What is known of the unit at hand: how it begins; of a header the names behind its bracket; whether it has more than one
+-- token so far; and whether the last of them closes a parenthesis. A unit goes up to a semicolon or a closing bracket.
 pub record Unit : Type 0 where
-  pub tokens : List Spelled
-  pub last : Option Spelled
+  pub head : Option Head
+  pub names : List Name
+  pub has_more : Bool
+  pub is_closed : Bool
 
 abbrev pub no_unit : Unit
-no_unit = record { tokens = []; last = None }
+no_unit = record { head = None; names = []; has_more = false; is_closed = false }
 
-abbrev pub ends_unit : Spelled → Bool
-ends_unit t = is_mark mark.Semicolon t.kind || is_mark mark.CloseBracket t.kind
-
--- the unit behind one token more
-abbrev pub unit_behind : Spelled → Unit → Unit
-unit_behind t u = if ends_unit t then no_unit else record { tokens = u.tokens ++ t ∷ []; last = Some t }
+abbrev pub ends_unit : TokenKind → Bool
+ends_unit k = is_mark mark.Semicolon k || is_mark mark.CloseBracket k
 
 -- what a statement is that begins with this token
 abbrev pub statement_of : Spelled → Statement
@@ -30,3 +33,33 @@ statement_of t =
     if is_word (codes "quit") t then statement.Quit else
     if is_word (codes "rtrue") t then statement.ReturnTrue else
     if is_word (codes "rfalse") t then statement.ReturnFalse else statement.Call
+
+-- how a unit begins that has this token first
+abbrev pub head_of : Spelled → Head
+head_of t = if is_mark mark.OpenBracket t.kind then head.Header t.line else head.Statement (statement_of t) t.line
+
+-- the name that a token is, if it is one
+abbrev pub name_of_kind : TokenKind → List ℕ → ℕ → Option Name
+name_of_kind kind.Name bytes line = Some (record { bytes = bytes; line = line })
+name_of_kind _ bytes line = None
+
+abbrev pub name_of : Spelled → Option Name
+name_of t = name_of_kind t.kind t.bytes t.line
+
+-- one name more, if there is one
+abbrev pub with_name : Option Name → List Name → List Name
+with_name None names = names
+with_name (Some n) names = names ++ n ∷ []
+
+abbrev pub names_behind : Head → Spelled → List Name → List Name
+names_behind (head.Header line) t names = with_name (name_of t) names
+names_behind (head.Statement s line) t names = names
+
+-- a unit that began so, behind a token that does not end it
+abbrev pub grown : Option Head → Spelled → Unit → Unit
+grown None t u = record { head = Some (head_of t); names = u.names; has_more = false; is_closed = false }
+grown (Some h) t u = record { head = Some h; names = names_behind h t u.names; has_more = true; is_closed = is_mark mark.CloseParenthesis t.kind }
+
+-- the unit behind one token more
+abbrev pub unit_behind : Spelled → Unit → Unit
+unit_behind t u = if ends_unit t.kind then no_unit else grown u.head t u

@@ -8,8 +8,8 @@ use Rattle.inf_opcode.specs.declared.instructions.Operand.{Operand}
 use Rattle.inf_opcode.specs.declared.instructions.Operand.TheVariants as operand
 use Rattle.inf_area.specs.declared.references.ReferenceKind.TheVariants as reference
 use Rattle.inf_opcode.specs.Instructions.{Parts, bare}
-use Rattle.inf_token.specs.Spelling.{Spelled}
-use Rattle.inf_symbol.specs.Messages.{Blame, Declared, SystemName, WrongKind, TooManyArguments, TooManyLocals}
+use Rattle.inf_symbol.specs.Spellings.{Name}
+use Rattle.inf_symbol.specs.Messages.{Bytes, Blame, Declared, SystemName, WrongKind, TooManyArguments, TooManyLocals}
 use Rattle.inf_symbol.specs.Names.{Named, folded, is_system_name, declaration_of, with_declared, with_used, index_of}
 use Rattle.inf_symbol.specs.Locals.{Local, Headed, number_of}
 use Rattle.inf_symbol.specs.declared.names.Declaration.{Declaration}
@@ -17,18 +17,18 @@ use Rattle.inf_symbol.specs.declared.names.Declaration.{Declaration}
 -- The header of a routine
 
 -- a name that was declared before
-abbrev pub declared_fault : Spelled → Option Declaration → Option Blame
+abbrev pub declared_fault : Name → Option Declaration → Option Blame
 declared_fault name None = None
 declared_fault name (Some d) = Some (record { line = name.line; message = Declared name.bytes d.line })
 
 -- what is wrong with declaring a name: one that the language has, and the first declaration, stay as they are
-abbrev pub name_fault : List ℕ → Spelled → List Named → Option Blame
+abbrev pub name_fault : List ℕ → Name → List Named → Option Blame
 name_fault key name names =
     if is_system_name name.bytes then Some (record { line = name.line; message = SystemName name.bytes })
     else declared_fault name (declaration_of key names)
 
 -- the names after one is declared at a place, if nothing is wrong with it
-abbrev pub with_name : List ℕ → Spelled → ℕ → Option Blame → List Named → List Named
+abbrev pub with_name : List ℕ → Name → ℕ → Option Blame → List Named → List Named
 with_name key name place None names = with_declared key (record { line = name.line; place = place }) names
 with_name key name place (Some b) names = names
 
@@ -63,32 +63,32 @@ abbrev pub returning : List Operand → Parts
 returning operands = record (bare opcode.Ret) { operands = operands }
 
 -- what is wrong with a name as an operand: it is a system name, and no local hides it
-abbrev pub operand_fault_by : Option ℕ → Spelled → Option Blame
-operand_fault_by (Some n) t = None
-operand_fault_by None t =
-    if is_system_name t.bytes then Some (record { line = t.line; message = WrongKind t }) else None
+abbrev pub operand_fault_by : Option ℕ → Name → Option Blame
+operand_fault_by (Some number) n = None
+operand_fault_by None n =
+    if is_system_name n.bytes then Some (record { line = n.line; message = WrongKind (Bytes n.bytes) }) else None
 
-abbrev pub operand_fault : List Local → Spelled → Option Blame
-operand_fault locals t = operand_fault_by (number_of t.bytes locals) t
+abbrev pub operand_fault : List Local → Name → Option Blame
+operand_fault locals n = operand_fault_by (number_of n.bytes locals) n
 
 -- the first of some names that is wrong as an operand
-abbrev pub operands_fault : List Local → List Spelled → Option Blame
+abbrev pub operands_fault : List Local → List Name → Option Blame
 operands_fault locals [] = None
-operands_fault locals (t ∷ tokens) = first_fault (operand_fault locals t) (operands_fault locals tokens)
+operands_fault locals (n ∷ names) = first_fault (operand_fault locals n) (operands_fault locals names)
 
 -- the most arguments of a call
 abbrev pub most_arguments : ℕ
 most_arguments = 7
 
 -- The first error of a call by its place: what is called, too many arguments, which stands there too, and an argument.
-abbrev pub arguments_fault : ℕ → List Local → List Spelled → Option Blame
+abbrev pub arguments_fault : ℕ → List Local → List Name → Option Blame
 arguments_fault unit_line locals arguments =
     if nat_lt most_arguments (length arguments) then Some (record { line = unit_line; message = TooManyArguments })
     else operands_fault locals arguments
 
-abbrev pub call_fault : ℕ → List Local → Spelled → List Spelled → Option Blame
-call_fault unit_line locals t arguments =
-    first_fault (operand_fault locals t) (arguments_fault unit_line locals arguments)
+abbrev pub call_fault : ℕ → List Local → Name → List Name → Option Blame
+call_fault unit_line locals called arguments =
+    first_fault (operand_fault locals called) (arguments_fault unit_line locals arguments)
 
 -- Operands that names gave so far, and the names of the source then.
 pub record Operands : Type 0 where
@@ -96,16 +96,16 @@ pub record Operands : Type 0 where
   pub operands : List Operand
 
 -- a local is a variable; every other name is used, and is a reference to its routine
-abbrev pub with_operand_by : Option ℕ → Spelled → List ℕ → Operands → Operands
-with_operand_by (Some n) t key o = record o { operands = o.operands ++ operand.Variable n ∷ [] }
-with_operand_by None t key o = record {
-  names = with_used key t.bytes t.line o.names;
+abbrev pub with_operand_by : Option ℕ → Name → List ℕ → Operands → Operands
+with_operand_by (Some number) n key o = record o { operands = o.operands ++ operand.Variable number ∷ [] }
+with_operand_by None n key o = record {
+  names = with_used key n.bytes n.line o.names;
   operands = o.operands ++ operand.Later (record { kind = reference.PackedAddress; number = index_of key o.names }) ∷ [];
 }
 
-abbrev pub with_operand : List Local → Spelled → Operands → Operands
-with_operand locals t o = with_operand_by (number_of t.bytes locals) t (folded t.bytes) o
+abbrev pub with_operand : List Local → Name → Operands → Operands
+with_operand locals n o = with_operand_by (number_of n.bytes locals) n (folded n.bytes) o
 
-abbrev pub with_operands : List Local → List Spelled → Operands → Operands
+abbrev pub with_operands : List Local → List Name → Operands → Operands
 with_operands locals [] o = o
-with_operands locals (t ∷ tokens) o = with_operands locals tokens (with_operand locals t o)
+with_operands locals (n ∷ names) o = with_operands locals names (with_operand locals n o)

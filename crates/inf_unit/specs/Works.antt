@@ -1,6 +1,6 @@
 -- What the parts of the code's work stand for.
 use Rattle.std.specs.Prelude.{map, option_map}
-use Rattle.inf_token.specs.Tokens.{spelled}
+use Rattle.inf_symbol.specs.Spellings.{as_name}
 use Rattle.inf_symbol.specs.Reported.{reported}
 use Rattle.inf_symbol.specs.NameMap.{named}
 use Rattle.inf_symbol.specs.LocalList.{listed}
@@ -12,10 +12,10 @@ use Rattle.inf_unit.specs.declared.work.Work.{Work as CodeWork}
 use Rattle.inf_unit.specs.declared.output.Output.{Output as CodeOutput}
 
 abbrev pub unit : CodeUnit → Unit
-unit u = record { tokens = map spelled u.tokens.items; last = option_map spelled u.last }
+unit u = record { head = u.head; names = map as_name u.names.items; has_more = u.has_more; is_closed = u.is_closed }
 
 abbrev pub gathered : CodeGathered → Gathered
-gathered g = record { operands = map spelled g.operands.items; texts = g.texts.items; read = g.read }
+gathered g = record { operands = map as_name g.operands.items; texts = g.texts.items; named = option_map as_name g.named; read = g.read }
 
 abbrev pub output : CodeOutput → Output
 output o = record { code = o.code; is_lost = o.is_lost }

@@ -1,24 +1,54 @@
-//! Tests of a token.
+//! A token, as units see it, and tests of one.
 ghost use Rattle.std.specs.Prelude.{◌≡◌};
-ghost use Rattle.inf_unit.specs.Tests.{is_word};
-ghost use Rattle.inf_token.specs.Spelling.{is_mark};
-ghost use Rattle.inf_token.specs.Tokens.{spelled};
+ghost use Rattle.inf_symbol.specs.Reports.{named};
+ghost use Rattle.inf_unit.specs.Tokens.{is_end, is_mark, is_word, spelled, told};
 
-use inf_token::spelling::{Mark, Token, TokenKind};
+use inf_scanner::{Mark, TokenKind};
+use inf_symbol::messages::Told;
 
-/// Whether the kind of a token is this mark.
+/// A token of a source: what it is, its bytes (of a text or quote those between its quotes), and the line of its first
+/// byte, counted from 1.
+#[derive(Clone, Copy)]
+pub struct Spelled<'a> {
+    pub kind: TokenKind,
+    pub bytes: &'a [u8],
+    pub line: u32,
+}
+
+/// Whether a token of this kind is this mark.
 pub fn is_mark(kind: TokenKind, mark: Mark) -> bool
     ensures { result ≡ is_mark mark kind }
 {
     match kind {
-        TokenKind::Mark(found) => found == mark,
+        TokenKind::Mark(found) => found as u8 == mark as u8,
         _ => false,
     }
 }
 
+/// Whether it is the end of the source.
+pub fn is_end(kind: TokenKind) -> bool
+    ensures { result ≡ is_end kind }
+{
+    matches!(kind, TokenKind::End)
+}
+
 /// Whether a token is a word of the language, in any case.
-pub fn is_word(token: Token<'_>, word: &[u8]) -> bool
-    ensures { result ≡ is_word word.now (spelled token.entry) }
+pub fn is_word(token: &Spelled<'_>, word: &[u8]) -> bool
+    ensures { result ≡ is_word word.now (spelled token.now) }
 {
     matches!(token.kind, TokenKind::Name) && token.bytes.eq_ignore_ascii_case(word)
+}
+
+/// How messages name a token.
+pub fn told<'t>(token: &Spelled<'t>) -> Told<'t>
+    ensures { named result ≡ told (spelled token.now) }
+{
+    match token.kind {
+        TokenKind::Text => Told::Text,
+        TokenKind::Char(_) | TokenKind::Word(_) => Told::Quote(token.bytes),
+        TokenKind::End => Told::End,
+        TokenKind::Name | TokenKind::Number(_) | TokenKind::Mark(_) | TokenKind::Bad(_) => {
+            Told::Bytes(token.bytes)
+        }
+    }
 }

@@ -1,11 +1,13 @@
-//! The unit at hand: its tokens so far, and what a statement is.
-ghost use Rattle.std.specs.Prelude.{◌≡◌, OnOk, map, option_map};
-ghost use Rattle.inf_unit.specs.Statements.{no_unit, unit_behind, statement_of};
+//! The unit at hand, and what a statement is.
+ghost use Rattle.std.specs.Prelude.{◌≡◌, ◌≤◌, OnOk, IsSome, length, option_map};
+ghost use Rattle.inf_unit.specs.Statements.{head_of, name_of, no_unit, unit_behind, statement_of, with_name};
+ghost use Rattle.inf_unit.specs.Tokens.{spelled};
 ghost use Rattle.inf_unit.specs.Works.{unit};
-ghost use Rattle.inf_token.specs.Tokens.{spelled};
+ghost use Rattle.inf_symbol.specs.Spellings.{as_name};
 
-use crate::tokens::{is_mark, is_word};
-use inf_token::spelling::{Mark, Token};
+use crate::tokens::{Spelled, is_mark, is_word};
+use inf_scanner::{Mark, TokenKind};
+use inf_symbol::spellings::Name;
 use std::alloc::{AllocError, Global};
 
 /// What a statement is, told by its first token.
@@ -21,17 +23,31 @@ pub enum Statement {
     Call,
 }
 
-/// The tokens of the unit at hand so far.
+/// How a unit begins.
+#[derive(Clone, Copy, Debug, PartialEq, Eq)]
+pub enum Head {
+    /// With the bracket of a routine, on this line.
+    Header(u32),
+    /// As this statement, on this line.
+    Statement(Statement, u32),
+}
+
+/// What is known of the unit at hand.
 #[derive(Drop)]
-pub struct Unit<'a> {
-    pub tokens: Vec<Token<'a>>,
-    /// The last of them.
-    pub last: Option<Token<'a>>,
+pub struct Unit {
+    /// How it begins, once its first token was taken.
+    pub head: Option<Head>,
+    /// The names behind the bracket of a header.
+    pub names: Vec<Name>,
+    /// Whether it has more than one token so far.
+    pub has_more: bool,
+    /// Whether the last of them closes a parenthesis.
+    pub is_closed: bool,
 }
 
 /// What a statement is that begins with a token.
-pub fn statement_of(token: Token<'_>) -> Statement
-    ensures { result ≡ statement_of (spelled token.entry) }
+fn statement_of(token: &Spelled<'_>) -> Statement
+    ensures { result ≡ statement_of (spelled token.now) }
 {
     if is_word(token, b"print") {
         Statement::Print
@@ -50,14 +66,38 @@ pub fn statement_of(token: Token<'_>) -> Statement
     }
 }
 
-impl<'a> Unit<'a> {
+/// How a unit begins that has a token first.
+fn head_of(token: &Spelled<'_>) -> Head
+    ensures { result ≡ head_of (spelled token.now) }
+{
+    if is_mark(token.kind, Mark::OpenBracket) {
+        Head::Header(token.line)
+    } else {
+        Head::Statement(statement_of(token), token.line)
+    }
+}
+
+/// The name that a token is, if it is one. A name has at most 32 bytes.
+pub fn name_of(token: &Spelled<'_>) -> Option<Name>
+    requires { IsSome (name_of (spelled token.now)) → length token.now.bytes.now ≤ 32 }
+    ensures { option_map as_name result ≡ name_of (spelled token.now) }
+{
+    match token.kind {
+        TokenKind::Name => Some(Name::new(token.bytes, token.line)),
+        _ => None,
+    }
+}
+
+impl Unit {
     /// No tokens. It takes no memory until `add`.
-    pub fn new(alloc: Global) -> Unit<'a>
+    pub fn new(alloc: Global) -> Unit
         ensures { unit result ≡ no_unit }
     {
         Unit {
-            tokens: Vec::new(alloc),
-            last: None,
+            head: None,
+            names: Vec::new(alloc),
+            has_more: false,
+            is_closed: false,
         }
     }
 
@@ -65,20 +105,44 @@ impl<'a> Unit<'a> {
     pub fn clear(&mut self)
         ensures { unit self.new ≡ no_unit }
     {
-        self.tokens.clear();
-        self.last = None;
+        self.head = None;
+        self.names.clear();
+        self.has_more = false;
+        self.is_closed = false;
     }
 
-    /// A token is taken: one more, or the one that ends the unit.
-    pub fn add(&mut self, token: Token<'a>) -> Result<(), AllocError>
-        ensures { OnOk result (unit self.new ≡ unit_behind (spelled token.entry) (unit self.old)) }
+    /// A token is taken: one more, or the one that ends the unit. A name has at most 32 bytes.
+    pub fn add(&mut self, token: &Spelled<'_>) -> Result<(), AllocError>
+        requires { IsSome (name_of (spelled token.now)) → length token.now.bytes.now ≤ 32 }
+        ensures { OnOk result (unit self.new ≡ unit_behind (spelled token.now) (unit self.old)) }
     {
         if is_mark(token.kind, Mark::Semicolon) || is_mark(token.kind, Mark::CloseBracket) {
             self.clear();
             return Ok(());
         }
-        self.tokens.push(token)?;
-        self.last = Some(token);
+        let Some(head) = self.head else {
+            self.head = Some(head_of(token));
+            self.has_more = false;
+            self.is_closed = false;
+            return Ok(());
+        };
+        if let Head::Header(_) = head {
+            self.add_name(token)?;
+        }
+        self.has_more = true;
+        self.is_closed = is_mark(token.kind, Mark::CloseParenthesis);
+        Ok(())
+    }
+
+    /// One name more, if the token is one.
+    fn add_name(&mut self, token: &Spelled<'_>) -> Result<(), AllocError>
+        requires { IsSome (name_of (spelled token.now)) → length token.now.bytes.now ≤ 32 }
+        ensures { let before = unit self.old in
+            OnOk result (unit self.new ≡ record before { names = with_name (name_of (spelled token.now)) before.names }) }
+    {
+        if let Some(name) = name_of(token) {
+            self.names.push(name)?;
+        }
         Ok(())
     }
 }

@@ -1,10 +1,11 @@
 //! What the actions of the grammar do: they gather the parts of a unit, which acts at its end.
 ghost use Rattle.std.specs.Prelude.{◌≡◌, IfNone, None, OnOk, map, option_map};
-ghost use Rattle.inf_token.specs.Tokens.{spelled};
+ghost use Rattle.inf_symbol.specs.Spellings.{as_name};
 ghost use Rattle.inf_opcode.specs.Cells.{label_count};
 ghost use Rattle.inf_opcode.specs.Instructions.{IsProper, bare, instruction_cells};
 ghost use Rattle.inf_symbol.specs.Reports.{blamed, meant};
-ghost use Rattle.inf_symbol.specs.LocalList.{headed as as_headed};
+ghost use Rattle.inf_symbol.specs.LocalList.{headed as as_headed, listed};
+ghost use Rattle.inf_symbol.specs.Locals.{no_locals, with_all_named, with_locals};
 ghost use Rattle.inf_symbol.specs.NameMap.{named as name_list};
 ghost use Rattle.inf_unit.specs.Actions.{exceeded};
 ghost use Rattle.inf_unit.specs.Units.{header_fault};
@@ -12,7 +13,7 @@ ghost use Rattle.inf_unit.specs.Units.{header_fault};
 use crate::instructions::{calling, returning};
 use crate::operands::{call_fault, operand_fault, operands_of};
 use crate::output::Output;
-use crate::unit::{Statement, Unit, statement_of};
+use crate::unit::{Head, Statement, Unit};
 use inf_assembler::Setting;
 use inf_grammar::Action;
 use inf_opcode::Opcode;
@@ -20,30 +21,33 @@ use inf_symbol::locals::{Headed, Locals};
 use inf_symbol::messages::{Blame, Message};
 use inf_symbol::names::{Declaration, Names, folded, is_system_name};
 use inf_symbol::report::Report;
+use inf_symbol::spellings::Name;
 use inf_text::Text;
-use inf_token::spelling::Token;
 use std::alloc::{AllocError, Global};
 
 /// The parts of the unit at hand.
 #[derive(Drop)]
-pub struct Gathered<'a> {
-    operands: Vec<Token<'a>>,
+pub struct Gathered {
+    operands: Vec<Name>,
     texts: Vec<Text>,
+    /// The last token, if it is a name.
+    named: Option<Name>,
     /// The characters of the last token, if it is a text.
     read: Option<Text>,
 }
 
-impl<'a> Gathered<'a> {
-    ghost use Rattle.inf_unit.specs.Actions.{nothing_gathered, with_operand_at, with_text};
+impl Gathered {
+    ghost use Rattle.inf_unit.specs.Actions.{nothing_gathered, with_operand, with_text};
     ghost use Rattle.inf_unit.specs.Works.{gathered};
 
     /// Nothing. It takes no memory until something is gathered.
-    fn new(alloc: Global) -> Gathered<'a>
+    fn new(alloc: Global) -> Gathered
         ensures { gathered result ≡ nothing_gathered }
     {
         Gathered {
             operands: Vec::new(alloc),
             texts: Vec::new(alloc),
+            named: None,
             read: None,
         }
     }
@@ -54,16 +58,17 @@ impl<'a> Gathered<'a> {
     {
         self.operands.clear();
         self.texts.clear();
+        self.named = None;
         self.read = None;
     }
 
     /// The last token is an operand.
-    fn add_operand(&mut self, last: Option<Token<'a>>) -> Result<(), AllocError>
-        ensures { OnOk result (gathered self.new
-            ≡ with_operand_at (option_map spelled last.entry) (gathered self.old)) }
+    fn add_operand(&mut self) -> Result<(), AllocError>
+        ensures { let before = gathered self.old in
+            OnOk result (gathered self.new ≡ with_operand before.named before) }
     {
-        if let Some(token) = last {
-            self.operands.push(token)?;
+        if let Some(name) = self.named.take() {
+            self.operands.push(name)?;
         }
         Ok(())
     }
@@ -82,24 +87,24 @@ impl<'a> Gathered<'a> {
 
 /// What was compiled so far.
 #[derive(Drop)]
-pub struct Work<'a> {
+pub struct Work {
     alloc: Global,
-    gathered: Gathered<'a>,
+    gathered: Gathered,
     /// The locals of the routine that was opened last.
-    locals: Locals<'a>,
-    pub names: Names<'a>,
+    locals: Locals,
+    pub names: Names,
     pub output: Output,
     pub report: Report,
 }
 
-impl<'a> Work<'a> {
+impl Work {
     ghost use Rattle.inf_symbol.specs.Names.{declaration_of, folded};
     ghost use Rattle.inf_unit.specs.Actions.{no_work, header, header_with, close, statement_end, call, return_of, with_instruction, with_full, checked, printed, act, acted};
     ghost use Rattle.inf_unit.specs.Works.{gathered, unit, work};
     ghost use Rattle.inf_unit.specs.Units.{name_fault};
 
     /// Before the first unit. It takes no memory until something is read.
-    pub fn new(alloc: Global) -> Work<'a>
+    pub fn new(alloc: Global) -> Work
         ensures { work result ≡ no_work }
     {
         Work {
@@ -112,11 +117,12 @@ impl<'a> Work<'a> {
         }
     }
 
-    /// A token was taken, which has these characters if it is a text.
-    pub fn gather(&mut self, text: Option<Text>)
+    /// A token was taken, which is this name, or has these characters, if it is a name or a text.
+    pub fn gather(&mut self, named: Option<Name>, text: Option<Text>)
         ensures { let before = work self.old in work self.new
-            ≡ record before { gathered = record before.gathered { read = text } } }
+            ≡ record before { gathered = record before.gathered { named = option_map as_name named; read = text } } }
     {
+        self.gathered.named = named;
         self.gathered.read = text;
     }
 
@@ -124,7 +130,7 @@ impl<'a> Work<'a> {
     pub fn act_all(
         &mut self,
         file: &[u8],
-        at_hand: &Unit<'a>,
+        at_hand: &Unit,
         line: u32,
         actions: &[Action],
     ) -> Result<(), AllocError>
@@ -140,7 +146,7 @@ impl<'a> Work<'a> {
     fn act(
         &mut self,
         file: &[u8],
-        at_hand: &Unit<'a>,
+        at_hand: &Unit,
         line: u32,
         action: Action,
     ) -> Result<(), AllocError>
@@ -151,26 +157,27 @@ impl<'a> Work<'a> {
                 self.gathered.clear();
                 Ok(())
             }
-            Action::Name => self.gathered.add_operand(at_hand.last),
+            Action::Name => self.gathered.add_operand(),
             Action::PrintText => self.gathered.add_text(),
-            Action::EndLocals => self.header(file, at_hand.tokens.as_slice()),
-            Action::EndStatement => self.end_statement(file, at_hand.tokens.as_slice()),
+            Action::EndLocals => self.header(file, at_hand.head, at_hand.names.as_slice()),
+            Action::EndStatement => self.end_statement(file, at_hand.head),
             Action::EndRoutine => self.close(file, line),
             _ => Ok(()),
         }
     }
 
     /// The header of a routine, which ends here.
-    fn header(&mut self, file: &[u8], tokens: &[Token<'a>]) -> Result<(), AllocError>
-        ensures { OnOk result (work self.new ≡ header file.now (map spelled tokens.now) (work self.old)) }
+    fn header(&mut self, file: &[u8], head: Option<Head>, names: &[Name]) -> Result<(), AllocError>
+        ensures { OnOk result (work self.new ≡ header file.now head (map as_name names.now) (work self.old)) }
     {
-        let Some((bracket, names)) = tokens.split_first() else {
+        let Some(Head::Header(line)) = head else {
             return Ok(());
         };
         let Some((name, locals)) = names.split_first() else {
             return Ok(());
         };
-        self.open(file, bracket.line, *name, Headed::of(locals))
+        let headed = headed_of(locals);
+        self.open(file, line, name, headed)
     }
 
     /// Opens the routine of a header that begins on a line. Its code begins with the number of its
@@ -179,14 +186,14 @@ impl<'a> Work<'a> {
         &mut self,
         file: &[u8],
         line: u32,
-        name: Token<'a>,
-        headed: Headed<'a>,
+        name: &Name,
+        headed: Headed<'_>,
     ) -> Result<(), AllocError>
-        ensures { let key = folded name.entry.bytes.now in
+        ensures { let key = folded (as_name name.now).bytes in
             OnOk result (work self.new ≡ header_with file.now line
-            (spelled name.entry) key (as_headed headed.entry) (work self.old)) }
+            (as_name name.now) key (as_headed headed.entry) (work self.old)) }
     {
-        let key = folded(self.alloc, name.bytes)?;
+        let key = folded(self.alloc, name.bytes())?;
         let of_name = self.name_fault(key.as_slice(), name);
         let fault = header_fault(line, of_name, &headed);
         if of_name.is_none() {
@@ -205,21 +212,21 @@ impl<'a> Work<'a> {
     }
 
     /// What is wrong with declaring a name, given without case too.
-    fn name_fault<'t>(&self, key: &[u8], name: Token<'t>) -> Option<Blame<'t>>
+    fn name_fault<'t>(&self, key: &[u8], name: &'t Name) -> Option<Blame<'t>>
         ensures fault { option_map blamed result
-            ≡ name_fault key.now (spelled name.entry) (name_list self.now.names) }
+            ≡ name_fault key.now (as_name name.now) (name_list self.now.names) }
         ensures undeclared { IfNone result (declaration_of key.now (name_list self.now.names) ≡ None) }
     {
-        if is_system_name(name.bytes) {
+        if is_system_name(name.bytes()) {
             return Some(Blame {
                 line: name.line,
-                message: Message::SystemName(name.bytes),
+                message: Message::SystemName(name.bytes()),
             });
         }
         let first = self.names.find(key)?;
         Some(Blame {
             line: name.line,
-            message: Message::Declared(name.bytes, first.line),
+            message: Message::Declared(name.bytes(), first.line),
         })
     }
 
@@ -232,16 +239,14 @@ impl<'a> Work<'a> {
         self.check(file, line, full)
     }
 
-    /// A statement of these tokens ends.
-    fn end_statement(&mut self, file: &[u8], tokens: &[Token<'a>]) -> Result<(), AllocError>
-        ensures { OnOk result (work self.new
-            ≡ statement_end file.now (map spelled tokens.now) (work self.old)) }
+    /// A statement ends that began so.
+    fn end_statement(&mut self, file: &[u8], head: Option<Head>) -> Result<(), AllocError>
+        ensures { OnOk result (work self.new ≡ statement_end file.now head (work self.old)) }
     {
-        let Some((first, _)) = tokens.split_first() else {
+        let Some(Head::Statement(statement, line)) = head else {
             return Ok(());
         };
-        let line = first.line;
-        match statement_of(*first) {
+        match statement {
             Statement::Print => self.print(file, line),
             Statement::Return => self.end_return(file, line),
             Statement::NewLine => self.emit_bare(file, line, Opcode::NewLine),
@@ -292,12 +297,12 @@ impl<'a> Work<'a> {
         let Some((called, arguments)) = names.split_first() else {
             return Ok(());
         };
-        if let Some(blame) = call_fault(line, &self.locals, *called, arguments) {
-            self.locals.name_all(names);
+        if let Some(blame) = call_fault(line, &self.locals, called, arguments) {
+            name_all(&mut self.locals, names);
             return self.report.error(file, blame.line, line, blame.message);
         }
         let operands = operands_of(self.alloc, &self.locals, &mut self.names, names)?;
-        self.locals.name_all(names);
+        name_all(&mut self.locals, names);
         let full = self.output.emit(&calling(operands.as_slice()))?;
         self.check(file, line, full)
     }
@@ -307,18 +312,39 @@ impl<'a> Work<'a> {
         ensures { let names = (gathered self.old.gathered).operands in
             OnOk result (work self.new ≡ return_of file.now line names (work self.old)) }
     {
-        let Some((name, _)) = self.gathered.operands.as_slice().split_first() else {
+        let operands = self.gathered.operands.as_slice();
+        let Some((name, _)) = operands.split_first() else {
             return self.emit_bare(file, line, Opcode::Rtrue);
         };
-        let names = [*name];
-        if let Some(blame) = operand_fault(&self.locals, *name) {
-            self.locals.name_all(&names);
+        let names = &operands[..1];
+        if let Some(blame) = operand_fault(&self.locals, name) {
+            name_all(&mut self.locals, names);
             return self.report.error(file, blame.line, line, blame.message);
         }
-        let operands = operands_of(self.alloc, &self.locals, &mut self.names, &names)?;
-        self.locals.name_all(&names);
+        let operands = operands_of(self.alloc, &self.locals, &mut self.names, names)?;
+        name_all(&mut self.locals, names);
         let full = self.output.emit(&returning(operands.as_slice()))?;
         self.check(file, line, full)
+    }
+}
+
+/// The locals that the names behind a routine's name declare.
+fn headed_of(names: &[Name]) -> Headed<'_>
+    ensures { as_headed result ≡ with_locals (map as_name names.now) no_locals }
+{
+    let mut headed = Headed::new();
+    for name in names {
+        headed.add(&name.spelling, name.line);
+    }
+    headed
+}
+
+/// A statement names these, of which some may be locals.
+fn name_all(locals: &mut Locals, names: &[Name])
+    ensures { listed locals.new ≡ with_all_named (map as_name names.now) (listed locals.old) }
+{
+    for name in names {
+        locals.name(name.bytes());
     }
 }
 

@@ -1,13 +1,10 @@
-ghost use Rattle.std.specs.Prelude.{None, [], false, if◌then◌else◌};
-
+use crate::devices::{Narrow, folder};
 use inf_compile::command_line::CommandLine;
 use inf_compile::compile::{Fault, compile};
 use inf_reader::outcome::Status;
 use inf_symbol::memory_sink::MemorySink;
-use inf_symbol::sinks::{Sink, SinkFault};
-use inf_token::failures::Failures;
-use inf_token::files::{Files, OpenFault, ReadFault};
-use inf_token::given_bytes::GivenBytes;
+use inf_symbol::sinks::Sink;
+use inf_token::files::Files;
 use inf_token::memory_files::MemoryFiles;
 use std::alloc::Global;
 use std::collections::BTreeMap;
@@ -16,109 +13,16 @@ use std::test::Fail;
 
 const DATE: [u8; 6] = *b"260307";
 
-const GREETING: &[u8] = b"[ Main; print \"hello\"; ];";
+pub const GREETING: &[u8] = b"[ Main; print \"hello\"; ];";
 
-const GREETING_SIZES: [u8; 4] = [0x00, 0xF4, 0x1E, 0x6D];
+pub const GREETING_SIZES: [u8; 4] = [0x00, 0xF4, 0x1E, 0x6D];
 
 /// The code of the greeting.
-const GREETING_CODE: &[u8] = b"\x00\x8F\x00\xF2\xBA\x00\x00\x00\x00\xB2\x35\x51\xC6\x85\xB0\x00";
-
-/// Takes at most so many bytes a write, and fails once it took so many in all.
-#[derive(Drop)]
-struct Narrow {
-    whole: MemorySink,
-    most: usize,
-    room: usize,
-    failures: Failures,
-}
-
-impl Narrow {
-    fn new(alloc: Global, most: usize, room: usize) -> Narrow {
-        Narrow {
-            whole: MemorySink::new(alloc),
-            most,
-            room,
-            failures: Failures::none(),
-        }
-    }
-}
-
-impl Sink for Narrow {
-    ghost taken = { λ _. None };
-
-    ghost failures = { λ s. s.failures };
-
-    fn write(&mut self, bytes: &[u8]) -> Result<usize, SinkFault> {
-        let count = bytes.len().min(self.most).min(self.room);
-        if count == 0 || self.whole.write(&bytes[..count]).is_err() {
-            self.failures.add();
-            return Err(SinkFault::Device);
-        }
-        self.room -= count;
-        Ok(count)
-    }
-}
-
-/// Gives these bytes one a read, and fails in place of the end. It may refuse to open.
-#[derive(Drop)]
-struct Failing {
-    opens: bool,
-    rest: &'static [u8],
-    is_open: bool,
-    failures: Failures,
-    given: GivenBytes,
-}
-
-impl Files for Failing {
-    ghost faults = { λ f. f.failures };
-
-    ghost given = { λ f. f.given };
-
-    ghost is_honest = { λ _. false };
-
-    ghost sources = { λ _ _. None };
-
-    ghost openings = { λ _. record { all = []; open_places = [] } };
-
-    ghost depth = { λ f. if f.is_open then 1 else 0 };
-
-    fn open(&mut self, _name: &str) -> Result<(), OpenFault> {
-        if self.is_open || !self.opens {
-            self.failures.add();
-            return Err(OpenFault::Device);
-        }
-        self.is_open = true;
-        Ok(())
-    }
-
-    fn read(&mut self, to: &mut [u8]) -> Result<usize, ReadFault> {
-        let Some((first, rest)) = self.rest.split_first() else {
-            self.failures.add();
-            return Err(ReadFault::Device);
-        };
-        to[0] = *first;
-        self.rest = rest;
-        self.given.add(1);
-        Ok(1)
-    }
-
-    fn close(&mut self) {
-        self.is_open = false;
-    }
-}
-
-/// A folder with the source `t.inf`.
-fn folder(alloc: Global, source: &[u8]) -> Result<MemoryFiles, Fail> {
-    let mut sources = BTreeMap::new(alloc);
-    sources.insert(
-        String::from_str(alloc, "t.inf")?,
-        Vec::from_slice(alloc, source)?,
-    )?;
-    Ok(MemoryFiles::new(alloc, sources))
-}
+pub const GREETING_CODE: &[u8] =
+    b"\x00\x8F\x00\xF2\xBA\x00\x00\x00\x00\xB2\x35\x51\xC6\x85\xB0\x00";
 
 /// Compiles `t.inf`.
-fn run<F: Files, M: Sink, S: Sink>(
+pub fn run<F: Files, M: Sink, S: Sink>(
     alloc: Global,
     files: &mut F,
     messages: &mut M,
@@ -130,7 +34,7 @@ fn run<F: Files, M: Sink, S: Sink>(
 
 /// Compiles a source, asserts its status and all its messages, and that there is a story only
 /// where there is no error. Gives the story.
-fn story_of(
+pub fn story_of(
     rt: &impl Abort,
     alloc: Global,
     source: &[u8],
@@ -149,7 +53,7 @@ fn story_of(
 }
 
 /// A story with this length and checksum, and this code.
-fn story_with<'a>(alloc: Global, sizes: &'a [u8], code: &'a [u8]) -> Result<Vec<u8>, Fail> {
+pub fn story_with<'a>(alloc: Global, sizes: &'a [u8], code: &'a [u8]) -> Result<Vec<u8>, Fail> {
     let pieces: [(&[u8], usize); 20] = [
         (b"\x05\x00\x00\x01\x03\xC0\x03\xC1\x03\xB8", 1),
         (b"\x01\x02\x01\xD8\x03\xB8\x00\x00260307\x00\x42", 1),
@@ -233,27 +137,6 @@ fn a_failed_write_ends_a_compilation(rt: HostRuntime) -> Result<(), Fail> {
     let mut expected = story_with(rt.alloc(), &GREETING_SIZES, GREETING_CODE)?;
     expected.truncate(100);
     assert_eq!(rt; narrow.whole.bytes(), expected.as_slice());
-    Ok(())
-}
-
-#[test]
-fn a_failed_read_is_not_the_end_of_a_source(rt: HostRuntime) -> Result<(), Fail> {
-    for (opens, rest) in [(false, GREETING), (true, GREETING), (true, b"")] {
-        let mut files = Failing {
-            opens,
-            rest,
-            is_open: false,
-            failures: Failures::none(),
-            given: GivenBytes::none(),
-        };
-        let mut messages = MemorySink::new(rt.alloc());
-        let mut story = MemorySink::new(rt.alloc());
-        let result = run(rt.alloc(), &mut files, &mut messages, &mut story)?;
-        assert!(rt; matches!(&result, Err(Fault::Read(name)) if name.as_str() == "t.inf"));
-        assert!(rt; messages.bytes().is_empty());
-        assert!(rt; story.bytes().is_empty());
-        assert!(rt; !files.is_open);
-    }
     Ok(())
 }
 

@@ -3,3 +3,7 @@
 
 #[cfg(test)]
 mod compile;
+#[cfg(test)]
+mod devices;
+#[cfg(test)]
+mod reading;

@@ -4,15 +4,15 @@ use Rattle.inf_opcode.specs.Instructions.{has_no_offset}
 use Rattle.inf_symbol.specs.LocalList.{listed}
 use Rattle.inf_symbol.specs.NameMap.{named}
 use Rattle.inf_unit.specs.Units.{with_operands}
-use Rattle.inf_token.specs.Tokens.{spelled}
+use Rattle.inf_symbol.specs.Spellings.{as_name}
 use Rattle.inf_unit.proofs.operands.operands_of.Given as goal
 
 -- the operands so far lead, with the names that are left, to all
-abbrev pub invariant-loop-token : goal.invariant-loop-token
-invariant-loop-token l =
-    let left = drop l.token-index l.tokens in
+abbrev pub invariant-loop-name : goal.invariant-loop-name
+invariant-loop-name l =
+    let left = drop l.name-index l.names in
     record {
-      value : with_operands (listed l.locals) (map spelled left) (record { names = named l.names; operands = l.operands.items }) ≡ with_operands (listed l.locals) (map spelled l.tokens) (record { names = named l.fn.names; operands = [] });
-      count : length l.operands.items ≡ l.token-index;
+      value : with_operands (listed l.locals) (map as_name left) (record { names = named l.known; operands = l.operands.items }) ≡ with_operands (listed l.locals) (map as_name l.names) (record { names = named l.fn.known; operands = [] });
+      count : length l.operands.items ≡ l.name-index;
       plain : IsTrue (has_no_offset l.operands.items);
     }

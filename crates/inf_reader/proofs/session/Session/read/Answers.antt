@@ -1,38 +1,80 @@
-use Rattle.std.proofs.Common.{◌≡◌, ◌<◌, inr, false, refl, sym, ap, subst, ◌∙◌, arith}
-use Rattle.inf_reader.specs.Reading.{State, has_ended, turn, run, turns_of}
-use Rattle.inf_reader.specs.Sessions.{state}
-use Rattle.inf_reader.proofs.Turns.{LeadsTo, left, left_falls, leads_on, leads_here}
+use Rattle.std.proofs.Common.{◌≡◌, inl, ℕ, List, true, false, refl, sym, subst, ◌∙◌, arith}
+use Rattle.inf_lexer.proofs.Hearing.{ends_on}
+use Rattle.inf_lexer.specs.Unread.{Heard}
+use Rattle.inf_reader.specs.Reading.{State, has_ended_at, run, turn, turns_of}
+use Rattle.inf_reader.specs.Sessions.{standing, state}
+use Rattle.inf_reader.proofs.Hearings.{along_none, along_then, led_heard, led_none, led_turn, stops_then}
 use Rattle.inf_reader.proofs.session.Session.read.Goals as goal
 
 pub loop-self-init : goal.loop-self-init
-loop-self-init c = record {
-  leads = record { turns = turns_of c.args.self.now.lexer.rest.now; enough = inr (omega arith); leads = refl };
-  file = refl;
-  room = c.requires;
-}
-
-pub loop-self-smaller : goal.loop-self-smaller
-loop-self-smaller c =
-    let going : has_ended (state c.loop-self.self) ≡ false = sym c.has_ended.ensures ∙ c.loop-self-test.true in
-    let next : state c.turn.new.self ≡ turn c.loop-self.self.file.now (state c.loop-self.self) = c.in_ok-turn.ensures.state in
-    let Falls : State → Type 0 = λ s. left s < left (state c.loop-self.self) in
-    subst Falls (sym next) (left_falls c.loop-self.self.file.now (state c.loop-self.self) going)
-
-pub loop-self-preserved : goal.loop-self-preserved
-loop-self-preserved c =
-    let file = c.args.self.now.file.now in
-    let going : has_ended (state c.loop-self.self) ≡ false = sym c.has_ended.ensures ∙ c.loop-self-test.true in
-    let next : state c.turn.new.self ≡ turn file (state c.loop-self.self) =
-    c.in_ok-turn.ensures.state ∙ ap (λ f. turn f.now (state c.loop-self.self)) c.loop-self.invariant.file in
-    let final = run file (turns_of c.args.self.now.lexer.rest.now) (state c.args.self.now) in
-    let Leads : State → Type 0 = λ s. LeadsTo file s final in
+loop-self-init g c =
+    let files = g.F.Files in
+    let self = c.args.self.now in
+    let openings = files.openings c.args.files.now in
     record {
-      leads = subst Leads (sym next) (leads_on file (state c.loop-self.self) final going c.loop-self.invariant.leads);
-      file = c.turn.ensures.file ∙ c.loop-self.invariant.file;
-      room = c.turn.ensures.room;
+      led = led_none self.file.now (files.is_honest c.args.files.now) (files.sources c.args.files.now) openings self.lexer.window self.lexer (standing self.progress);
+      stops = λ e. inl e;
+      ready = c.requires.ready;
+      file = refl;
+      end = λ honest ends. ends;
+      window = λ few. few;
+      few = c.requires.few;
+      gave = λ honest. along_none (files.sources c.args.files.now) openings self.lexer.window.given;
+      given = omega arith;
+      depth = refl;
+      faults = omega arith;
+      sources = refl;
+      honesty = refl;
     }
 
-pub returns-clause-state : goal.returns-clause-state
-returns-clause-state c =
-    let over = sym c.has_ended.ensures ∙ c.loop-self-test.false in
-    leads_here c.args.self.now.file.now (state c.loop-self.self) _ over c.loop-self.invariant.leads
+pub loop-self-preserved : goal.loop-self-preserved
+loop-self-preserved g c =
+    let files = g.F.Files in
+    let inv = c.loop-self.invariant in
+    let took = c.in_ok-turn.ensures in
+    let first = c.args.self.now in
+    let self = c.loop-self.self in
+    let going : has_ended_at (standing self.progress) ≡ false = sym c.has_ended.ensures ∙ c.loop-self-test.true in
+    let final : List ℕ → State = λ rest. run first.file.now (turns_of rest) (state first rest) in
+    let honest = files.is_honest c.args.files.now in
+    let sources = files.sources c.args.files.now in
+    let led = led_turn first.file.now honest (files.is_honest c.loop-self.files) sources (files.sources c.loop-self.files)
+    (files.openings c.args.files.now) (files.openings c.loop-self.files) (files.openings c.turn.new.files)
+    first.lexer.window self.lexer.window c.turn.new.self.lexer.window self.lexer (standing self.progress) (state c.turn.new.self) final
+    inv.honesty inv.sources going inv.led
+    (subst (λ f. Heard State (files.is_honest c.loop-self.files) (files.sources c.loop-self.files) (files.openings c.loop-self.files) (files.openings c.turn.new.files)
+    self.lexer.window c.turn.new.self.lexer.window (state c.turn.new.self) (λ rest. turn f.now (state self rest))) inv.file took.heard) in
+    record {
+      led = led;
+      stops = stops_then (standing first.progress) (standing self.progress) (standing c.turn.new.self.progress) c.turn.new.self.lexer.window going took.stops;
+      ready = took.ready;
+      file = c.turn.ensures.file ∙ inv.file;
+      end = ends_on honest (files.is_honest c.loop-self.files) sources (files.sources c.loop-self.files) (files.openings c.args.files.now) (files.openings c.loop-self.files) (files.openings c.turn.new.files)
+          first.lexer.window self.lexer.window c.turn.new.self.lexer.window inv.end inv.honesty inv.sources took.end;
+      window = λ few. took.window;
+      few = took.few;
+      gave = along_then honest (files.is_honest c.loop-self.files) sources (files.sources c.loop-self.files) (files.openings c.args.files.now) (files.openings c.loop-self.files) (files.openings c.turn.new.files)
+          first.lexer.window.given self.lexer.window.given c.turn.new.self.lexer.window.given inv.honesty inv.sources inv.gave took.gave;
+      given = omega (arith, inv.led.given, inv.given, took.given);
+      depth = took.depth ∙ inv.depth;
+      faults = omega (arith, took.faults, inv.faults);
+      sources = took.sources ∙ inv.sources;
+      honesty = took.honesty ∙ inv.honesty;
+    }
+
+pub returns-in_err-turn-clause-gave : goal.returns-in_err-turn-clause-gave
+returns-in_err-turn-clause-gave g c =
+    let files = g.F.Files in
+    let inv = c.loop-self.invariant in
+    along_then (files.is_honest c.args.files.now) (files.is_honest c.loop-self.files) (files.sources c.args.files.now) (files.sources c.loop-self.files)
+    (files.openings c.args.files.now) (files.openings c.loop-self.files) (files.openings c.turn.new.files)
+    c.args.self.now.lexer.window.given c.loop-self.self.lexer.window.given c.turn.new.self.lexer.window.given inv.honesty inv.sources inv.gave c.in_err-turn.ensures.gave
+
+pub returns-clause-heard : goal.returns-clause-heard
+returns-clause-heard g c =
+    let files = g.F.Files in
+    let first = c.args.self.now in
+    let self = c.loop-self.self in
+    let over : has_ended_at (standing self.progress) ≡ true = sym c.has_ended.ensures ∙ c.loop-self-test.false in
+    led_heard first.file.now (files.is_honest c.args.files.now) (files.sources c.args.files.now) (files.openings c.args.files.now) (files.openings c.loop-self.files)
+    first.lexer.window self.lexer.window self.lexer (standing self.progress) (λ rest. run first.file.now (turns_of rest) (state first rest)) over c.loop-self.invariant.led

@@ -1,8 +1,7 @@
-use Rattle.std.proofs.Common.{◌≡◌, ◌<◌, false, [], ap, map, sym, ◌∙◌, length, length-set, get_or, set, arith}
+use Rattle.std.proofs.Common.{◌≡◌, ◌<◌, ap, map, sym, ◌∙◌, length, length-set, get_or, set, arith}
 use Rattle.std.specs.List.{position_or_len}
 use Rattle.arrayvec.proofs.ArrayVecLemmas.{items-with_items}
 use Rattle.inf_symbol.specs.LocalList.{local}
-use Rattle.inf_symbol.specs.declared.locals.Local.{Local}
 use Rattle.inf_symbol.proofs.LocalLemmas.{as_named, has, with_named-absent, with_named-found}
 use Rattle.inf_symbol.proofs.Places.{found_place, no_place}
 use Rattle.inf_symbol.proofs.locals.Locals.name.Goals as goal
@@ -13,7 +12,7 @@ returns-in-Some c =
     let name = c.args.name.now in
     let shown = c.deref_mut.result.now in
     let place = c.in-Some.place in
-    let none : Local = record { name = record { ref_ptr = (0, 0); now = [] }; line = 0; is_named = false } in
+    let none = c.index-deref_mut-place.result in
     let at = found_place place (position_or_len (has name) list.items) (length list.items) c.in-Some.ensures.value in
     let within : position_or_len (has name) list.items < length list.items = omega (arith, at, c.in-Some.ensures.within) in
     let same : length (set shown place (as_named (get_or shown place none))) ≡ length list.items = length-set shown place (as_named (get_or shown place none)) ∙ ap length c.deref_mut.ensures.value in

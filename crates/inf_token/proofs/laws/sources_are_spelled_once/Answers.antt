@@ -1,5 +1,0 @@
-use Rattle.inf_token.proofs.SpellingLaws.{sources_are_spelled_once}
-use Rattle.inf_token.proofs.laws.sources_are_spelled_once.Goals as goal
-
-pub returns : goal.returns
-returns c = sources_are_spelled_once

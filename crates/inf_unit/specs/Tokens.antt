@@ -1,0 +1,46 @@
+-- A token as a source spells it, and tests of one.
+use Rattle.std.specs.Prelude.{ℕ, List, ◌==◌, Bool, true, false}
+use Rattle.std.specs.Str.{str_eq_ignore_ascii_case}
+use Rattle.inf_grammar.specs.Atoms.{mark_atom}
+use Rattle.inf_scanner.specs.declared.tokens.Mark.{Mark}
+use Rattle.inf_scanner.specs.declared.tokens.TokenKind.{TokenKind}
+use Rattle.inf_scanner.specs.declared.tokens.TokenKind.TheVariants as kind
+use Rattle.inf_symbol.specs.Messages.{Told, Bytes, Quote, Text, End}
+use Rattle.inf_unit.specs.declared.tokens.Spelled as code
+
+-- A token: what it is, its bytes (of a text or quote those between its quotes), and the line of its first byte.
+pub record Spelled : Type 0 where
+  pub kind : TokenKind
+  pub bytes : List ℕ
+  pub line : ℕ
+
+abbrev pub spelled : code.Spelled → Spelled
+spelled t = record { kind = t.kind; bytes = t.bytes.now; line = t.line }
+
+-- this mark
+abbrev pub is_mark : Mark → TokenKind → Bool
+is_mark m (kind.Mark n) = mark_atom n == mark_atom m
+is_mark m _ = false
+
+abbrev pub is_end : TokenKind → Bool
+is_end kind.End = true
+is_end _ = false
+
+-- a word of the language, in any case
+abbrev pub is_word_kind : List ℕ → TokenKind → List ℕ → Bool
+is_word_kind word kind.Name bytes = str_eq_ignore_ascii_case bytes word
+is_word_kind word _ bytes = false
+
+abbrev pub is_word : List ℕ → Spelled → Bool
+is_word word t = is_word_kind word t.kind t.bytes
+
+-- how messages name a token
+abbrev pub told_kind : TokenKind → List ℕ → Told
+told_kind kind.Text bytes = Text
+told_kind (kind.Char c) bytes = Quote bytes
+told_kind (kind.Word w) bytes = Quote bytes
+told_kind kind.End bytes = End
+told_kind _ bytes = Bytes bytes
+
+abbrev pub told : Spelled → Told
+told t = told_kind t.kind t.bytes

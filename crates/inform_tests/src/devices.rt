@@ -1,0 +1,160 @@
+//! Devices for tests: a sink that takes little, and a reader that gives little.
+ghost use Rattle.std.specs.Prelude.{None, [], false, if◌then◌else◌};
+
+use inf_symbol::memory_sink::MemorySink;
+use inf_symbol::sinks::{Sink, SinkFault};
+use inf_token::failures::Failures;
+use inf_token::files::{Files, OpenFault, ReadFault};
+use inf_token::given_bytes::GivenBytes;
+use inf_token::memory_files::MemoryFiles;
+use std::alloc::Global;
+use std::collections::BTreeMap;
+use std::test::Fail;
+
+/// Takes at most so many bytes a write, and fails once it took so many in all.
+#[derive(Drop)]
+pub struct Narrow {
+    pub whole: MemorySink,
+    most: usize,
+    room: usize,
+    failures: Failures,
+}
+
+impl Narrow {
+    pub fn new(alloc: Global, most: usize, room: usize) -> Narrow {
+        Narrow {
+            whole: MemorySink::new(alloc),
+            most,
+            room,
+            failures: Failures::none(),
+        }
+    }
+}
+
+impl Sink for Narrow {
+    ghost taken = { λ _. None };
+
+    ghost failures = { λ s. s.failures };
+
+    fn write(&mut self, bytes: &[u8]) -> Result<usize, SinkFault> {
+        let count = bytes.len().min(self.most).min(self.room);
+        if count == 0 || self.whole.write(&bytes[..count]).is_err() {
+            self.failures.add();
+            return Err(SinkFault::Device);
+        }
+        self.room -= count;
+        Ok(count)
+    }
+}
+
+/// Gives these bytes of whatever is opened, at most so many a read, then the end, and behind the end the bytes behind it. It fails
+/// in place of the first read past so many, and opens nothing where it is told so.
+#[derive(Drop)]
+pub struct Slow<'a> {
+    rest: &'a [u8],
+    behind: &'a [u8],
+    most: usize,
+    reads: usize,
+    opens: bool,
+    pub is_open: bool,
+    pub count: usize,
+    failures: Failures,
+    given: GivenBytes,
+}
+
+impl<'a> Slow<'a> {
+    /// A reader that never fails.
+    pub fn new(rest: &'a [u8], most: usize) -> Slow<'a> {
+        Slow {
+            rest,
+            behind: b"",
+            most,
+            reads: usize::MAX,
+            opens: true,
+            is_open: false,
+            count: 0,
+            failures: Failures::none(),
+            given: GivenBytes::none(),
+        }
+    }
+
+    /// A reader that has more bytes behind the end.
+    pub fn resumed(rest: &'a [u8], behind: &'a [u8]) -> Slow<'a> {
+        Slow {
+            behind,
+            ..Slow::new(rest, usize::MAX)
+        }
+    }
+
+    /// A reader of one byte a read, which fails behind so many reads.
+    pub fn failing(rest: &'a [u8], reads: usize) -> Slow<'a> {
+        Slow {
+            reads,
+            ..Slow::new(rest, 1)
+        }
+    }
+
+    /// A reader that opens nothing.
+    pub fn shut() -> Slow<'a> {
+        Slow {
+            opens: false,
+            ..Slow::new(b"", 1)
+        }
+    }
+}
+
+impl Files for Slow<'_> {
+    ghost faults = { λ f. f.failures };
+
+    ghost given = { λ f. f.given };
+
+    ghost is_honest = { λ _. false };
+
+    ghost sources = { λ _ _. None };
+
+    ghost openings = { λ _. record { all = []; open_places = [] } };
+
+    ghost depth = { λ f. if f.is_open then 1 else 0 };
+
+    fn open(&mut self, _name: &str) -> Result<(), OpenFault> {
+        if self.is_open || !self.opens {
+            self.failures.add();
+            return Err(OpenFault::Device);
+        }
+        self.is_open = true;
+        Ok(())
+    }
+
+    fn read(&mut self, to: &mut [u8]) -> Result<usize, ReadFault> {
+        if self.reads == 0 {
+            self.failures.add();
+            return Err(ReadFault::Device);
+        }
+        self.reads -= 1;
+        let count = self.rest.len().min(self.most).min(to.len());
+        self.given.add(count);
+        self.count = self.count.saturating_add(count);
+        if count == 0 {
+            self.rest = self.behind;
+            return Ok(0);
+        }
+        let (first, rest) = self.rest.split_at(count);
+        to[..count].copy_from_slice(first);
+        self.rest = rest;
+        Ok(count)
+    }
+
+    fn close(&mut self) {
+        self.is_open = false;
+    }
+}
+
+/// A folder with the source `t.inf`.
+pub fn folder(alloc: Global, source: &[u8]) -> Result<MemoryFiles, Fail> {
+    let mut sources = BTreeMap::new(alloc);
+    sources.insert(
+        String::from_str(alloc, "t.inf")?,
+        Vec::from_slice(alloc, source)?,
+    )?;
+    Ok(MemoryFiles::new(alloc, sources))
+}

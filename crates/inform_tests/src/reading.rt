@@ -1,0 +1,193 @@
+//! How a source is read: through a window, to its end or to a fatal error, whatever a read gives.
+use crate::compile::{GREETING, GREETING_CODE, GREETING_SIZES, run, story_of, story_with};
+use crate::devices::Slow;
+use inf_compile::compile::Fault;
+use inf_reader::outcome::Status;
+use inf_symbol::memory_sink::MemorySink;
+use std::alloc::Global;
+use std::process::Abort;
+use std::test::Fail;
+
+/// Compiles what a reader gives, and asserts the status and all messages. Gives the story.
+fn assert_read(
+    rt: &impl Abort,
+    alloc: Global,
+    files: &mut Slow<'_>,
+    status: Status,
+    lines: &[u8],
+) -> Result<MemorySink, Fail> {
+    let mut messages = MemorySink::new(alloc);
+    let mut story = MemorySink::new(alloc);
+    let ended = run(alloc, files, &mut messages, &mut story)??;
+    assert_eq!(rt; messages.bytes(), lines);
+    assert_eq!(rt; ended, status);
+    assert!(rt; !files.is_open);
+    Ok(story)
+}
+
+/// How many bytes a read gives at most, in turn.
+const READS: [usize; 6] = [1, 2, 3, 7, 4096, usize::MAX];
+
+#[test]
+fn what_is_read_does_not_depend_on_the_bytes_of_a_read(rt: HostRuntime) -> Result<(), Fail> {
+    let expected = story_with(rt.alloc(), &GREETING_SIZES, GREETING_CODE)?;
+    for most in READS {
+        let mut files = Slow::new(GREETING, most);
+        let lines = b"Errors: 0, warnings: 0\n".as_slice();
+        let story = assert_read(&rt, rt.alloc(), &mut files, Status::Success, lines)?;
+        assert_eq!(rt; story.bytes(), expected.as_slice(), "{most}");
+        assert_eq!(rt; files.count, GREETING.len());
+        let source = b"[ Main;\r\nprint ;\r\n];\n\r7000;".as_slice();
+        let lines =
+            b"t.inf(2): Error: Syntax error at \";\"\nt.inf(5): Error: Syntax error at \"7000\"\nErrors: 2, warnings: 0 (no output)\n".as_slice();
+        let mut files = Slow::new(source, most);
+        let story = assert_read(&rt, rt.alloc(), &mut files, Status::Errors, lines)?;
+        assert!(rt; story.bytes().is_empty());
+    }
+    Ok(())
+}
+
+/// A hundred lines with an error each, before many spaces.
+fn hundred_errors(alloc: Global) -> Result<Vec<u8>, Fail> {
+    let mut source = b"5;\n".as_slice().repeat(alloc, 100)?;
+    source.extend_from_slice(b" ".as_slice().repeat(alloc, 1_000_000)?.as_slice())?;
+    Ok(source)
+}
+
+/// The messages about them.
+fn hundred_messages(alloc: Global) -> Result<Vec<u8>, Fail> {
+    let mut lines = Vec::new(alloc);
+    for line in 1..=100u32 {
+        let told = format!(in alloc; "t.inf({line}): Error: Syntax error at \"5\"\n")?;
+        lines.extend_from_slice(told.as_bytes())?;
+    }
+    lines.extend_from_slice(b"t.inf(100): Fatal error: Too many errors\n")?;
+    Ok(lines)
+}
+
+#[test]
+fn little_is_read_behind_a_fatal_error(rt: HostRuntime) -> Result<(), Fail> {
+    let source = hundred_errors(rt.alloc())?;
+    let lines = hundred_messages(rt.alloc())?;
+    for most in READS {
+        let mut files = Slow::new(source.as_slice(), most);
+        let _ = assert_read(
+            &rt,
+            rt.alloc(),
+            &mut files,
+            Status::Errors,
+            lines.as_slice(),
+        )?;
+        // The last number ends behind 298 bytes, and the byte behind it shows that.
+        assert!(rt; files.count > 298, "{most}");
+        assert!(rt; files.count <= 298 + most.min(4096), "{most}");
+    }
+    Ok(())
+}
+
+#[test]
+fn nothing_is_read_behind_the_end(rt: HostRuntime) -> Result<(), Fail> {
+    let mut files = Slow::resumed(GREETING, b",");
+    let lines = b"Errors: 0, warnings: 0\n".as_slice();
+    let story = assert_read(&rt, rt.alloc(), &mut files, Status::Success, lines)?;
+    let expected = story_with(rt.alloc(), &GREETING_SIZES, GREETING_CODE)?;
+    assert_eq!(rt; story.bytes(), expected.as_slice());
+    Ok(())
+}
+
+/// Asserts that a source is told as not read, that nothing was written and that it was closed.
+fn assert_unread(rt: &impl Abort, alloc: Global, files: &mut Slow<'_>) -> Result<(), Fail> {
+    let mut messages = MemorySink::new(alloc);
+    let mut story = MemorySink::new(alloc);
+    let result = run(alloc, files, &mut messages, &mut story)?;
+    assert!(rt; matches!(&result, Err(Fault::Read(name)) if name.as_str() == "t.inf"));
+    assert!(rt; messages.bytes().is_empty());
+    assert!(rt; story.bytes().is_empty());
+    assert!(rt; !files.is_open);
+    Ok(())
+}
+
+/// Each byte has a read of its own, and the end one more.
+#[test]
+fn a_failed_read_is_not_the_end_of_a_source(rt: HostRuntime) -> Result<(), Fail> {
+    assert_unread(&rt, rt.alloc(), &mut Slow::shut())?;
+    assert_unread(&rt, rt.alloc(), &mut Slow::failing(b"", 0))?;
+    for reads in 0..=GREETING.len() {
+        assert_unread(&rt, rt.alloc(), &mut Slow::failing(GREETING, reads))?;
+    }
+    let mut files = Slow::failing(GREETING, GREETING.len() + 1);
+    let lines = b"Errors: 0, warnings: 0\n".as_slice();
+    let _ = assert_read(&rt, rt.alloc(), &mut files, Status::Success, lines)?;
+    Ok(())
+}
+
+#[test]
+fn a_line_end_over_the_edge_of_the_window_is_one(rt: HostRuntime) -> Result<(), Fail> {
+    let mut source = b" ".as_slice().repeat(rt.alloc(), 4095)?;
+    source.extend_from_slice(b"\r\n5;")?;
+    let lines =
+        "t.inf(2): Error: Syntax error at \"5\"\nt.inf(1): Error: No routine \"Main\"\nErrors: 2, warnings: 0 (no output)\n";
+    let _ = story_of(&rt, rt.alloc(), source.as_slice(), Status::Errors, lines)?;
+    Ok(())
+}
+
+/// A routine that prints a text of so many bytes at its second line.
+fn printing(alloc: Global, count: usize) -> Result<Vec<u8>, Fail> {
+    let mut source = Vec::from_slice(alloc, b"[ Main;\nprint \"")?;
+    source.extend_from_slice(b"a".as_slice().repeat(alloc, count)?.as_slice())?;
+    source.extend_from_slice(b"\";\n]; ,;")?;
+    Ok(source)
+}
+
+#[test]
+fn a_text_has_at_most_4000_bytes(rt: HostRuntime) -> Result<(), Fail> {
+    let source = printing(rt.alloc(), 4000)?;
+    let lines = "t.inf(3): Error: Syntax error at \",\"\nErrors: 1, warnings: 0 (no output)\n";
+    let _ = story_of(&rt, rt.alloc(), source.as_slice(), Status::Errors, lines)?;
+    let source = printing(rt.alloc(), 4001)?;
+    let lines = "t.inf(2): Fatal error: MAX_QTEXT_SIZE is exceeded\n";
+    let _ = story_of(&rt, rt.alloc(), source.as_slice(), Status::Errors, lines)?;
+    Ok(())
+}
+
+#[test]
+fn a_source_that_is_cut_in_a_text(rt: HostRuntime) -> Result<(), Fail> {
+    let lines = "t.inf(1): Error: Unclosed or empty quote\nErrors: 1, warnings: 0 (no output)\n";
+    let _ = story_of(
+        &rt,
+        rt.alloc(),
+        b"[ Main; print \"hel",
+        Status::Errors,
+        lines,
+    )?;
+    Ok(())
+}
+
+/// Sources whose first token is a bad one, with what is told of it.
+const TOLD: [(&[u8], &str); 14] = [
+    (b"5;", "Syntax error at \"5\""),
+    (b"$fF;", "Syntax error at \"$fF\""),
+    (b"$$101;", "Syntax error at \"$$101\""),
+    (b"Name;", "Syntax error at \"Name\""),
+    (b"'a';", "Syntax error at \"'a'\""),
+    (b"'ab//p';", "Syntax error at \"'ab//p'\""),
+    (b"\"text\";", "Syntax error at text"),
+    (b"~~=;", "Syntax error at \"~~\""),
+    (b"-->;", "Syntax error at \"-->\""),
+    (b"65536;", "Number out of range"),
+    (b"'';", "Unclosed or empty quote"),
+    (b"\x00;", "Illegal character"),
+    (b"abcdefghijklmnopqrstuvwxyz0123456;", "Name longer than 32"),
+    (b"\"@{x\";", "Unknown escape"),
+];
+
+#[test]
+fn a_bad_token_is_told(rt: HostRuntime) -> Result<(), Fail> {
+    for (source, told) in &TOLD {
+        let lines = format!(in rt.alloc();
+            "t.inf(1): Error: {told}\nt.inf(1): Error: No routine \"Main\"\nErrors: 2, warnings: 0 (no output)\n"
+        )?;
+        let _ = story_of(&rt, rt.alloc(), *source, Status::Errors, lines.as_str())?;
+    }
+    Ok(())
+}
