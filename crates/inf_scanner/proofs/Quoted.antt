@@ -4,7 +4,7 @@ use Rattle.std.proofs.lemmas.Bool.{cond_both}
 use Rattle.inf_characters.specs.Characters.{is_line_end, is_white}
 use Rattle.inf_characters.specs.declared.characters.CharSet.{CharSet}
 use Rattle.inf_scanner.specs.Marks.{first_mark, longer_mark}
-use Rattle.inf_scanner.specs.Scanning.{Sight, Found, find, is_quoted, is_run_byte, kept, most_behind, step_of, turn_by}
+use Rattle.inf_scanner.specs.Scanning.{Sight, Found, find, is_quoted, is_run_byte, kept, most, most_behind, step_of, turn_by}
 use Rattle.inf_scanner.specs.declared.scanner.Ending.TheVariants as ending
 use Rattle.inf_scanner.specs.declared.scanner.State.{State}
 use Rattle.inf_scanner.specs.declared.scanner.State.TheVariants as state
@@ -74,3 +74,15 @@ keeps_quoted set limit (state.Quote a) b seen bs less = quote_ends set limit bs 
 pub quoted_from : (set : CharSet) (limit : ℕ) (s : State) (b : ℕ) (seen : Sight) (bs : List ℕ) (f : Found) → 32 < most_behind limit (step_of set s b)
     → find set limit s seen bs ≡ f → is_quoted f.ending ≡ true
 quoted_from set limit s b seen bs f less e = ap (λ (g : Found). is_quoted g.ending) (sym e) ∙ keeps_quoted set limit s b seen bs less
+
+-- a token of which more than 32 bytes may be kept in this state ends as a quoted one
+pub quoted_in : (set : CharSet) (limit : ℕ) (s : State) (seen : Sight) (bs : List ℕ) (f : Found) → 32 < most limit s → find set limit s seen bs ≡ f → is_quoted f.ending ≡ true
+quoted_in set limit s seen bs f less e = ap (λ (g : Found). is_quoted g.ending) (sym e) ∙ by s less
+  where
+    by : (s : State) → 32 < most limit s → is_quoted (find set limit s seen bs).ending ≡ true
+    by state.Gap less = absurd (omega arith)
+    by state.Comment less = absurd (omega arith)
+    by (state.Run n) less = absurd (omega arith)
+    by (state.Mark m) less = absurd (omega arith)
+    by state.Text less = text_ends set limit bs seen
+    by (state.Quote a) less = quote_ends set limit bs a seen

@@ -3,7 +3,6 @@ use Rattle.std.proofs.Common.{◌≡◌, ℕ, suc, ◌+◌, ◌<◌, List, ◌�
 use Rattle.inf_characters.specs.declared.characters.CharSet.{CharSet}
 use Rattle.inf_scanner.specs.Scanning.{Sight, Found, turn, find}
 use Rattle.inf_scanner.specs.declared.scanner.State.{State}
-use Rattle.inf_scanner.specs.declared.scanner.Ending.{Ending}
 use Rattle.inf_scanner.specs.declared.scanner.Turn.{Turn}
 use Rattle.inf_scanner.specs.declared.scanner.Turn.TheVariants as turn_to
 
@@ -25,13 +24,3 @@ find_turn set limit s seen bytes i rest t within is =
 pub found_on : (set : CharSet) (limit : ℕ) (s next : State) (seen after : Sight) (bytes : List ℕ) (i : ℕ) (rest : List ℕ) → i < length bytes
     → (turn_to.On next, after) ≡ turn set limit s (get_or bytes i 0) seen → find set limit next after (drop (i + 1) bytes ++ rest) ≡ find set limit s seen (drop i bytes ++ rest)
 found_on set limit s next seen after bytes i rest within is = find_turn set limit s seen bytes i rest (turn_to.On next, after) within is
-
-pub found_last : (set : CharSet) (limit : ℕ) (s : State) (e : Ending) (seen after : Sight) (bytes : List ℕ) (i : ℕ) (rest : List ℕ) → i < length bytes
-    → (turn_to.Last e, after) ≡ turn set limit s (get_or bytes i 0) seen → record { ending = e; seen = after; rest = drop (i + 1) bytes ++ rest } ≡ find set limit s seen (drop i bytes ++ rest)
-found_last set limit s e seen after bytes i rest within is = find_turn set limit s seen bytes i rest (turn_to.Last e, after) within is
-
-pub found_behind : (set : CharSet) (limit : ℕ) (s : State) (e : Ending) (seen after : Sight) (bytes : List ℕ) (i : ℕ) (rest : List ℕ) → i < length bytes
-    → (turn_to.Behind e, after) ≡ turn set limit s (get_or bytes i 0) seen → record { ending = e; seen = after; rest = drop i bytes ++ rest } ≡ find set limit s seen (drop i bytes ++ rest)
-found_behind set limit s e seen after bytes i rest within is =
-    ap (λ l. record { ending = e; seen = after; rest = l ++ rest }) (drop-cons bytes i 0 within ∙ sym (ap (λ n. get_or bytes i 0 ∷ drop n bytes) (add-one i)))
-    ∙ find_turn set limit s seen bytes i rest (turn_to.Behind e, after) within is

@@ -2,6 +2,7 @@ pub mod Marks
 pub mod Kept
 pub mod Lines
 pub mod Scanning
+pub mod Runs
 pub mod Kinds
 pub mod Tokens
 pub mod SpellingLaws

@@ -1,5 +1,5 @@
 //! The marks, byte by byte: each front of a mark is a mark.
-ghost use Rattle.std.specs.Prelude.{◌≡◌};
+ghost use Rattle.std.specs.Prelude.{◌≡◌, ℕ, IsTrue};
 ghost use Rattle.inf_scanner.specs.Marks.{first_mark, longer_mark};
 
 use crate::tokens::Mark;
@@ -61,4 +61,24 @@ pub(crate) fn longer_mark(mark: Mark, byte: u8) -> Option<Mark>
         (Mark::Hash, b'#') => Some(Mark::DoubleHash),
         _ => None,
     }
+}
+
+/// Whether no mark is this one and one more byte.
+pub(crate) fn is_whole(mark: Mark) -> bool
+    ensures { IsTrue result → (byte : ℕ) → longer_mark mark byte ≡ None }
+{
+    !matches!(
+        mark,
+        Mark::Minus
+            | Mark::Decrement
+            | Mark::Plus
+            | Mark::BitAnd
+            | Mark::BitOr
+            | Mark::BitNot
+            | Mark::Assign
+            | Mark::Greater
+            | Mark::Less
+            | Mark::Dot
+            | Mark::Hash
+    )
 }

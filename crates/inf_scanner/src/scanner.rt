@@ -1,10 +1,12 @@
 //! Tokens byte by byte: each byte is passed over, is kept, or ends the token.
 ghost use Rattle.std.specs.Prelude.{◌≡◌, ℕ, ◌+◌, ◌<◌, ◌≤◌, ◌^◌, ◌++◌, List, drop, length, true, IfOk, IsErr, OnErr};
 ghost use Rattle.inf_scanner.specs.Lines.{first_line};
+ghost use Rattle.std.specs.List.{prefix_len};
+ghost use Rattle.inf_scanner.specs.Runs.{is_blank, is_name_byte, is_plain, stays};
 ghost use Rattle.inf_scanner.specs.Scanning.{is_run_byte, begins_number, step_of, begin, at_end, most, is_gap, turn, sight, marked, begun, find, found_after, is_behind, is_on, is_quoted, most_behind};
 
 use crate::lines::Lines;
-use crate::marks::{first_mark, longer_mark};
+use crate::marks::{first_mark, is_whole, longer_mark};
 use crate::spelling::Spelling;
 use crate::tokens::Mark;
 use inf_characters::{is_line_end, is_white};
@@ -64,7 +66,28 @@ pub enum Turn {
 fn is_run_byte(byte: u8) -> bool
     ensures { result ≡ is_run_byte byte }
 {
-    byte.is_ascii_alphanumeric() || byte == b'_' || byte == b'$'
+    is_name_byte(byte) || byte == b'$'
+}
+
+/// White space that ends no line, in both character sets.
+fn is_blank(byte: u8) -> bool
+    ensures { result ≡ is_blank byte }
+{
+    matches!(byte, b' ' | b'\t' | 12)
+}
+
+/// A byte that stands in names, but for `$`.
+fn is_name_byte(byte: u8) -> bool
+    ensures { result ≡ is_name_byte byte }
+{
+    byte.is_ascii_alphanumeric() || byte == b'_'
+}
+
+/// A byte that ends no line, text or quote, and is no `@`.
+fn is_plain(byte: u8) -> bool
+    ensures { result ≡ is_plain byte }
+{
+    !matches!(byte, b'\n' | b'\r' | b'"' | b'\'' | b'@')
 }
 
 fn begins_number(byte: u8) -> bool
@@ -73,10 +96,68 @@ fn begins_number(byte: u8) -> bool
     byte.is_ascii_digit() || byte == b'$'
 }
 
+/// How many blanks stand at the front.
+fn blank_len(bytes: &[u8]) -> usize
+    ensures { result ≡ prefix_len is_blank bytes.now }
+{
+    let mut len = 0;
+    for byte in bytes {
+        if !is_blank(*byte) {
+            break;
+        }
+        len += 1;
+    }
+    len
+}
+
+/// How many bytes of a name stand at the front.
+fn name_len(bytes: &[u8]) -> usize
+    ensures { result ≡ prefix_len is_name_byte bytes.now }
+{
+    let mut len = 0;
+    for byte in bytes {
+        if !is_name_byte(*byte) {
+            break;
+        }
+        len += 1;
+    }
+    len
+}
+
+/// How many plain bytes stand at the front.
+fn plain_len(bytes: &[u8]) -> usize
+    ensures { result ≡ prefix_len is_plain bytes.now }
+{
+    let mut len = 0;
+    for byte in bytes {
+        if !is_plain(*byte) {
+            break;
+        }
+        len += 1;
+    }
+    len
+}
+
+/// How many bytes at the front are known to leave a state as it is, and to end no line.
+fn run_len(state: State, bytes: &[u8]) -> usize
+    ensures { result ≡ prefix_len (stays state) bytes.now }
+{
+    match state {
+        State::Gap => blank_len(bytes),
+        State::Run(_) => name_len(bytes),
+        State::Comment | State::Text | State::Quote(false) => plain_len(bytes),
+        State::Quote(true) => 0,
+        State::Mark(_) => 0,
+    }
+}
+
 /// The first byte of a token, or one before it.
 fn begin(set: CharSet, byte: u8) -> Step
     ensures { result ≡ begin set byte }
 {
+    if let Some(mark) = first_mark(byte) {
+        return Step::Keep(State::Mark(mark));
+    }
     if is_white(set, byte) {
         return Step::Skip(State::Gap);
     }
@@ -87,10 +168,7 @@ fn begin(set: CharSet, byte: u8) -> Step
         b'!' => Step::Skip(State::Comment),
         b'"' => Step::Skip(State::Text),
         b'\'' => Step::Skip(State::Quote(false)),
-        _ => match first_mark(byte) {
-            Some(mark) => Step::Keep(State::Mark(mark)),
-            None => Step::Close(Ending::Unfit),
-        },
+        _ => Step::Close(Ending::Unfit),
     }
 }
 
@@ -204,15 +282,71 @@ impl Seen {
     {
         let mut state = from;
         let mut taken = 0;
-        for byte in bytes {
+        loop {
+            let (len, reached) = self.take_run(limit, state, &bytes[taken..])?;
+            taken += len;
+            state = reached;
+            let Some(byte) = bytes.get(taken) else {
+                return Ok((taken, Turn::On(state)));
+            };
             match self.take(set, limit, state, *byte)? {
+                Turn::On(State::Mark(mark)) if is_whole(mark) => {
+                    return Ok((taken + 1, Turn::Last(Ending::Mark(mark))));
+                }
                 Turn::On(next) => state = next,
                 Turn::Last(ending) => return Ok((taken + 1, Turn::Last(ending))),
                 Turn::Behind(ending) => return Ok((taken, Turn::Behind(ending))),
             }
             taken += 1;
         }
-        Ok((taken, Turn::On(state)))
+    }
+
+    // Takes at once the bytes at the front that leave the state as it is, and a name or number that begins behind
+    // blanks. Answers how many, and what is read then.
+    fn take_run(
+        &mut self,
+        limit: u32,
+        state: State,
+        bytes: &[u8],
+    ) -> Result<(usize, State), AllocError>
+        ensures found { IfOk result (λ r. (set : CharSet) (rest : List ℕ) → find set limit r.1 (sight self.new) (drop r.0 bytes.now ++ rest)
+            ≡ find set limit state (sight self.old) (bytes.now ++ rest)) }
+        ensures within { IfOk result (λ r. r.0 ≤ length bytes.now) }
+        ensures line { self.new.lines.line ≡ self.old.lines.line }
+        ensures memory { IsErr result → 32 < most limit state }
+    {
+        let len = self.pass_run(limit, state, bytes)?;
+        let behind = &bytes[len..];
+        match (state, behind.first()) {
+            (State::Gap, Some(byte)) if is_name_byte(*byte) => {
+                self.first = self.lines.line;
+                let run = State::Run(byte.is_ascii_digit());
+                let more = self.pass_run(limit, run, behind)?;
+                Ok((len + more, run))
+            }
+            _ => Ok((len, state)),
+        }
+    }
+
+    // Takes at once the bytes at the front that leave the state as it is, and answers how many. Most runs are
+    // short, so a call would cost more than the run.
+    #[inline(always)]
+    fn pass_run(&mut self, limit: u32, state: State, bytes: &[u8]) -> Result<usize, AllocError>
+        ensures found { IfOk result (λ n. (set : CharSet) (rest : List ℕ) → find set limit state (sight self.new) (drop n bytes.now ++ rest)
+            ≡ find set limit state (sight self.old) (bytes.now ++ rest)) }
+        ensures within { IfOk result (λ n. n ≤ length bytes.now) }
+        ensures line { self.new.lines.line ≡ self.old.lines.line }
+        ensures memory { IsErr result → 32 < most limit state }
+    {
+        let len = run_len(state, bytes);
+        if len == 0 {
+            return Ok(0);
+        }
+        if !state.is_gap() {
+            self.spelling.extend(state.most(limit), &bytes[..len])?;
+        }
+        self.lines.after_return = false;
+        Ok(len)
     }
 
     // Takes a byte.

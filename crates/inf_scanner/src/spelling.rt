@@ -1,6 +1,7 @@
 //! What is kept of the token at hand.
 ghost use Rattle.std.specs.Prelude.{◌≡◌, ◌<◌, IfOk, IsErr, OnOk};
 ghost use Rattle.inf_scanner.specs.Kept.{nothing_kept, with_byte};
+ghost use Rattle.inf_scanner.specs.Runs.{with_bytes};
 
 use std::alloc::{AllocError, Global};
 use std::marker::Model;
@@ -53,6 +54,20 @@ impl Spelling {
         } else {
             self.is_cut = true;
         }
+        Ok(())
+    }
+
+    /// Keeps bytes, up to `most` in all. There is always room for as many as a name may have.
+    pub(crate) fn extend(&mut self, most: usize, bytes: &[u8]) -> Result<(), AllocError>
+        ensures ok { OnOk result (self.new ≡ with_bytes most bytes.now self.old) }
+        ensures memory { IsErr result → 32 < most }
+    {
+        let room = most.saturating_sub(self.bytes.len());
+        if bytes.len() <= room {
+            return self.bytes.extend_from_slice(bytes);
+        }
+        self.bytes.extend_from_slice(&bytes[..room])?;
+        self.is_cut = true;
         Ok(())
     }
 

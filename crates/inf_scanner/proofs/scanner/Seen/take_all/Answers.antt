@@ -1,52 +1,51 @@
--- Bytes are taken one by one.
-use Rattle.std.proofs.Common.{◌+◌, ◌++◌, drop, get_or, refl, sym, ap, ◌∙◌, arith}
-use Rattle.inf_scanner.specs.Scanning.{find, sight}
-use Rattle.inf_scanner.proofs.Quoted.{quoted_from}
-use Rattle.inf_scanner.proofs.Taking.{found_behind, found_last, found_on}
+use Rattle.std.proofs.Common.{◌++◌, ◌+◌, ℕ, List, length, drop, refl, sym, ap, ◌∙◌, arith}
+use Rattle.std.proofs.lemmas.List.{drop-drop}
+use Rattle.std.proofs.lemmas.Slice.{between_to_end}
+use Rattle.inf_scanner.specs.Scanning.{find, sight, turn}
+use Rattle.inf_scanner.specs.declared.scanner.State.TheVariants as state
+use Rattle.inf_scanner.specs.declared.scanner.Turn.{Turn}
+use Rattle.inf_scanner.specs.declared.scanner.Turn.TheVariants as turn_to
+use Rattle.inf_scanner.proofs.Quoted.{quoted_from, quoted_in}
+use Rattle.inf_scanner.proofs.Runs.{found_mark}
+use Rattle.inf_scanner.proofs.Taking.{found_on}
 use Rattle.inf_scanner.proofs.scanner.Seen.take_all.Goals as goal
 
-pub loop-byte-preserved : goal.loop-byte-preserved
-loop-byte-preserved c =
+pub returns-in_err-len-clause-memory : goal.returns-in_err-len-clause-memory
+returns-in_err-len-clause-memory c = λ failed rest.
     let bytes = c.args.bytes.now in
-    let i = c.loop-byte.byte-index in
-    let inv = c.loop-byte.invariant in
-    record {
-      found = λ rest.
-          found_on c.args.set c.args.limit c.loop-byte.state c.in-On.next (sight c.loop-byte.self) (sight c.take.new.self) bytes i rest c.loop-byte-test.true
-          (ap (λ t. (t, sight c.take.new.self)) (sym c.in-On.is) ∙ c.in_ok-next.ensures.turn)
-          ∙ inv.found rest;
-      taken = omega (arith, inv.taken);
-      few = omega (arith, inv.few, c.in_ok-next.ensures.few);
-    }
-
-pub returns-in-Last-clause-found : goal.returns-in-Last-clause-found
-returns-in-Last-clause-found c = λ rest.
-    let bytes = c.args.bytes.now in
-    let i = c.loop-byte.byte-index in
-    ap (λ n. record { ending = c.in-Last.ending; seen = sight c.take.new.self; rest = drop (n + 1) bytes ++ rest }) c.loop-byte.invariant.taken
-    ∙ found_last c.args.set c.args.limit c.loop-byte.state c.in-Last.ending (sight c.loop-byte.self) (sight c.take.new.self) bytes i rest c.loop-byte-test.true
-    (ap (λ t. (t, sight c.take.new.self)) (sym c.in-Last.is) ∙ c.in_ok-next.ensures.turn)
-    ∙ c.loop-byte.invariant.found rest
-
-pub returns-in-Behind-clause-found : goal.returns-in-Behind-clause-found
-returns-in-Behind-clause-found c = λ rest.
-    let bytes = c.args.bytes.now in
-    let i = c.loop-byte.byte-index in
-    ap (λ n. record { ending = c.in-Behind.ending; seen = sight c.take.new.self; rest = drop n bytes ++ rest }) c.loop-byte.invariant.taken
-    ∙ found_behind c.args.set c.args.limit c.loop-byte.state c.in-Behind.ending (sight c.loop-byte.self) (sight c.take.new.self) bytes i rest c.loop-byte-test.true
-    (ap (λ t. (t, sight c.take.new.self)) (sym c.in-Behind.is) ∙ c.in_ok-next.ensures.turn)
-    ∙ c.loop-byte.invariant.found rest
-
-pub returns-clause-found : goal.returns-clause-found
-returns-clause-found c = λ rest.
-    ap (λ n. find c.args.set c.args.limit c.loop-byte.state (sight c.loop-byte.self) (drop n c.args.bytes.now ++ rest)) c.loop-byte.invariant.taken
-    ∙ c.loop-byte.invariant.found rest
-
-pub returns-in_err-next-clause-memory : goal.returns-in_err-next-clause-memory
-returns-in_err-next-clause-memory c = λ failed rest.
-    let bytes = c.args.bytes.now in
-    let i = c.loop-byte.byte-index in
-    quoted_from c.args.set c.args.limit c.loop-byte.state (get_or bytes i 0) (sight c.loop-byte.self) (drop i bytes ++ rest)
+    quoted_in c.args.set c.args.limit c.loop-len.state (sight c.loop-len.self) (drop c.loop-len.taken bytes ++ rest)
     (find c.args.set c.args.limit c.args.from (sight c.args.self.now) (bytes ++ rest))
-    (c.in_err-next.ensures.memory refl)
-    (c.loop-byte.invariant.found rest)
+    (c.in_err-len.ensures.memory refl)
+    (c.loop-len.invariant.found rest)
+
+pub returns-in_err-mark-clause-memory : goal.returns-in_err-mark-clause-memory
+returns-in_err-mark-clause-memory c = λ failed rest.
+    let bytes = c.args.bytes.now in
+    let left = between_to_end bytes c.loop-len.taken (length bytes) (omega arith) in
+    quoted_from c.args.set c.args.limit c.in_ok-len.reached c.in-Some.byte.now (sight c.take_run.new.self) _
+    (find c.args.set c.args.limit c.args.from (sight c.args.self.now) (bytes ++ rest))
+    (c.in_err-mark.ensures.memory refl)
+    (c.in_ok-len.ensures.found c.args.set rest
+    ∙ ap (λ (l : List ℕ). find c.args.set c.args.limit c.loop-len.state (sight c.loop-len.self) (l ++ rest)) left
+    ∙ c.loop-len.invariant.found rest)
+
+pub returns-in-On-Mark-clause-found : goal.returns-in-On-Mark-clause-found
+returns-in-On-Mark-clause-found c = λ rest.
+    let set = c.args.set in
+    let limit = c.args.limit in
+    let bytes = c.args.bytes.now in
+    let taken = c.loop-len.taken in
+    let place = taken + c.in_ok-len.len in
+    let left = between_to_end bytes taken (length bytes) (omega arith) in
+    let read = c.in-Some.ensures.lookup.3 in
+    found_mark set limit c.in-On-Mark.mark (sight c.take.new.self) (drop (place + 1) bytes ++ rest) (c.is_whole.ensures c.if-is_whole.true)
+    ∙ found_on set limit c.in_ok-len.reached (state.Mark c.in-On-Mark.mark) (sight c.take_run.new.self) (sight c.take.new.self) bytes place rest
+    read.0
+    (ap (λ (t : Turn). (t, sight c.take.new.self)) (sym (c.in-On-Mark.is ∙ ap (λ s. turn_to.On s) c.in-On-Mark.field-0-is))
+    ∙ c.in_ok-mark.ensures.turn
+    ∙ ap (λ b. turn set limit c.in_ok-len.reached b (sight c.take_run.new.self)) (read.1 0))
+    ∙ ap (λ (l : List ℕ). find set limit c.in_ok-len.reached (sight c.take_run.new.self) (l ++ rest))
+    (sym (drop-drop c.in_ok-len.len taken bytes) ∙ ap (λ (l : List ℕ). drop c.in_ok-len.len l) (sym left))
+    ∙ c.in_ok-len.ensures.found set rest
+    ∙ ap (λ (l : List ℕ). find set limit c.loop-len.state (sight c.loop-len.self) (l ++ rest)) left
+    ∙ c.loop-len.invariant.found rest

@@ -1,0 +1,11 @@
+use Rattle.std.proofs.Common.{◌≡◌, ◌+◌, drop}
+use Rattle.std.specs.List.{prefix_len}
+use Rattle.inf_scanner.specs.Runs.{is_blank}
+use Rattle.inf_scanner.proofs.scanner.blank_len.Given as goal
+
+-- the bytes so far pass, and those that are left go on
+abbrev pub invariant-loop-byte : goal.invariant-loop-byte
+invariant-loop-byte l = record {
+  len : l.len ≡ l.byte-index;
+  front : prefix_len is_blank l.bytes ≡ l.byte-index + prefix_len is_blank (drop l.byte-index l.bytes);
+}

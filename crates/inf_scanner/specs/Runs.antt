@@ -1,0 +1,35 @@
+-- Runs of bytes that leave a state as it is: what they do together. Only the crate's private clauses cite them.
+use Rattle.std.specs.Prelude.{ℕ, ◌-◌, List, ◌++◌, length, take, Bool, true, false, not, ◌||◌, ◌==◌, nat_le, if◌then◌else◌}
+use Rattle.inf_characters.specs.Characters.{is_line_end}
+use Rattle.inf_scanner.specs.Kept.{Kept}
+use Rattle.inf_scanner.specs.Scanning.{is_digit, is_letter}
+use Rattle.inf_scanner.specs.declared.scanner.State.{State}
+use Rattle.inf_scanner.specs.declared.scanner.State.TheVariants as state
+
+-- white space that ends no line, in both character sets
+abbrev pub is_blank : ℕ → Bool
+is_blank b = b == 32 || b == 9 || b == 12
+
+-- a byte of names, but for `$`
+abbrev pub is_name_byte : ℕ → Bool
+is_name_byte b = (is_letter b || is_digit b) || b == 95
+
+-- a byte that ends no line, text or quote, and is no `@`
+abbrev pub is_plain : ℕ → Bool
+is_plain b = not (is_line_end b || b == 34 || b == 39 || b == 64)
+
+-- a byte that is known to leave the state as it is, and to end no line
+abbrev pub stays : State → ℕ → Bool
+stays state.Gap b = is_blank b
+stays state.Comment b = is_plain b
+stays (state.Run is_number) b = is_name_byte b
+stays (state.Mark m) b = false
+stays state.Text b = is_plain b
+stays (state.Quote false) b = is_plain b
+stays (state.Quote true) b = false
+
+-- some bytes more, of which at most so many are kept
+abbrev pub with_bytes : ℕ → List ℕ → Kept → Kept
+with_bytes most bs k =
+    if nat_le (length bs) (most - length k.bytes) then record { bytes = k.bytes ++ bs; is_cut = k.is_cut }
+    else record { bytes = k.bytes ++ take (most - length k.bytes) bs; is_cut = true }
