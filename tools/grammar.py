@@ -395,18 +395,20 @@ class Tables:
 
     def words_code(self):
         words = "".join(f'    b"{word}",\n' for word in self.page.words)
-        return ("//! The words that the grammar knows, and where to look for one. Made from docs/grammar.txt.\n"
-                "use crate::rules::Span;\n\n"
+        return ("//! The words that the grammar knows, and where to look for one. Made from docs/grammar.txt.\n\n"
                 "/// The words, in the order of the alphabet.\n"
                 f"pub(crate) static WORDS: [&[u8]; {len(self.page.words)}] = [\n{words}];\n"
-                + static("LETTERS", "Where the words with each first letter stand.", "Span",
-                         [self.words_from(letter) for letter in ALPHABET], 4))
+                + static("SLOTS", f"The place of the word with each slot: {len(self.page.words)} where there is none.", "u8",
+                         [str(place) for place in self.word_slots()], 26))
 
-    def words_from(self, letter):
-        """Where the words with a first letter stand."""
-        first_letters = [word[0] for word in self.page.words]
-        before = sum(first < letter for first in first_letters)
-        return span_code(before, before + first_letters.count(letter))
+    def word_slots(self):
+        """The place of the word with each slot. `slot` has to tell all words apart: other factors of it may be needed for other words."""
+        found = [len(self.page.words)] * SLOTS
+        for place, word in enumerate(self.page.words):
+            if found[slot(word)] < place:
+                raise ValueError(f"{word} and {self.page.words[found[slot(word)]]} have one slot")
+            found[slot(word)] = place
+        return found
 
     def part_code(self, part):
         if part in self.rule_numbers:
@@ -447,7 +449,7 @@ class Tables:
                 "#[derive(Clone, Copy, Debug, PartialEq, Eq)]\npub enum Action {\n" + listed + "}\n")
 
 
-ALPHABET = "abcdefghijklmnopqrstuvwxyz"
+SLOTS = 256
 
 STARTS = {
     "file": "A whole source: any number of pieces.",
@@ -465,6 +467,12 @@ def set_code(atoms):
 
 def span_code(start, end):
     return f"Span {{ start: {start}, end: {end} }}"
+
+
+def slot(word):
+    """The slot of a word, as specs/Tables.antt and src/atoms.rt have it: by its size and its first, third and last letter."""
+    letters = [ord(letter) % 32 for letter in word] + [0, 0]
+    return (letters[0] + 5 * letters[2] + 61 * letters[len(word) - 1] + 16 * (len(word) % 16)) % SLOTS
 
 
 def static(name, means, kind, items, wide=1):

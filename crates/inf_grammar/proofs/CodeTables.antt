@@ -1,5 +1,5 @@
 -- What the program's tables say: by evaluation.
-use Rattle.std.proofs.Common.{◌≡◌, ℕ, ◌<◌, ◌≤◌, List, [], ◌∷◌, Bool, true, false, zero, suc, map, reverse, get_or, length, refl, sym, ◌∙◌, ap, arith, if◌then◌else◌}
+use Rattle.std.proofs.Common.{◌≡◌, ℕ, ◌<◌, ◌≤◌, List, [], ◌∷◌, Bool, true, false, zero, suc, map, reverse, get_or, length, refl, sym, ◌∙◌, ap, arith, ◌&&◌, if◌then◌else◌}
 use Rattle.inf_machine.specs.declared.symbols.Symbol.{Symbol}
 use Rattle.inf_grammar.specs.declared.rules.Set.{Set}
 use Rattle.inf_grammar.specs.declared.rules.Span.{Span}
@@ -7,13 +7,13 @@ use Rattle.inf_grammar.specs.declared.rules.Row.{Row as CodeRow}
 use Rattle.inf_grammar.specs.declared.rules.Rule.{Rule as CodeRule}
 use Rattle.inf_machine.specs.Grammar.{Row, has}
 use Rattle.inf_grammar.specs.declared.actions.Action.{Action}
-use Rattle.inf_machine.specs.Machine.{row_for, fits, passed_row, way}
+use Rattle.inf_machine.specs.Machine.{row_for, fits, are_acts, passed_row, way}
 use Rattle.inf_machine.specs.Decided.{beginning}
 use Rattle.inf_grammar.specs.Language.{grammar, known, rules}
 use Rattle.inf_grammar.specs.Classes.{classes}
 use Rattle.inf_grammar.specs.Facts.{beginnings, empties}
 use Rattle.inf_grammar.specs.Tables.{all_classes, all_parts, all_rows, all_rules, set_number, cut, found, span_for}
-use Rattle.std.proofs.lemmas.Bool.{cond-true, cond-false}
+use Rattle.std.proofs.lemmas.Bool.{and_parts, cond-true, cond-false}
 use Rattle.inf_machine.proofs.Rows.{fits_is_begun, none_chooses_other}
 use Rattle.inf_machine.proofs.Deciding.{decided_parts}
 use Rattle.inf_grammar.specs.Evaluated.{language_is_decided}
@@ -116,6 +116,25 @@ rule_is at d l =
 pub rules_length : length all_rules ≡ 246
 unfolding grammar known all_rules
 rules_length = refl
+
+-- What stands for a rule that is passed over is actions alone
+
+abbrev all_acts : List (List (Row Action)) → Bool
+all_acts [] = true
+all_acts (rows ∷ rest) = are_acts (passed_row grammar known rows) && all_acts rest
+
+rules_acts : all_acts rules ≡ true
+unfolding grammar known
+rules_acts = refl
+
+acts_at : (rs : List (List (Row Action))) → all_acts rs ≡ true → (at : ℕ) → are_acts (passed_row grammar known (get_or rs at [])) ≡ true
+acts_at [] e at = refl
+acts_at (rows ∷ rest) e zero = (and_parts (are_acts (passed_row grammar known rows)) (all_acts rest) e).0
+acts_at (rows ∷ rest) e (suc at) = acts_at rest (and_parts (are_acts (passed_row grammar known rows)) (all_acts rest) e).1 at
+
+pub only_acts : (rule : ℕ) → are_acts (passed_row grammar known (grammar.rows_of rule)) ≡ true
+unfolding grammar known
+only_acts rule = acts_at rules rules_acts rule
 
 -- The row that the program finds is the row that is chosen
 

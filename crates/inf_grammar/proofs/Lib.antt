@@ -1,6 +1,5 @@
 pub mod Bits
 pub mod OpenRoutines
 pub mod CodeTables
-pub mod Passing
-pub mod Letters
+pub mod Slots
 pub mod SourceLaws

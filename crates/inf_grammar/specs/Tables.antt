@@ -1,6 +1,5 @@
 -- The grammar as the program has it: flat tables of numbers.
-use Rattle.std.specs.Prelude.{ℕ, ◌+◌, ◌*◌, ◌/◌, ◌%◌, ◌^◌, List, [], ◌∷◌, ◌++◌, Bool, map, reverse, length, take, drop, if◌then◌else◌, nat_le, nat_lt, nat_eq, ◌-◌, ◌&&◌, get_or, count_by}
-use Rattle.std.specs.Char.{to_ascii_lowercase}
+use Rattle.std.specs.Prelude.{ℕ, ◌+◌, ◌*◌, ◌/◌, ◌%◌, ◌^◌, List, [], ◌∷◌, ◌++◌, Bool, map, reverse, length, take, drop, if◌then◌else◌, nat_le, nat_eq, ◌-◌, ◌&&◌, get_or, suc}
 use Rattle.std.specs.List.{range_with_len}
 use Rattle.inf_machine.specs.declared.symbols.Symbol.{Symbol}
 use Rattle.inf_grammar.specs.declared.rules.Set.{Set}
@@ -97,25 +96,26 @@ found atom other (row ∷ rows) = if has (set_number row.begins) atom then row.p
 abbrev pub span_for : CodeRule → ℕ → Span
 span_for rule atom = if has (set_number rule.begins) atom then found atom rule.other (cut rule.rows all_rows) else rule.other
 
--- Words by their first letters
+-- Words by their slots
 
--- the first letter of a name, in small letters: 0 where it has none
-abbrev pub first_letter : List ℕ → ℕ
-first_letter [] = 0
-first_letter (byte ∷ rest) = to_ascii_lowercase byte
+-- a letter as a number that is the same in any case
+abbrev pub letter : ℕ → ℕ
+letter byte = byte % 32
 
--- where the words with a first letter stand, which are in the order of the alphabet
-abbrev pub words_from : ℕ → Span
-words_from letter =
-    span (count_by (λ word. nat_lt (first_letter word) letter) words) (count_by (λ word. nat_eq (first_letter word) letter) words)
+-- The slot of a name, by its size and its first, third and last letter: the same in any case, and another one for each word.
+abbrev pub slot : List ℕ → ℕ
+slot name =
+    (letter (get_or name 0 0) + 5 * letter (get_or name 2 0) + 61 * letter (get_or name (length name - 1) 0) + 16 * (length name % 16)) % 256
 
--- the same for each letter
-unfoldable pub all_letters : List Span
-all_letters = map words_from (range_with_len 97 26)
+-- how many numbers stand before the first that is this one
+abbrev pub place_of : ℕ → List ℕ → ℕ
+place_of n [] = 0
+place_of n (m ∷ rest) = if nat_eq m n then 0 else suc (place_of n rest)
 
-abbrev pub nowhere : Span
-nowhere = span 72 0
+-- the slot of each word
+abbrev pub word_slots : List ℕ
+word_slots = map slot words
 
--- where words with a first letter would stand
-abbrev pub letter_span : ℕ → Span
-letter_span letter = if nat_lt letter 97 then nowhere else get_or all_letters (letter - 97) nowhere
+-- the place of the word with each slot
+unfoldable pub all_slots : List ℕ
+all_slots = map (λ n. place_of n word_slots) (range_with_len 0 256)

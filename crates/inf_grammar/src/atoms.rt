@@ -1,11 +1,11 @@
 //! Atoms: what the grammar can tell of a token.
-ghost use Rattle.std.specs.Prelude.{◌≡◌, ◌≤◌, get_or, length, map};
+ghost use Rattle.std.specs.Prelude.{◌≡◌, ◌≤◌, ◌<◌, get_or, length, map};
+ghost use Rattle.std.specs.Str.{str_eq_ignore_ascii_case};
 ghost use Rattle.inf_grammar.specs.Atoms.{atom_of, place_in};
-ghost use Rattle.inf_grammar.specs.Tables.{all_letters, first_letter, letter_span, nowhere};
+ghost use Rattle.inf_grammar.specs.Tables.{all_slots, letter, slot};
 ghost use Rattle.inf_grammar.specs.Words.{words};
 
-use crate::rules::Span;
-use crate::words::{LETTERS, WORDS};
+use crate::words::{SLOTS, WORDS};
 use inf_scanner::Mark;
 
 /// A token, as far as the grammar looks at it.
@@ -34,9 +34,6 @@ const NAMES: u8 = 73;
 /// The number of the first atom behind the names.
 const FIRST_LITERAL: u8 = 186;
 
-/// No words.
-const NOWHERE: Span = Span { start: 72, end: 72 };
-
 /// The atom of a token, a number below 192.
 pub fn atom_of(token: Token<'_>) -> u8
     ensures { result ≡ atom_of token.entry }
@@ -54,69 +51,62 @@ pub fn atom_of(token: Token<'_>) -> u8
     }
 }
 
-/// How many words of the grammar stand before a name, in any case: all of them, if it is none. Only those with its first letter
-/// are looked at.
+/// How many words of the grammar stand before a name, in any case: all of them, if it is none. Only the word with its slot is
+/// looked at.
 fn place(spelling: &[u8]) -> u8
     ensures place { result ≡ place_in spelling.now words }
     ensures within { result ≤ 72 }
 {
-    let span = span_of(spelling);
-    let start = span.start as usize;
-    let alike = &known_words()[start..span.end as usize];
-    let among = place_among(alike, spelling);
-    if among < alike.len() {
-        (start + among) as u8
-    } else {
-        72
+    let place = word_with(slot_of(spelling));
+    match known_words().get(place as usize) {
+        Some(word) if is_same(spelling, word) => place,
+        Some(_) | None => 72,
     }
 }
 
-/// Where the words stand that begin with the letter of a name, in any case.
-fn span_of(spelling: &[u8]) -> Span
-    ensures span { result ≡ letter_span (first_letter spelling.now) }
-    ensures ordered { result.start ≤ result.end }
-    ensures within { result.end ≤ 72 }
+/// Whether two names are the same in any case. Most that are the same are written in the same case.
+fn is_same(one: &[u8], other: &[u8]) -> bool
+    ensures { result ≡ str_eq_ignore_ascii_case one.now other.now }
 {
-    let letter = match spelling.first() {
-        Some(first) => first.to_ascii_lowercase(),
+    one == other || one.eq_ignore_ascii_case(other)
+}
+
+/// The slot of a name, by its size and its first, third and last letter: the same in any case, and another one for each word of
+/// the grammar.
+fn slot_of(spelling: &[u8]) -> usize
+    ensures { result ≡ slot spelling.now }
+{
+    let size = spelling.len();
+    let last = letter_at(spelling, size.saturating_sub(1));
+    (letter_at(spelling, 0) + 5 * letter_at(spelling, 2) + 61 * last + 16 * (size % 16)) % 256
+}
+
+/// A letter of a name as a number that is the same in any case: 0 where it has none.
+fn letter_at(spelling: &[u8], place: usize) -> usize
+    ensures letter { result ≡ letter (get_or spelling.now place 0) }
+    ensures within { result < 32 }
+{
+    match spelling.get(place) {
+        Some(byte) => (*byte % 32) as usize,
         None => 0,
-    };
-    match letter.checked_sub(b'a') {
-        Some(place) => letter_at(place),
-        None => NOWHERE,
     }
 }
 
-/// Where the words of a letter stand, by its place in the alphabet.
-fn letter_at(place: u8) -> Span
-    ensures span { result ≡ get_or all_letters place nowhere }
-    ensures ordered { result.start ≤ result.end }
-    ensures within { result.end ≤ 72 }
+/// The place of the word with a slot: 72 where there is none.
+fn word_with(slot: usize) -> u8
+    ensures { result ≡ get_or all_slots slot 72 }
 {
-    match letters().get(place as usize) {
-        Some(span) => *span,
-        None => NOWHERE,
+    match slots().get(slot) {
+        Some(place) => *place,
+        None => 72,
     }
 }
 
-/// Where the words with each letter stand.
-fn letters() -> &'static [Span]
-    ensures { result.now ≡ all_letters }
+/// The place of the word with each slot.
+fn slots() -> &'static [u8]
+    ensures { result.now ≡ all_slots }
 {
-    &LETTERS
-}
-
-/// How many of some words stand before a name, in any case: all of them, if it is none.
-fn place_among(words: &[&[u8]], spelling: &[u8]) -> usize
-    ensures place { result ≡ place_in spelling.now (map (λ word. word.now) words.now) }
-    ensures within { result ≤ length words.now }
-{
-    for (place, word) in words.iter().enumerate() {
-        if spelling.eq_ignore_ascii_case(word) {
-            return place;
-        }
-    }
-    words.len()
+    &SLOTS
 }
 
 /// The words of the grammar.

@@ -1,5 +1,5 @@
 //! The machine that reads tokens by the grammar of the language.
-ghost use Rattle.std.specs.Prelude.{◌≡◌, [], ◌∷◌, ◌++◌, ◌↔◌, reverse, IsTrue, OnOk, OnErr, true};
+ghost use Rattle.std.specs.Prelude.{◌≡◌, [], ◌∷◌, ◌++◌, ◌↔◌, reverse, IsTrue, IfOk, OnOk, OnErr, true, false};
 ghost use Rattle.inf_grammar.specs.Language.{grammar, known};
 ghost use Rattle.inf_grammar.specs.Routines.{is_in_routine};
 ghost use Rattle.inf_machine.specs.Machine.{fits, can_end, taken};
@@ -89,6 +89,21 @@ impl Machine {
         ensures same_actions { OnErr result (actions.new.items ≡ actions.old.items) }
     {
         self.machine.take(atom, actions)
+    }
+
+    /// Whether a token fits; where it does, it is taken as `take` does.
+    ///
+    /// Where it does not fit and where memory runs out, what is to be read and the actions are as they were.
+    pub fn read(&mut self, atom: u8, actions: &mut Vec<Action>) -> Result<bool, AllocError>
+        ensures fits { IfOk result (λ fits_now. fits_now ≡ fits grammar known atom self.old) }
+        ensures left { IfOk result (λ fits_now. fits_now ≡ true → self.new ≡ (taken grammar known atom self.old).left) }
+        ensures actions { IfOk result (λ fits_now. fits_now ≡ true → actions.new.items ≡ actions.old.items ++ (taken grammar known atom self.old).actions) }
+        ensures same { IfOk result (λ fits_now. fits_now ≡ false → self.new ≡ self.old) }
+        ensures same_actions { IfOk result (λ fits_now. fits_now ≡ false → actions.new.items ≡ actions.old.items) }
+        ensures err { OnErr result (self.new ≡ self.old) }
+        ensures err_actions { OnErr result (actions.new.items ≡ actions.old.items) }
+    {
+        self.machine.read(atom, actions)
     }
 }
 

@@ -1,8 +1,8 @@
 //! What the machine knows of a rule.
-ghost use Rattle.std.specs.Prelude.{◌≡◌, reverse};
+ghost use Rattle.std.specs.Prelude.{◌≡◌, reverse, true};
 ghost use Rattle.inf_machine.specs.Grammar.{has};
 ghost use Rattle.inf_grammar.specs.Language.{grammar, known};
-ghost use Rattle.inf_machine.specs.Machine.{passed_row, way};
+ghost use Rattle.inf_machine.specs.Machine.{are_acts, passed_row, way};
 ghost use Rattle.inf_grammar.specs.Tables.{all_classes, all_parts, all_rows, all_rules, cut, found, joined_words, span_for};
 
 use crate::actions::Action;
@@ -88,10 +88,13 @@ fn rows_at(span: Span) -> &'static [Row]
     }
 }
 
-/// The parts of a span.
+/// The parts of a span. Most rules that are passed over have none.
 fn parts_at(span: Span) -> &'static [Symbol<Action>]
     ensures { result.now ≡ cut span all_parts }
 {
+    if span.end <= span.start {
+        return &[];
+    }
     match parts().get(span.start as usize..span.end as usize) {
         Some(parts) => parts,
         None => &[],
@@ -161,9 +164,10 @@ pub(crate) fn way(rule: u8, atom: u8) -> &'static [Symbol<Action>]
     }
 }
 
-/// What stands for a rule that can be empty before an atom that does not begin it, its last part first.
+/// What stands for a rule that can be empty before an atom that does not begin it, its last part first: actions alone.
 pub(crate) fn passed(rule: u8) -> &'static [Symbol<Action>]
-    ensures { reverse result.now ≡ passed_row grammar known (grammar.rows_of rule) }
+    ensures row { reverse result.now ≡ passed_row grammar known (grammar.rows_of rule) }
+    ensures acts { are_acts (passed_row grammar known (grammar.rows_of rule)) ≡ true }
 {
     match rules().get(rule as usize) {
         Some(rule) => parts_at(rule.other),

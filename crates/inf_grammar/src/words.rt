@@ -1,5 +1,4 @@
 //! The words that the grammar knows, and where to look for one. Made from docs/grammar.txt.
-use crate::rules::Span;
 
 /// The words, in the order of the alphabet.
 pub(crate) static WORDS: [&[u8]; 72] = [
@@ -77,14 +76,17 @@ pub(crate) static WORDS: [&[u8]; 72] = [
     b"with",
 ];
 
-/// Where the words with each first letter stand.
+/// The place of the word with each slot: 72 where there is none.
 #[rattlefmt::skip]
-pub(crate) static LETTERS: [Span; 26] = [
-    Span { start: 0, end: 5 }, Span { start: 5, end: 6 }, Span { start: 6, end: 9 }, Span { start: 9, end: 11 },
-    Span { start: 11, end: 16 }, Span { start: 16, end: 20 }, Span { start: 20, end: 22 }, Span { start: 22, end: 24 },
-    Span { start: 24, end: 32 }, Span { start: 32, end: 33 }, Span { start: 33, end: 33 }, Span { start: 33, end: 35 },
-    Span { start: 35, end: 38 }, Span { start: 38, end: 41 }, Span { start: 41, end: 45 }, Span { start: 45, end: 49 },
-    Span { start: 49, end: 50 }, Span { start: 50, end: 57 }, Span { start: 57, end: 65 }, Span { start: 65, end: 67 },
-    Span { start: 67, end: 68 }, Span { start: 68, end: 69 }, Span { start: 69, end: 72 }, Span { start: 72, end: 72 },
-    Span { start: 72, end: 72 }, Span { start: 72, end: 72 },
+pub(crate) static SLOTS: [u8; 256] = [
+    72, 72, 72, 52, 72, 2, 72, 72, 72, 72, 5, 72, 72, 35, 72, 72, 72, 61, 72, 72, 72, 43, 72, 72, 40, 72,
+    72, 72, 72, 27, 22, 72, 72, 54, 72, 72, 72, 72, 4, 72, 72, 72, 68, 72, 53, 72, 72, 72, 72, 72, 39, 72,
+    72, 72, 60, 72, 72, 72, 72, 72, 72, 12, 72, 72, 72, 72, 49, 16, 72, 72, 72, 63, 72, 72, 72, 72, 72, 72,
+    72, 72, 72, 45, 72, 64, 17, 72, 9, 72, 72, 72, 72, 32, 72, 72, 72, 72, 72, 72, 48, 28, 72, 41, 72, 72,
+    38, 72, 72, 72, 72, 72, 72, 33, 72, 72, 72, 72, 18, 72, 72, 72, 59, 44, 72, 23, 72, 72, 72, 30, 72, 72,
+    72, 72, 72, 72, 72, 72, 62, 72, 72, 72, 69, 7, 21, 72, 72, 46, 72, 72, 72, 72, 72, 24, 72, 72, 72, 72,
+    72, 72, 72, 65, 3, 72, 72, 71, 72, 67, 72, 72, 55, 57, 72, 72, 72, 72, 72, 72, 72, 42, 72, 72, 72, 72,
+    72, 10, 72, 31, 34, 72, 72, 15, 72, 72, 72, 72, 72, 72, 72, 70, 1, 66, 26, 72, 72, 72, 72, 72, 72, 72,
+    47, 72, 72, 72, 72, 11, 72, 13, 72, 72, 19, 25, 0, 72, 72, 6, 72, 72, 72, 72, 51, 72, 20, 72, 72, 72,
+    72, 72, 37, 56, 36, 50, 72, 72, 72, 72, 72, 72, 72, 72, 72, 14, 8, 72, 72, 72, 29, 58,
 ];

@@ -32,10 +32,9 @@ pub(crate) fn read(alloc: Global, piece: &str) -> Result<Answer, AllocError> {
     let mut taken: usize = 0;
     for spelling in piece.as_bytes().split(|byte| *byte == b' ') {
         let atom = atom_of(token(spelling));
-        if !machine.fits(atom) {
+        if !machine.read(atom, &mut actions)? {
             return Ok(Answer::Bad(taken));
         }
-        machine.take(atom, &mut actions)?;
         taken = taken.saturating_add(1);
     }
     Ok(if machine.is_done() {

@@ -11,10 +11,7 @@ fn actions_come_in_order(rt: HostRuntime) -> Result<(), Fail> {
     let mut actions = Vec::new(rt.alloc());
     machine.start(PIECE)?;
     for spelling in b"[ R ; x = y + 2 * 3 ;".split(|byte| *byte == b' ') {
-        let atom = atom_of(token(spelling));
-        if machine.fits(atom) {
-            machine.take(atom, &mut actions)?;
-        }
+        assert!(rt; machine.read(atom_of(token(spelling)), &mut actions)?);
     }
     let expected = [
         Action::Routine,
@@ -56,10 +53,7 @@ fn behind(alloc: Global, tokens: &[u8]) -> Result<(bool, bool), Fail> {
     let mut actions = Vec::new(alloc);
     machine.start(FILE)?;
     for spelling in tokens.split(|byte| *byte == b' ') {
-        let atom = atom_of(token(spelling));
-        if machine.fits(atom) {
-            machine.take(atom, &mut actions)?;
-        }
+        machine.read(atom_of(token(spelling)), &mut actions)?;
     }
     Ok((machine.can_end(), machine.is_in_routine()))
 }
@@ -79,6 +73,34 @@ fn sources_end_between_pieces(rt: HostRuntime) -> Result<(), Fail> {
         behind(alloc, b"object o with p [ ; x ; ] 5")?,
         (false, false)
     );
+    Ok(())
+}
+
+/// A token that does not fit leaves what is to be read and the actions as they were, also where actions are on the way to it; what
+/// `read` does is what `take` does.
+#[test]
+fn bad_tokens_change_nothing(rt: HostRuntime) -> Result<(), Fail> {
+    let alloc = rt.alloc();
+    let mut machine = Machine::new(alloc);
+    let mut other = Machine::new(alloc);
+    let mut actions = Vec::new(alloc);
+    let mut others = Vec::new(alloc);
+    machine.start(PIECE)?;
+    other.start(PIECE)?;
+    for spelling in b"[ R ; x = ( y + 2 ) * 3 ; f ( ) ; ] ;".split(|byte| *byte == b' ') {
+        for bad in b"] ) : ; meta".split(|byte| *byte == b' ') {
+            let atom = atom_of(token(bad));
+            if !other.fits(atom) {
+                assert!(rt; !machine.read(atom, &mut actions)?);
+            }
+        }
+        let atom = atom_of(token(spelling));
+        assert!(rt; other.fits(atom));
+        other.take(atom, &mut others)?;
+        assert!(rt; machine.read(atom, &mut actions)?);
+        assert_eq!(rt; actions.as_slice(), others.as_slice());
+    }
+    assert!(rt; machine.is_done());
     Ok(())
 }
 

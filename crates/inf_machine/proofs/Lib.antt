@@ -8,3 +8,4 @@ pub mod TokenLaws
 pub mod ReadOn
 pub mod Ending
 pub mod SourcePieces
+pub mod Reaching

@@ -2,5 +2,4 @@ pub mod Decided
 pub mod Grammar
 pub mod Laws
 pub mod Machine
-pub mod Stacks
 pub mod Pieces

@@ -58,6 +58,20 @@ depth = 4
 abbrev pub passed_row : {A : Type 0} → Grammar A → Known → List (Row A) → List (Symbol A)
 passed_row g k rows = if is_silent g k depth (empty_row k rows) then [] else empty_row k rows
 
+-- whether symbols are actions alone
+abbrev pub are_acts : {A : Type 0} → List (Symbol A) → Bool
+are_acts [] = true
+are_acts (Token class ∷ symbols) = false
+are_acts (Rule rule ∷ symbols) = false
+are_acts (Act a ∷ symbols) = are_acts symbols
+
+-- the actions among symbols
+abbrev pub acts_of : {A : Type 0} → List (Symbol A) → List A
+acts_of [] = []
+acts_of (Token class ∷ symbols) = acts_of symbols
+acts_of (Rule rule ∷ symbols) = acts_of symbols
+acts_of (Act a ∷ symbols) = a ∷ acts_of symbols
+
 -- what the machine puts in place of a rule before an atom: the row that the atom begins, else what stands for the rule passed over
 abbrev pub way : {A : Type 0} → Grammar A → Known → ℕ → ℕ → List (Symbol A)
 way g k atom rule = row_for g k atom (passed_row g k (g.rows_of rule)) (g.rows_of rule)

@@ -1,11 +1,9 @@
 //! The machine that reads tokens by a grammar.
-ghost use Rattle.std.specs.Prelude.{◌≡◌, [], ◌∷◌, ◌++◌, ◌↔◌, IsTrue, OnOk, OnErr, take, vec_len, true, reverse};
-ghost use Rattle.inf_machine.specs.Machine.{fits, can_end, taken};
-ghost use Rattle.inf_machine.specs.Stacks.{stacked};
+ghost use Rattle.std.specs.Prelude.{◌≡◌, [], ◌∷◌, ◌++◌, ◌↔◌, IsTrue, IfOk, OnOk, OnErr, take, vec_len, true, false, reverse};
+ghost use Rattle.inf_machine.specs.Machine.{acts_of, fits, can_end, taken};
 
 use crate::openings::Openings;
 use crate::reading;
-use crate::stack::Stack;
 use crate::symbols::Symbol;
 use crate::table::Table;
 use std::alloc::{AllocError, Global};
@@ -14,19 +12,18 @@ use std::marker::Model;
 /// What is still to be read: in contracts a list of symbols, the one at hand first.
 #[derive(Drop)]
 pub struct Machine<A: Table> {
-    stack: Stack<A>,
+    /// The symbol at hand last.
+    symbols: Vec<Symbol<A>>,
     openings: Openings<A>,
 }
 
 impl<A: Table> Model for Machine<A> {
-    ghost use Rattle.std.specs.Prelude.{◌≡◌, List};
+    ghost use Rattle.std.specs.Prelude.{List, reverse};
     ghost use Rattle.inf_machine.specs.declared.symbols.Symbol.{Symbol};
 
     ghost Value = { List (Symbol A) };
 
-    ghost view = { λ m. m.stack.settled };
-
-    ghost invariant = { λ m. m.stack.current ≡ m.stack.settled };
+    ghost view = { λ m. reverse m.symbols.items };
 }
 
 impl<A: Table> Machine<A> {
@@ -35,7 +32,7 @@ impl<A: Table> Machine<A> {
         ensures { result ≡ [] }
     {
         Machine {
-            stack: Stack::new(alloc),
+            symbols: Vec::new(alloc),
             openings: Openings::new(alloc),
         }
     }
@@ -45,42 +42,43 @@ impl<A: Table> Machine<A> {
         ensures ok { OnOk result (self.new ≡ Symbol.Rule rule ∷ self.old) }
         ensures err { OnErr result (self.new ≡ self.old) }
     {
-        self.stack.push(Symbol::Rule(rule))
+        self.symbols.push(Symbol::Rule(rule))?;
+        Ok(())
     }
 
     /// Whether nothing is to be read.
     pub fn is_done(&self) -> bool
         ensures { IsTrue result ↔ (self.now ≡ []) }
     {
-        self.stack.is_empty()
+        self.symbols.is_empty()
     }
 
     /// Whether what is to be read can be empty: whether the source may end here.
     pub fn can_end(&self) -> bool
         ensures { result ≡ can_end A.known self.now }
     {
-        reading::can_end(self.stack.symbols())
+        reading::can_end(&self.symbols)
     }
 
     /// What is to be read, the symbol at hand last.
     pub fn symbols(&self) -> &[Symbol<A>]
         ensures { reverse result.now ≡ self.now }
     {
-        self.stack.symbols()
+        &self.symbols
     }
 
     /// Gives up what is to be read.
     pub fn clear(&mut self)
         ensures { self.new ≡ [] }
     {
-        self.stack.clear();
+        self.symbols.clear();
     }
 
     /// Whether a token fits: whether it begins what is to be read.
     pub fn fits(&self, atom: u8) -> bool
         ensures { result ≡ fits A.grammar A.known atom self.now }
     {
-        reading::fits(self.stack.symbols(), atom)
+        reading::fits(&self.symbols, atom)
     }
 
     /// Takes a token that fits. The actions on the way to it are put behind `actions`, in order; the token is taken behind them.
@@ -93,45 +91,93 @@ impl<A: Table> Machine<A> {
         ensures same { OnErr result (self.new ≡ self.old) }
         ensures same_actions { OnErr result (actions.new.items ≡ actions.old.items) }
     {
+        self.read(atom, actions)?;
+        Ok(())
+    }
+
+    /// Whether a token fits; where it does, it is taken as `take` does.
+    ///
+    /// Where it does not fit and where memory runs out, what is to be read and the actions are as they were.
+    pub fn read(&mut self, atom: u8, actions: &mut Vec<A>) -> Result<bool, AllocError>
+        ensures fits { IfOk result (λ fits_now. fits_now ≡ fits A.grammar A.known atom self.old) }
+        ensures left { IfOk result (λ fits_now. fits_now ≡ true → self.new ≡ (taken A.grammar A.known atom self.old).left) }
+        ensures actions { IfOk result (λ fits_now. fits_now ≡ true → actions.new.items ≡ actions.old.items ++ (taken A.grammar A.known atom self.old).actions) }
+        ensures same { IfOk result (λ fits_now. fits_now ≡ false → self.new ≡ self.old) }
+        ensures same_actions { IfOk result (λ fits_now. fits_now ≡ false → actions.new.items ≡ actions.old.items) }
+        ensures err { OnErr result (self.new ≡ self.old) }
+        ensures err_actions { OnErr result (actions.new.items ≡ actions.old.items) }
+    {
         let before = actions.len();
-        let taken = reach(&mut self.stack, &mut self.openings, atom, actions);
-        if taken.is_err() {
-            self.stack.back();
+        let read = reach(&mut self.symbols, &mut self.openings, atom, actions);
+        if !matches!(read, Ok(true)) {
             actions.truncate(before);
         }
-        taken
+        read
     }
 }
 
-/// Goes on to behind a token that fits, with the actions on the way to it, and settles that.
+/// Goes on to behind a token that fits, with the actions on the way to it; tells whether it does. Until that is known no symbol
+/// is taken off.
 fn reach<A: Table>(
-    stack: &mut Stack<A>,
+    symbols: &mut Vec<Symbol<A>>,
     openings: &mut Openings<A>,
     atom: u8,
     actions: &mut Vec<A>,
-) -> Result<(), AllocError>
-    requires { fits A.grammar A.known atom stack.old.current ≡ true }
-    ensures left { OnOk result (stack.new ≡ stacked (taken A.grammar A.known atom stack.old.current).left) }
-    ensures actions { OnOk result (actions.new.items ≡ actions.old.items ++ (taken A.grammar A.known atom stack.old.current).actions) }
-    ensures settled { OnErr result (stack.new.settled ≡ stack.old.settled) }
+) -> Result<bool, AllocError>
+    ensures fits { IfOk result (λ fits_now. fits_now ≡ fits A.grammar A.known atom (reverse symbols.old.items)) }
+    ensures left { IfOk result (λ fits_now. fits_now ≡ true → reverse symbols.new.items ≡ (taken A.grammar A.known atom (reverse symbols.old.items)).left) }
+    ensures actions { IfOk result (λ fits_now. fits_now ≡ true → actions.new.items ≡ actions.old.items ++ (taken A.grammar A.known atom (reverse symbols.old.items)).actions) }
+    ensures same { IfOk result (λ fits_now. fits_now ≡ false → symbols.new.items ≡ symbols.old.items) }
+    ensures err { OnErr result (symbols.new.items ≡ symbols.old.items) }
     ensures before { take (vec_len actions.old) actions.new.items ≡ actions.old.items }
 {
-    while let Some(symbol) = stack.pop() {
-        match symbol {
-            Symbol::Token(_) => {
-                stack.settle()?;
-                return Ok(());
+    let mut below = symbols.len();
+    while below > 0 {
+        below -= 1;
+        match symbols[below] {
+            Symbol::Token(class) => {
+                let fits = A::is_of(class, atom);
+                if fits {
+                    symbols.truncate(below);
+                }
+                return Ok(fits);
             }
             Symbol::Act(action) => actions.push(action)?,
-            Symbol::Rule(rule) => {
-                if A::begins(rule, atom) {
-                    let opening = openings.find(rule, atom)?;
-                    actions.extend_from_slice(opening.actions())?;
-                    stack.settle_with(opening.left())?;
-                    return Ok(());
-                }
-                stack.add_all(A::passed(rule))?;
+            Symbol::Rule(rule) if A::begins(rule, atom) => {
+                let opening = openings.find(rule, atom)?;
+                actions.extend_from_slice(opening.actions())?;
+                replace(symbols, below, opening.left())?;
+                return Ok(true);
             }
+            Symbol::Rule(rule) if A::can_be_empty(rule) => act(A::passed(rule), actions)?,
+            Symbol::Rule(_) => return Ok(false),
+        }
+    }
+    Ok(false)
+}
+
+/// Puts symbols in place of those from a place on.
+fn replace<A: Copy>(
+    symbols: &mut Vec<Symbol<A>>,
+    below: usize,
+    others: &[Symbol<A>],
+) -> Result<(), AllocError>
+    ensures ok { OnOk result (symbols.new.items ≡ take below symbols.old.items ++ others.now) }
+    ensures err { OnErr result (symbols.new.items ≡ symbols.old.items) }
+{
+    symbols.reserve(others.len())?;
+    symbols.truncate(below);
+    symbols.extend_from_slice(others)
+}
+
+/// Puts the actions of a row behind others. The row is given with its last part first.
+fn act<A: Copy>(row: &[Symbol<A>], actions: &mut Vec<A>) -> Result<(), AllocError>
+    ensures actions { OnOk result (actions.new.items ≡ actions.old.items ++ acts_of (reverse row.now)) }
+    ensures before { take (vec_len actions.old) actions.new.items ≡ actions.old.items }
+{
+    for part in row.iter().rev() {
+        if let Symbol::Act(action) = *part {
+            actions.push(action)?;
         }
     }
     Ok(())

@@ -1,5 +1,5 @@
 //! How an atom opens a rule that it begins.
-ghost use Rattle.std.specs.Prelude.{◌≡◌, [], ◌∷◌, ◌↔◌, ◌++◌, IsTrue, IfOk, OnOk, reverse, true, take, vec_len};
+ghost use Rattle.std.specs.Prelude.{◌≡◌, [], ◌∷◌, ◌↔◌, ◌++◌, IsTrue, IfOk, OnOk, reverse, true};
 ghost use Rattle.inf_machine.specs.Grammar.{has};
 ghost use Rattle.inf_machine.specs.Machine.{fits, taken, opened};
 
@@ -41,7 +41,6 @@ impl<A: Table> Opening<A> {
         let mut actions = Vec::new(alloc);
         stack.push(Symbol::Rule(rule))?;
         reach(&mut stack, atom, &mut actions)?;
-        stack.settle()?;
         Ok(Opening {
             rule,
             atom,
@@ -74,11 +73,9 @@ impl<A: Table> Opening<A> {
 
 /// Goes on to behind a token that fits, with the actions on the way to it, rule by rule.
 fn reach<A: Table>(stack: &mut Stack<A>, atom: u8, actions: &mut Vec<A>) -> Result<(), AllocError>
-    requires { fits A.grammar A.known atom stack.old.current ≡ true }
-    ensures left { OnOk result (stack.new ≡ record stack.old { current = (taken A.grammar A.known atom stack.old.current).left }) }
-    ensures actions { OnOk result (actions.new.items ≡ actions.old.items ++ (taken A.grammar A.known atom stack.old.current).actions) }
-    ensures settled { stack.new.settled ≡ stack.old.settled }
-    ensures before { take (vec_len actions.old) actions.new.items ≡ actions.old.items }
+    requires { fits A.grammar A.known atom stack.old ≡ true }
+    ensures left { OnOk result (stack.new ≡ (taken A.grammar A.known atom stack.old).left) }
+    ensures actions { OnOk result (actions.new.items ≡ actions.old.items ++ (taken A.grammar A.known atom stack.old).actions) }
 {
     while let Some(symbol) = stack.pop() {
         match symbol {

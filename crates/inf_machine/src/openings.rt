@@ -1,5 +1,5 @@
 //! The openings that were met.
-ghost use Rattle.std.specs.Prelude.{◌≡◌, IfOk, true};
+ghost use Rattle.std.specs.Prelude.{◌≡◌, ◌<◌, IfOk, OnOk, Some, vec_len, true};
 ghost use Rattle.inf_machine.specs.Grammar.{has};
 
 use crate::opening::Opening;
@@ -36,8 +36,8 @@ impl<A: Table> Openings<A> {
         ensures { IfOk result (λ opening. opening.now ≡ (rule, atom)) }
     {
         let place = place_of(rule, atom);
-        while self.places.len() <= place {
-            self.places.push(None)?;
+        if self.places.len() <= place {
+            make_places(&mut self.places, place)?;
         }
         let kept = &mut self.places[place];
         let is_kept = match kept {
@@ -45,11 +45,42 @@ impl<A: Table> Openings<A> {
             None => false,
         };
         if !is_kept {
-            *kept = Some(Opening::of(self.alloc, rule, atom)?);
+            fill(kept, self.alloc, rule, atom)?;
         }
         match kept {
             Some(opening) => Ok(opening),
             None => unreachable!(),
         }
     }
+}
+
+/// Makes places up to one.
+#[cold]
+#[inline(never)]
+fn make_places<A: Table>(
+    places: &mut Vec<Option<Opening<A>>>,
+    place: usize,
+) -> Result<(), AllocError>
+    ensures { OnOk result (place < vec_len places.new) }
+{
+    while places.len() <= place {
+        places.push(None)?;
+    }
+    Ok(())
+}
+
+/// Puts how an atom opens a rule that it begins in a place.
+#[cold]
+#[inline(never)]
+fn fill<A: Table>(
+    kept: &mut Option<Opening<A>>,
+    alloc: Global,
+    rule: u8,
+    atom: u8,
+) -> Result<(), AllocError>
+    requires { has (A.known.begins rule) atom ≡ true }
+    ensures { OnOk result (kept.new ≡ Some (rule, atom)) }
+{
+    *kept = Some(Opening::of(alloc, rule, atom)?);
+    Ok(())
 }

@@ -1,8 +1,8 @@
 //! What a machine asks the table of a grammar.
-ghost use Rattle.std.specs.Prelude.{◌≡◌, reverse};
+ghost use Rattle.std.specs.Prelude.{◌≡◌, reverse, true};
 ghost use Rattle.inf_machine.specs.Grammar.{Grammar, has};
 ghost use Rattle.inf_machine.specs.Laws.{IsDecided};
-ghost use Rattle.inf_machine.specs.Machine.{Known, passed_row, way};
+ghost use Rattle.inf_machine.specs.Machine.{Known, are_acts, passed_row, way};
 
 use crate::symbols::Symbol;
 
@@ -31,9 +31,10 @@ pub trait Table: Copy + 'static {
     fn way(rule: u8, atom: u8) -> &'static [Symbol<Self>]
         ensures { reverse result.now ≡ way grammar known atom rule };
 
-    /// What stands for a rule that can be empty before an atom that does not begin it, its last part first.
+    /// What stands for a rule that can be empty before an atom that does not begin it, its last part first: actions alone.
     fn passed(rule: u8) -> &'static [Symbol<Self>]
-        ensures { reverse result.now ≡ passed_row grammar known (grammar.rows_of rule) };
+        ensures row { reverse result.now ≡ passed_row grammar known (grammar.rows_of rule) }
+        ensures acts { are_acts (passed_row grammar known (grammar.rows_of rule)) ≡ true };
 
     /// One token decides.
     ghost decided: { IsDecided grammar known };

@@ -1,69 +1,57 @@
--- A rule is replaced by what stands for it.
-use Rattle.std.proofs.Common.{◌≡◌, ℕ, List, ◌∷◌, ◌++◌, ◌∙◌, ap, sym, arith, true}
+-- Past a rule that can be empty, and to one that the token begins.
+use Rattle.std.proofs.Common.{◌≡◌, ℕ, ◌-◌, ◌<◌, ◌≤◌, List, ◌∷◌, ◌++◌, ◌∙◌, ap, sym, subst, arith, true, length, reverse, take, get_or}
+use Rattle.std.proofs.lemmas.List.{reverse-append}
 use Rattle.inf_machine.specs.declared.symbols.Symbol.{Symbol}
+use Rattle.inf_machine.specs.declared.symbols.Symbol.TheVariants.{Rule}
 use Rattle.inf_machine.specs.Grammar.{Grammar, has}
 use Rattle.inf_machine.specs.Laws.{IsDecided}
-use Rattle.inf_machine.specs.declared.symbols.Symbol.TheVariants.{Rule}
-use Rattle.inf_machine.specs.Machine.{Known, fits, opened, taken, work, way}
-use Rattle.inf_machine.specs.Stacks.{stacked}
-use Rattle.inf_machine.proofs.Opened.{before, opened_on}
-use Rattle.inf_machine.proofs.Ways.{way_on, way_past}
+use Rattle.inf_machine.specs.Machine.{Known, acts_of, opened}
+use Rattle.inf_machine.proofs.Reaching.{IsOn, Ends, on_passed, at_rule, top_is, take_on}
 use Rattle.inf_machine.proofs.machine.reach.Goals as goal
 
-pub loop-symbol-smaller : goal.loop-symbol-smaller
-loop-symbol-smaller g c =
-    let rest = c.pop.new.self.current in
-    let rule = c.in-Rule.rule in
-    let here : c.loop-symbol.stack.current ≡ Rule rule ∷ rest = c.in-Some.ensures.top ∙ ap (λ s. s ∷ rest) c.in-Rule.is in
-    let next : c.add_all.new.self.current ≡ way g.A.Table.grammar g.A.Table.known c.args.atom rule ++ rest =
-    ap (λ s. s.current) c.in_ok-add_all-in-Rule.ensures.ok ∙ ap (λ xs. xs ++ rest) (c.passed.ensures ∙ way_past g.A.Table.grammar g.A.Table.known g.met.A.Table.decided c.args.atom rule (sym c.begins.ensures ∙ c.if-begins.false)) in
-    let fit : fits g.A.Table.grammar g.A.Table.known c.args.atom (Rule rule ∷ rest) ≡ true =
-    ap (λ s. fits g.A.Table.grammar g.A.Table.known c.args.atom s) (sym here) ∙ c.loop-symbol.invariant.fits_on in
-    let less = (way_on g.A.Table.grammar g.A.Table.known g.met.A.Table.decided c.args.atom rule rest fit).less in
-    let a : work g.A.Table.known c.args.atom c.add_all.new.self.current ≡ work g.A.Table.known c.args.atom (way g.A.Table.grammar g.A.Table.known c.args.atom rule ++ rest) = ap (λ s. work g.A.Table.known c.args.atom s) next in
-    let b : work g.A.Table.known c.args.atom c.loop-symbol.stack.current ≡ work g.A.Table.known c.args.atom (Rule rule ∷ rest) = ap (λ s. work g.A.Table.known c.args.atom s) here in
-    omega (arith, less, a, b)
+-- a rule at hand
+rule_is : {A : Type 0} (all now : List (Symbol A)) (below rule : ℕ) (x : Symbol A) → 0 < below → below ≤ length now → now ≡ all → x ≡ get_or now (below - 1) x → x ≡ Rule rule → reverse (take below all) ≡ Rule rule ∷ reverse (take (below - 1) all)
+rule_is all now below rule x p l same at is =
+    subst (λ s. reverse (take below s) ≡ Rule rule ∷ reverse (take (below - 1) s)) same
+    (top_is now below x p l at ∙ ap (λ s. s ∷ reverse (take (below - 1) now)) is)
 
-pub loop-symbol-preserved : goal.loop-symbol-preserved
-loop-symbol-preserved g c =
-    let rest = c.pop.new.self.current in
-    let rule = c.in-Rule.rule in
-    let here : c.loop-symbol.stack.current ≡ Rule rule ∷ rest = c.in-Some.ensures.top ∙ ap (λ s. s ∷ rest) c.in-Rule.is in
-    let next : c.add_all.new.self.current ≡ way g.A.Table.grammar g.A.Table.known c.args.atom rule ++ rest =
-    ap (λ s. s.current) c.in_ok-add_all-in-Rule.ensures.ok ∙ ap (λ xs. xs ++ rest) (c.passed.ensures ∙ way_past g.A.Table.grammar g.A.Table.known g.met.A.Table.decided c.args.atom rule (sym c.begins.ensures ∙ c.if-begins.false)) in
-    let fit : fits g.A.Table.grammar g.A.Table.known c.args.atom (Rule rule ∷ rest) ≡ true =
-    ap (λ s. fits g.A.Table.grammar g.A.Table.known c.args.atom s) (sym here) ∙ c.loop-symbol.invariant.fits_on in
-    let on = way_on g.A.Table.grammar g.A.Table.known g.met.A.Table.decided c.args.atom rule rest fit in
-    let same : taken g.A.Table.grammar g.A.Table.known c.args.atom c.add_all.new.self.current ≡ taken g.A.Table.grammar g.A.Table.known c.args.atom c.loop-symbol.stack.current =
-    ap (λ s. taken g.A.Table.grammar g.A.Table.known c.args.atom s) next
-    ∙ sym on.same
-    ∙ ap (λ s. taken g.A.Table.grammar g.A.Table.known c.args.atom s) (sym here) in
+pub loop-below-preserved : goal.loop-below-preserved
+loop-below-preserved g c =
+    let rule = c.in-Rule-2.rule in
+    let rest = reverse (take (c.loop-below.below - 1) c.args.symbols.now.items) in
+    let here = rule_is c.args.symbols.now.items c.loop-below.symbols.items c.loop-below.below rule c.index.result.now (omega arith) c.loop-below.invariant.within c.loop-below.invariant.same c.index.ensures c.in-Rule-2.is in
+    let one : rule ≡ c.in-Rule.rule = cc (sym c.in-Rule-2.is ∙ c.in-Rule.is) in
+    let not_it = ap (λ r. has (g.A.Table.known.begins r) c.args.atom) one ∙ sym c.begins.ensures ∙ c.if-begins.false in
+    let on = on_passed g.A.Table.grammar g.A.Table.known g.met.A.Table.decided c.args.atom rule (reverse c.args.symbols.now.items) (reverse (take c.loop-below.below c.args.symbols.now.items)) rest c.args.actions.now.items c.loop-below.actions.items
+    here not_it (sym c.can_be_empty.ensures ∙ c.if-can_be_empty.true) c.passed.ensures.acts c.loop-below.invariant.on in
+    let done = c.in_ok-act-in-Rule-2.ensures.actions ∙ ap (λ row. c.loop-below.actions.items ++ acts_of row) c.passed.ensures.row in
     record {
-      fits_on = ap (λ s. fits g.A.Table.grammar g.A.Table.known c.args.atom s) next ∙ on.fits_on;
-      settled = ap (λ s. s.settled) c.in_ok-add_all-in-Rule.ensures.ok ∙ c.pop.ensures.settled ∙ c.loop-symbol.invariant.settled;
-      actions = ap (λ t. c.loop-symbol.actions.items ++ t.actions) same ∙ c.loop-symbol.invariant.actions;
-      left = ap (λ t. t.left) same ∙ c.loop-symbol.invariant.left;
-      before = c.loop-symbol.invariant.before;
+      within = omega (arith, c.loop-below.invariant.within);
+      same = c.loop-below.invariant.same;
+      on = subst (λ now. IsOn g.A.Table.grammar g.A.Table.known c.args.atom (reverse c.args.symbols.now.items) rest c.args.actions.now.items now) (sym done) on;
+      before = ap (take (length c.args.actions.now.items)) c.in_ok-act-in-Rule-2.ensures.actions ∙ take_on c.args.actions.now.items c.loop-below.actions.items (acts_of (reverse c.passed.result.now)) c.loop-below.invariant.before;
     }
 
--- what an opening does is what taking the token does
-pub open_on : {A : Type 0} → (gr : Grammar A) (k : Known) → IsDecided gr k → (atom rule : ℕ) (o : ℕ × ℕ) (all rest : List (Symbol A)) → all ≡ Rule rule ∷ rest → has (k.begins rule) atom ≡ true → o ≡ (rule, atom) → taken gr k atom all ≡ before (opened gr k o.0 o.1) rest
-open_on gr k d atom rule o all rest here b e =
-    ap (λ s. taken gr k atom s) here ∙ opened_on gr k d atom rule rest b ∙ ap (λ o. before (opened gr k o.0 o.1) rest) (sym e)
+-- where the rule's opening leads is where the token does
+ends : {A : Type 0} (g : Grammar A) (k : Known) → IsDecided g k → (atom rule below : ℕ) (all now : List (Symbol A)) (x : Symbol A) (first acts : List A) (o : ℕ × ℕ) → 0 < below → below ≤ length now → now ≡ all → x ≡ get_or now (below - 1) x → x ≡ Rule rule → has (k.begins rule) atom ≡ true → o ≡ (rule, atom) → IsOn g k atom (reverse all) (reverse (take below all)) first acts → Ends g k atom (reverse all) ((opened g k o.0 o.1).left ++ reverse (take (below - 1) all)) first (acts ++ (opened g k o.0 o.1).actions)
+ends g k d atom rule below all now x first acts o p l same at is h e on =
+    subst (λ o. Ends g k atom (reverse all) ((opened g k o.0 o.1).left ++ reverse (take (below - 1) all)) first (acts ++ (opened g k o.0 o.1).actions)) (sym e)
+    (at_rule g k d atom rule (reverse all) (reverse (take below all)) (reverse (take (below - 1) all)) first acts (rule_is all now below rule x p l same at is) h on)
 
-pub returns-then-begins-clause-left : goal.returns-then-begins-clause-left
-returns-then-begins-clause-left g c =
-    let rest = c.pop.new.self.current in
-    let here : c.loop-symbol.stack.current ≡ Rule c.in-Rule.rule ∷ rest = c.in-Some.ensures.top ∙ ap (λ s. s ∷ rest) c.in-Rule.is in
-    let on = open_on g.A.Table.grammar g.A.Table.known g.met.A.Table.decided c.args.atom c.in-Rule.rule c.in_ok-opening-in-Rule.opening.now c.loop-symbol.stack.current rest here (sym c.begins.ensures ∙ c.if-begins.true) c.in_ok-opening-in-Rule.ensures in
-    c.in_ok-settle_with-in-Rule.ensures.ok
-    ∙ ap stacked (ap (λ xs. xs ++ rest) c.left.ensures ∙ sym (ap (λ t. t.left) on) ∙ c.loop-symbol.invariant.left)
+pub returns-in-Rule-clause-left : goal.returns-in-Rule-clause-left
+returns-in-Rule-clause-left g c t =
+    let end = ends g.A.Table.grammar g.A.Table.known g.met.A.Table.decided c.args.atom c.in-Rule.rule c.loop-below.below c.args.symbols.now.items c.loop-below.symbols.items c.index.result.now c.args.actions.now.items c.loop-below.actions.items c.in_ok-opening-in-Rule.opening.now
+    (omega arith) c.loop-below.invariant.within c.loop-below.invariant.same c.index.ensures c.in-Rule.is (sym c.begins.ensures ∙ c.if-begins.true) c.in_ok-opening-in-Rule.ensures c.loop-below.invariant.on in
+    ap reverse c.in_ok-replace-in-Rule.ensures.ok
+    ∙ reverse-append (take (c.loop-below.below - 1) c.loop-below.symbols.items) c.left.result.now
+    ∙ ap (λ left. left ++ reverse (take (c.loop-below.below - 1) c.loop-below.symbols.items)) c.left.ensures
+    ∙ ap (λ all. (opened g.A.Table.grammar g.A.Table.known c.in_ok-opening-in-Rule.opening.now.0 c.in_ok-opening-in-Rule.opening.now.1).left ++ reverse (take (c.loop-below.below - 1) all)) c.loop-below.invariant.same
+    ∙ end.left_is
 
-pub returns-then-begins-clause-actions : goal.returns-then-begins-clause-actions
-returns-then-begins-clause-actions g c =
-    let rest = c.pop.new.self.current in
-    let here : c.loop-symbol.stack.current ≡ Rule c.in-Rule.rule ∷ rest = c.in-Some.ensures.top ∙ ap (λ s. s ∷ rest) c.in-Rule.is in
-    let on = open_on g.A.Table.grammar g.A.Table.known g.met.A.Table.decided c.args.atom c.in-Rule.rule c.in_ok-opening-in-Rule.opening.now c.loop-symbol.stack.current rest here (sym c.begins.ensures ∙ c.if-begins.true) c.in_ok-opening-in-Rule.ensures in
+pub returns-in-Rule-clause-actions : goal.returns-in-Rule-clause-actions
+returns-in-Rule-clause-actions g c t =
+    let end = ends g.A.Table.grammar g.A.Table.known g.met.A.Table.decided c.args.atom c.in-Rule.rule c.loop-below.below c.args.symbols.now.items c.loop-below.symbols.items c.index.result.now c.args.actions.now.items c.loop-below.actions.items c.in_ok-opening-in-Rule.opening.now
+    (omega arith) c.loop-below.invariant.within c.loop-below.invariant.same c.index.ensures c.in-Rule.is (sym c.begins.ensures ∙ c.if-begins.true) c.in_ok-opening-in-Rule.ensures c.loop-below.invariant.on in
     c.in_ok-extend_from_slice-in-Rule.ensures.items
-    ∙ ap (λ xs. c.loop-symbol.actions.items ++ xs) (c.actions.ensures ∙ sym (ap (λ t. t.actions) on))
-    ∙ c.loop-symbol.invariant.actions
+    ∙ ap (λ xs. c.loop-below.actions.items ++ xs) c.actions.ensures
+    ∙ end.actions

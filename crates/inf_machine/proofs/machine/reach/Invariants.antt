@@ -1,16 +1,15 @@
 -- What is taken from here, behind what was done, is what is taken from the start.
-use Rattle.std.proofs.Common.{◌≡◌, ◌++◌, true, take, length}
-use Rattle.inf_machine.specs.Machine.{fits, taken, work}
+use Rattle.std.proofs.Common.{◌≡◌, ◌≤◌, reverse, take, length}
+use Rattle.inf_machine.proofs.Reaching.{IsOn}
 use Rattle.inf_machine.proofs.machine.reach.Given as goal
 
-abbrev pub invariant-loop-symbol : goal.invariant-loop-symbol
-invariant-loop-symbol g l = record {
-  fits_on : fits g.A.Table.grammar g.A.Table.known l.atom l.stack.current ≡ true;
-  settled : l.stack.settled ≡ l.initial.stack.settled;
-  actions : l.actions.items ++ (taken g.A.Table.grammar g.A.Table.known l.atom l.stack.current).actions ≡ l.initial.actions.items ++ (taken g.A.Table.grammar g.A.Table.known l.atom l.initial.stack.current).actions;
-  left : (taken g.A.Table.grammar g.A.Table.known l.atom l.stack.current).left ≡ (taken g.A.Table.grammar g.A.Table.known l.atom l.initial.stack.current).left;
+abbrev pub invariant-loop-below : goal.invariant-loop-below
+invariant-loop-below g l = record {
+  within : l.below ≤ length l.symbols.items;
+  same : l.symbols.items ≡ l.initial.symbols.items;
+  on : IsOn g.A.Table.grammar g.A.Table.known l.atom (reverse l.initial.symbols.items) (reverse (take l.below l.initial.symbols.items)) l.initial.actions.items l.actions.items;
   before : take (length l.initial.actions.items) l.actions.items ≡ l.initial.actions.items;
 }
 
-abbrev pub decreases-loop-symbol : goal.decreases-loop-symbol
-decreases-loop-symbol g l = work g.A.Table.known l.atom l.stack.current
+abbrev pub decreases-loop-below : goal.decreases-loop-below
+decreases-loop-below g l = l.below

@@ -1,16 +1,14 @@
 -- What is taken from here, behind what was done, is what is taken from the start.
-use Rattle.std.proofs.Common.{◌≡◌, ◌++◌, true, take, length}
+use Rattle.std.proofs.Common.{◌≡◌, ◌++◌, true}
 use Rattle.inf_machine.specs.Machine.{fits, taken, work}
 use Rattle.inf_machine.proofs.opening.reach.Given as goal
 
 abbrev pub invariant-loop-symbol : goal.invariant-loop-symbol
 invariant-loop-symbol g l = record {
-  fits_on : fits g.A.Table.grammar g.A.Table.known l.atom l.stack.current ≡ true;
-  settled : l.stack.settled ≡ l.initial.stack.settled;
-  actions : l.actions.items ++ (taken g.A.Table.grammar g.A.Table.known l.atom l.stack.current).actions ≡ l.initial.actions.items ++ (taken g.A.Table.grammar g.A.Table.known l.atom l.initial.stack.current).actions;
-  left : (taken g.A.Table.grammar g.A.Table.known l.atom l.stack.current).left ≡ (taken g.A.Table.grammar g.A.Table.known l.atom l.initial.stack.current).left;
-  before : take (length l.initial.actions.items) l.actions.items ≡ l.initial.actions.items;
+  fits_on : fits g.A.Table.grammar g.A.Table.known l.atom l.stack ≡ true;
+  actions : l.actions.items ++ (taken g.A.Table.grammar g.A.Table.known l.atom l.stack).actions ≡ l.initial.actions.items ++ (taken g.A.Table.grammar g.A.Table.known l.atom l.initial.stack).actions;
+  left : (taken g.A.Table.grammar g.A.Table.known l.atom l.stack).left ≡ (taken g.A.Table.grammar g.A.Table.known l.atom l.initial.stack).left;
 }
 
 abbrev pub decreases-loop-symbol : goal.decreases-loop-symbol
-decreases-loop-symbol g l = work g.A.Table.known l.atom l.stack.current
+decreases-loop-symbol g l = work g.A.Table.known l.atom l.stack

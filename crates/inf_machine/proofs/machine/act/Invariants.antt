@@ -1,0 +1,10 @@
+-- What was done, with the actions of the rest, is what is to be done.
+use Rattle.std.proofs.Common.{◌≡◌, ◌++◌, reverse, take, length}
+use Rattle.inf_machine.specs.Machine.{acts_of}
+use Rattle.inf_machine.proofs.machine.act.Given as goal
+
+abbrev pub invariant-loop-part : goal.invariant-loop-part
+invariant-loop-part g l = record {
+  actions : l.actions.items ++ acts_of (reverse l.part-iterator.iter.rest.now) ≡ l.initial.actions.items ++ acts_of (reverse l.row);
+  before : take (length l.initial.actions.items) l.actions.items ≡ l.initial.actions.items;
+}
