@@ -1,13 +1,16 @@
 -- What comes of a source that was opened, read and closed.
-use Rattle.std.proofs.Common.{◌≡◌, inl, inr, ℕ, suc, zero, ◌+◌, ◌-◌, ◌<◌, ◌≤◌, List, [], ◌∷◌, ◌++◌, length, drop, get_or, cond, min, Bool, true, false, IsTrue, Option, Some, None, is_some, unwrap_or, refl, sym, ap, subst, ◌∙◌, arith, append-nil, length-append}
+use Rattle.std.proofs.Common.{◌≡◌, inl, inr, ℕ, suc, zero, ◌-◌, ◌<◌, ◌≤◌, List, [], ◌∷◌, ◌++◌, length, drop, get_or, cond, Bool, true, false, IsTrue, Option, Some, None, is_some, unwrap_or, refl, sym, ap, subst, ◌∙◌, arith, length-append}
 use Rattle.std.specs.Prelude.{slice_get, codes, Result, Ok, Err, IfOk}
 use Rattle.std.proofs.Math.Seq.{get_or-append_seam}
 use Rattle.inf_token.specs.Files.{Closes, Opening, Openings, Rose, Sources, opened}
 use Rattle.inf_lexer.specs.Entering.{Enters, first_there, with_opened}
-use Rattle.inf_lexer.specs.Names.{Nest}
-use Rattle.inf_lexer.specs.Readers.{Reader}
+use Rattle.inf_lexer.specs.Names.{Nest, number_of, with_name}
+use Rattle.inf_characters.specs.declared.characters.CharSet.TheVariants as charset
+use Rattle.inf_reader.specs.Cursors.{most_quoted}
+use Rattle.inf_lexer.specs.Readers.{Reader, at_front}
 use Rattle.inf_lexer.specs.Unread.{Gave, innermost, innermost_place, unread}
-use Rattle.inf_reader.specs.Outcome.{Ending, missing, outcome}
+use Rattle.inf_unit.specs.Messages.{FileNames}
+use Rattle.inf_reader.specs.Outcome.{Ending, missing}
 use Rattle.inf_reader.specs.Sessions.{HasRead, IsTooMuch}
 use Rattle.inf_reader.specs.Translations.{seen}
 use Rattle.inf_reader.specs.declared.outcome.Translation.{Translation}
@@ -120,7 +123,7 @@ honest_behind false rest honest = cc
 
 pub comes : (h : Bool) (sources : Sources) (name : List ℕ) (old after mid new : Openings) (serial : List ℕ) (e : Ending)
     → (IsTrue h → (whole : List ℕ) × (sources name ≡ Some whole)) → (IsTrue h → after ≡ with_opened name old)
-    → HasRead h sources after mid serial name e → (IsTrue h → Closes mid new) → Comes h sources name old new serial e
+    → HasRead h sources after mid serial (name ∷ []) e → (IsTrue h → Closes mid new) → Comes h sources name old new serial e
 comes h sources name old after mid new serial e there opened_at r closes = record {
   given = Some (r.given ++ behind_of h (unread sources mid));
   is_outcome = r.same (behind_of h (unread sources mid)) may;
@@ -209,15 +212,31 @@ pub was_opened : (sources : Sources) (h : Bool) (name : List ℕ) (old after : O
 was_opened sources h name old after before now lexer e honest =
     e.is_opened honest ∙ ap (λ n. with_opened n old) (named_is name e.name e.place e.is_named)
 
-pub if_comes : {E : Type 0} (result : Result Translation E) (h g : Bool) (s t : Sources) (name file : List ℕ) (old after mid new : Openings) (serial : List ℕ)
-    → g ≡ h → t ≡ s → file ≡ name → (IsTrue h → (whole : List ℕ) × (s name ≡ Some whole)) → (IsTrue h → after ≡ with_opened name old) → (IsTrue h → Closes mid new)
-    → IfOk result (λ x. HasRead g t after mid serial file (seen x)) → IfOk result (λ x. Comes h s name old new serial (seen x))
-if_comes (Ok x) h g s t name file old after mid new serial e f n there opened_at closes read =
+-- where no file was open before, it has the number 0 and is the only one
+abbrev pub no_files : Nest
+no_files = record { set = charset.Latin1; limit = most_quoted; names = []; open_files = [] }
+
+pub front_is : (sources : Sources) (h : Bool) (name : List ℕ) (old after : Openings) (before now : Nest) (lexer : Reader) → before ≡ no_files → Enters sources h (name ∷ []) old after before now lexer
+    → lexer ≡ at_front charset.Latin1 most_quoted 0
+front_is sources h name old after before now lexer e enters =
+    enters.is_entered.1 ∙ ap (λ (n : Nest). at_front n.set n.limit (number_of enters.name n.names)) e
+
+pub names_are : (sources : Sources) (h : Bool) (name : List ℕ) (old after : Openings) (before now : Nest) (lexer : Reader) → before ≡ no_files → Enters sources h (name ∷ []) old after before now lexer
+    → now.names ≡ name ∷ []
+names_are sources h name old after before now lexer e enters =
+    ap (λ (n : Nest). n.names) enters.is_entered.0
+    ∙ ap (λ (n : Nest). with_name enters.name n.names) e
+    ∙ ap (λ (found : List ℕ). found ∷ []) (named_is name enters.name enters.place enters.is_named)
+
+pub if_comes : {E : Type 0} (result : Result Translation E) (h g : Bool) (s t : Sources) (name : List ℕ) (files : FileNames) (old after mid new : Openings) (serial : List ℕ)
+    → g ≡ h → t ≡ s → files ≡ name ∷ [] → (IsTrue h → (whole : List ℕ) × (s name ≡ Some whole)) → (IsTrue h → after ≡ with_opened name old) → (IsTrue h → Closes mid new)
+    → IfOk result (λ x. HasRead g t after mid serial files (seen x)) → IfOk result (λ x. Comes h s name old new serial (seen x))
+if_comes (Ok x) h g s t name files old after mid new serial e f n there opened_at closes read =
     comes h s name old after mid new serial (seen x) there opened_at
-    (subst (λ (b : Bool). HasRead b s after mid serial name (seen x)) e
-    (subst (λ (sources : Sources). HasRead g sources after mid serial name (seen x)) f
-    (subst (λ (bytes : List ℕ). HasRead g t after mid serial bytes (seen x)) n read))) closes
-if_comes (Err fault) h g s t name file old after mid new serial e f n there opened_at closes read = tt
+    (subst (λ (b : Bool). HasRead b s after mid serial (name ∷ []) (seen x)) e
+    (subst (λ (sources : Sources). HasRead g sources after mid serial (name ∷ []) (seen x)) f
+    (subst (λ (names : FileNames). HasRead g t after mid serial names (seen x)) n read))) closes
+if_comes (Err fault) h g s t name files old after mid new serial e f n there opened_at closes read = tt
 
 -- a failure that was counted in between
 pub rose_between : (before first then now : ℕ) → before ≤ first → now ≡ then → Rose first then → Rose before now

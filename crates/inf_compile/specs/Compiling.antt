@@ -41,8 +41,8 @@ pub record IsRead (name source : List ℕ) (old new : Openings) : Type 0 where
   pub whole : source ≡ given ++ rest
   pub fits : length given ≤ most_source_bytes
   pub opened : new ≡ with_openings old (record { name = name; given = given; is_read_out = is_read_out } ∷ [])
-  pub near : length given + length (compiled name source).cursor.rest ≤ length source + 4096
-  pub to_end : (compiled name source).reading.mode ≡ mode.Ended → (rest ≡ []) × (is_read_out ≡ true)
+  pub near : length given + length (compiled (name ∷ []) source).cursor.rest ≤ length source + 4096
+  pub to_end : (compiled (name ∷ []) source).reading.mode ≡ mode.Ended → (rest ≡ []) × (is_read_out ≡ true)
 
 -- the source of this name, if there is one; where there is none, nothing is opened
 abbrev pub IsSource : List ℕ → Option (List ℕ) → Openings → Openings → Type 0

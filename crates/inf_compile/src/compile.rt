@@ -71,7 +71,7 @@ fn translation_of<F: Files>(
             return Err(LexFault::Read);
         }
     };
-    let translation = translate(alloc, name.as_bytes(), lexer, files, serial);
+    let translation = translate(alloc, &stack, lexer, files, serial);
     stack.leave(files);
     translation
 }

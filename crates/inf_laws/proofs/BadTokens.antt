@@ -4,6 +4,7 @@ use Rattle.std.proofs.lemmas.Bool.{and_parts, eqb-true, ne_eqb}
 use Rattle.inf_scanner.specs.declared.tokens.Mark.TheVariants as mark
 use Rattle.inf_scanner.specs.declared.tokens.TokenKind.{TokenKind}
 use Rattle.inf_scanner.specs.declared.tokens.TokenKind.TheVariants as kind
+use Rattle.inf_unit.specs.Messages.{FileNames}
 use Rattle.inf_unit.specs.Tokens.{Spelled, is_mark}
 use Rattle.inf_machine.specs.declared.symbols.Symbol.{Symbol}
 use Rattle.inf_machine.specs.declared.symbols.Symbol.TheVariants.{Rule}
@@ -94,45 +95,45 @@ at_hand_tells stack r e = ap (λ x. is_in_routine (at_hand_by x r).stack) e ∙ 
     by_stack [] p = refl
     by_stack (symbol ∷ symbols) p = ap is_in_routine p
 
-moved : (file : List ℕ) (s : State) (symbols : List (Symbol Action)) → turn file s ≡ taking file s → (at_hand s.reading).stack ≡ symbols → (turn file s).reading.stack ≡ (taken grammar known (atom_of (next_token s.cursor).0) symbols).left
-moved file s symbols takes e = ap (λ x. x.reading.stack) takes ∙ ap (λ x. (taken grammar known (atom_of (next_token s.cursor).0) x).left) e
+moved : (files : FileNames) (s : State) (symbols : List (Symbol Action)) → turn files s ≡ taking files s → (at_hand s.reading).stack ≡ symbols → (turn files s).reading.stack ≡ (taken grammar known (atom_of (next_token s.cursor).0) symbols).left
+moved files s symbols takes e = ap (λ x. x.reading.stack) takes ∙ ap (λ x. (taken grammar known (atom_of (next_token s.cursor).0) x).left) e
 
-goes : (file : List ℕ) (n : ℕ) (s : State) (symbols : List (Symbol Action)) → AllAreTaken file n s → s.reading.stack ≡ symbols
+goes : (files : FileNames) (n : ℕ) (s : State) (symbols : List (Symbol Action)) → AllAreTaken files n s → s.reading.stack ≡ symbols
     → is_some (read grammar known symbols (map atom_of (front n s.cursor))) ≡ true
-    → is_in_routine (at_hand (turned file n s).reading).stack ≡ is_inside (read grammar known symbols (map atom_of (front n s.cursor)))
-goes file zero s symbols all e h = at_hand_tells symbols s.reading e
-goes file (suc n) s [] all e h = cc
-goes file (suc n) s (symbol ∷ symbols) all e h =
+    → is_in_routine (at_hand (turned files n s).reading).stack ≡ is_inside (read grammar known symbols (map atom_of (front n s.cursor)))
+goes files zero s symbols all e h = at_hand_tells symbols s.reading e
+goes files (suc n) s [] all e h = cc
+goes files (suc n) s (symbol ∷ symbols) all e h =
     let atom = atom_of (next_token s.cursor).0 in
     let f = first_taken (symbol ∷ symbols) atom (map atom_of (front n (next_token s.cursor).1)) h in
     let hand : (at_hand s.reading).stack ≡ symbol ∷ symbols = ap (λ x. (at_hand_by x s.reading).stack) e ∙ e in
-    goes file n (turn file s) (taken grammar known atom (symbol ∷ symbols)).left (λ m less. all (suc m) (omega (arith, less)))
-    (moved file s (symbol ∷ symbols) (all 0 (omega arith)) hand) f.goes_on
+    goes files n (turn files s) (taken grammar known atom (symbol ∷ symbols)).left (λ m less. all (suc m) (omega (arith, less)))
+    (moved files s (symbol ∷ symbols) (all 0 (omega arith)) hand) f.goes_on
     ∙ sym f.tells
 
-starts : (file : List ℕ) (n : ℕ) (s : State) → AllAreTaken file n s → s.reading.stack ≡ []
+starts : (files : FileNames) (n : ℕ) (s : State) → AllAreTaken files n s → s.reading.stack ≡ []
     → is_some (read grammar known (Rule piece_rule ∷ []) (map atom_of (front n s.cursor))) ≡ true
-    → is_in_routine (at_hand (turned file n s).reading).stack ≡ is_inside (read grammar known (Rule piece_rule ∷ []) (map atom_of (front n s.cursor)))
-starts file zero s all e h = at_hand_tells [] s.reading e
-starts file (suc n) s all e h =
+    → is_in_routine (at_hand (turned files n s).reading).stack ≡ is_inside (read grammar known (Rule piece_rule ∷ []) (map atom_of (front n s.cursor)))
+starts files zero s all e h = at_hand_tells [] s.reading e
+starts files (suc n) s all e h =
     let atom = atom_of (next_token s.cursor).0 in
     let f = first_taken (Rule piece_rule ∷ []) atom (map atom_of (front n (next_token s.cursor).1)) h in
     let hand : (at_hand s.reading).stack ≡ Rule piece_rule ∷ [] = ap (λ x. (at_hand_by x s.reading).stack) e in
-    goes file n (turn file s) (taken grammar known atom (Rule piece_rule ∷ [])).left (λ m less. all (suc m) (omega (arith, less)))
-    (moved file s (Rule piece_rule ∷ []) (all 0 (omega arith)) hand) f.goes_on
+    goes files n (turn files s) (taken grammar known atom (Rule piece_rule ∷ [])).left (λ m less. all (suc m) (omega (arith, less)))
+    (moved files s (Rule piece_rule ∷ []) (all 0 (omega arith)) hand) f.goes_on
     ∙ sym f.tells
 
-cursor_is : (file : List ℕ) (n : ℕ) (s : State) → (turned file n s).cursor ≡ behind n s.cursor
-cursor_is file zero s = refl
-cursor_is file (suc n) s = cursor_is file n (turn file s)
+cursor_is : (files : FileNames) (n : ℕ) (s : State) → (turned files n s).cursor ≡ behind n s.cursor
+cursor_is files zero s = refl
+cursor_is files (suc n) s = cursor_is files n (turn files s)
 
 -- The law
 
 pub bad_tokens_are_passed_over : BadTokensArePassedOver
-bad_tokens_are_passed_over file n s empty all begun told =
+bad_tokens_are_passed_over files n s empty all begun told =
     let tokens : List Spelled = front n s.cursor in
     let some = (bad_tokens_begin_nothing grammar known piece_rule (map atom_of tokens) language_is_decided).1 begun.begins in
-    let opened : is_in_routine (at_hand (turned file n s).reading).stack ≡ opened_by_all false tokens = starts file n s all empty some ∙ bracketed tokens begun in
+    let opened : is_in_routine (at_hand (turned files n s).reading).stack ≡ opened_by_all false tokens = starts files n s all empty some ∙ bracketed tokens begun in
     ap (λ x. x.reading) told
-    ∙ ap (λ b. between (passed (if b then mode.SkipsRoutine else mode.SkipsDirective) (next_token (turned file n s).cursor).0.kind)) opened
-    ∙ ap (λ c. between (passed (skip_behind tokens) (next_token c).0.kind)) (cursor_is file n s)
+    ∙ ap (λ b. between (passed (if b then mode.SkipsRoutine else mode.SkipsDirective) (next_token (turned files n s).cursor).0.kind)) opened
+    ∙ ap (λ c. between (passed (skip_behind tokens) (next_token c).0.kind)) (cursor_is files n s)

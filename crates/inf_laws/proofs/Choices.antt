@@ -1,6 +1,5 @@
 -- Choices: tests, and the first of two things.
 use Rattle.std.proofs.Common.{◌≡◌, cond, ◌||◌, Bool, true, false, Option, None, Some, refl}
-use Rattle.std.specs.Prelude.{is_some}
 
 -- the first of two
 abbrev pub either : {A : Type 0} → Option A → Option A → Option A
@@ -10,14 +9,6 @@ either None later = later
 pub either-none : {A : Type 0} (o : Option A) → either o None ≡ o
 either-none None = refl
 either-none (Some x) = refl
-
-pub either-some : {A : Type 0} (o later other : Option A) → is_some o ≡ true → either o later ≡ either o other
-either-some None later other is = cc
-either-some (Some x) later other is = refl
-
-pub is_none : {A : Type 0} (o : Option A) → is_some o ≡ false → o ≡ None
-is_none None is = refl
-is_none (Some x) is = cc
 
 pub cond-again : {A : Type 0} (b : Bool) (x other more : A) → cond b x more ≡ cond b x (cond b other more)
 cond-again true x other more = refl
@@ -48,24 +39,3 @@ or-swap true true c = refl
 or-swap true false c = refl
 or-swap false true c = refl
 or-swap false false c = refl
-
-pub or-between : (a b c : Bool) → ((a || b) || c) ≡ ((a || c) || b)
-or-between true b c = refl
-or-between false true true = refl
-or-between false true false = refl
-or-between false false true = refl
-or-between false false false = refl
-
--- one more to the second of two, or to the first
-pub or-second : (a b c : Bool) → ((a || b) || c) ≡ ((a || false) || (b || (c || false)))
-or-second true b c = refl
-or-second false true c = refl
-or-second false false true = refl
-or-second false false false = refl
-
-pub or-first : (a b c : Bool) → ((a || b) || c) ≡ ((a || (c || false)) || (b || false))
-or-first true b c = refl
-or-first false true true = refl
-or-first false true false = refl
-or-first false false true = refl
-or-first false false false = refl

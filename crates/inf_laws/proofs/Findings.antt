@@ -4,14 +4,16 @@ use Rattle.std.specs.Prelude.{Contains, find, is_some, option_map, slice_index_o
 use Rattle.std.specs.Str.{bytes_eq, str_eq_ignore_ascii_case}
 use Rattle.std.proofs.lemmas.Bool.{cond_both, le-ltb, lt-ltb, ltb-false, ltb-true}
 use Rattle.std.proofs.lemmas.List.Elements.{Contains-append_cases, Contains-append_left, Contains-append_right}
+use Rattle.inf_scanner.specs.declared.tokens.Place.{Place}
+use Rattle.inf_names.specs.Symbols.{Table, declare_fault, declare_fault_by, folded, found_in, is_full}
+use Rattle.inf_names.specs.declared.symbols.Found.{Found}
+use Rattle.inf_names.specs.declared.symbols.Found.TheVariants as found
 use Rattle.inf_symbol.specs.Spellings.{Name}
-use Rattle.inf_symbol.specs.Messages.{Blame, Declared}
-use Rattle.inf_symbol.specs.Names.{Named, declaration_of, folded, is_system_name}
-use Rattle.inf_symbol.specs.Locals.{Headed, Local, earlier, local_of, most_locals, no_locals, number_from, number_of, with_local_by, with_locals}
-use Rattle.inf_symbol.specs.declared.names.Declaration.{Declaration}
-use Rattle.inf_unit.specs.Units.{declared_fault, first_fault, header_fault, name_fault, operand_fault, operand_fault_by, operands_fault}
+use Rattle.inf_symbol.specs.Locals.{Headed, Local, Repeated, earlier, local_of, most_locals, no_locals, number_from, number_of, with_local_by, with_locals}
+use Rattle.inf_unit.specs.Messages.{Blame, FileNames}
+use Rattle.inf_unit.specs.Units.{first_fault, header_fault, is_system_name, local_fault, name_fault, operand_fault, operand_fault_by, operands_fault}
 use Rattle.inf_laws.specs.UnusedLocals.{is_local}
-use Rattle.inf_laws.specs.Findings.{CallsTellTheFirst, Finding, HeadersTellTheFirst, IsBefore, IsLeast, IsTold, ReturnsTellTheFirst, declared_before, declared_name, different, first_named, many_arguments, many_locals, repeated_local, repeated_locals, repeated_one, taken_name, system_operand, system_routine, too_many_arguments, too_many_locals, wrong_name, wrong_names}
+use Rattle.inf_laws.specs.Findings.{CallsTellTheFirst, Finding, HeadersTellTheFirst, IsBefore, IsLeast, IsTold, ReturnsTellTheFirst, declared_before, different, first_named, many_arguments, many_locals, repeated_local, repeated_locals, repeated_one, taken_as, taken_name, system_operand, system_routine, too_many_arguments, too_many_locals, wrong_name, wrong_names}
 use Rattle.inf_laws.proofs.Choices.{either, either-none}
 use Rattle.inf_laws.proofs.SameNames.{same_names}
 
@@ -106,42 +108,42 @@ number_tells n name (l ∷ locals) = go (str_eq_ignore_ascii_case l.name name) (
     go true later = refl
     go false later = later
 
-name_told : (locals : List Local) (place : ℕ) (n : Name) → IsTold (operand_fault locals n) (wrong_name locals place n)
-name_told locals place n = go (number_of n.bytes locals) (is_local n.bytes locals) (number_tells 1 n.bytes locals)
+name_told : (locals : List Local) (token : ℕ) (n : Name) → IsTold (operand_fault locals n) (wrong_name locals token n)
+name_told locals token n = go (number_of n.bytes locals) (is_local n.bytes locals) (number_tells 1 n.bytes locals)
   where
-    hidden : (b : Bool) → found_if (b && false) (system_operand place n) ≡ []
+    hidden : (b : Bool) → found_if (b && false) (system_operand token n) ≡ []
     hidden true = refl
     hidden false = refl
 
-    plain : (b : Bool) → IsTold (cond b (Some (system_operand 0 n).blame) None) (found_if (b && true) (system_operand place n))
-    plain true = told_one (system_operand place n)
+    plain : (b : Bool) → IsTold (cond b (Some (system_operand 0 n).blame) None) (found_if (b && true) (system_operand token n))
+    plain true = told_one (system_operand token n)
     plain false = refl
 
-    go : (o : Option ℕ) (local : Bool) → is_some o ≡ local → IsTold (operand_fault_by o n) (found_if (is_system_name n.bytes && not local) (system_operand place n))
+    go : (o : Option ℕ) (local : Bool) → is_some o ≡ local → IsTold (operand_fault_by o n) (found_if (is_system_name n.bytes && not local) (system_operand token n))
     go (Some number) true e = hidden (is_system_name n.bytes)
     go (Some number) false e = cc
     go None true e = cc
     go None false e = plain (is_system_name n.bytes)
 
-among_name : (locals : List Local) (place : ℕ) (n : Name) (g : Finding) → Contains (wrong_name locals place n) g → g ≡ system_operand place n
-among_name locals place n g among = among_if (is_system_name n.bytes && not (is_local n.bytes locals)) (system_operand place n) g among
+among_name : (locals : List Local) (token : ℕ) (n : Name) (g : Finding) → Contains (wrong_name locals token n) g → g ≡ system_operand token n
+among_name locals token n g among = among_if (is_system_name n.bytes && not (is_local n.bytes locals)) (system_operand token n) g among
 
-among_names : (locals : List Local) (place : ℕ) (names : List Name) (g : Finding) → Contains (wrong_names locals place names) g → place ≤ g.place
-among_names locals place [] g among = absurd (one_of_none g among)
-among_names locals place (n ∷ names) g among =
-    go (Contains-append_cases (wrong_name locals place n) (wrong_names locals (place + 2) names) g among) (among_names locals (place + 2) names g)
+among_names : (locals : List Local) (token : ℕ) (names : List Name) (g : Finding) → Contains (wrong_names locals token names) g → token ≤ g.token
+among_names locals token [] g among = absurd (one_of_none g among)
+among_names locals token (n ∷ names) g among =
+    go (Contains-append_cases (wrong_name locals token n) (wrong_names locals (token + 2) names) g among) (among_names locals (token + 2) names g)
   where
-    go : Contains (wrong_name locals place n) g ⊎ Contains (wrong_names locals (place + 2) names) g → (Contains (wrong_names locals (place + 2) names) g → place + 2 ≤ g.place) → place ≤ g.place
-    go (inl here) later = let at : g.place ≡ place = ap (λ f. f.place) (among_name locals place n g here) in omega (arith, at)
+    go : Contains (wrong_name locals token n) g ⊎ Contains (wrong_names locals (token + 2) names) g → (Contains (wrong_names locals (token + 2) names) g → token + 2 ≤ g.token) → token ≤ g.token
+    go (inl here) later = let at : g.token ≡ token = ap (λ f. f.token) (among_name locals token n g here) in omega (arith, at)
     go (inr there) later = omega (arith, later there)
 
-names_told : (locals : List Local) (place : ℕ) (names : List Name) → IsTold (operands_fault locals names) (wrong_names locals place names)
-names_told locals place [] = refl
-names_told locals place (n ∷ names) =
-    told_first (operand_fault locals n) (operands_fault locals names) (wrong_name locals place n) (wrong_names locals (place + 2) names)
-    (name_told locals place n) (names_told locals (place + 2) names)
-    (λ f g here there. let at : f.place ≡ place = ap (λ f. f.place) (among_name locals place n f here) in
-    inl (omega (arith, at, among_names locals (place + 2) names g there)))
+names_told : (locals : List Local) (token : ℕ) (names : List Name) → IsTold (operands_fault locals names) (wrong_names locals token names)
+names_told locals token [] = refl
+names_told locals token (n ∷ names) =
+    told_first (operand_fault locals n) (operands_fault locals names) (wrong_name locals token n) (wrong_names locals (token + 2) names)
+    (name_told locals token n) (names_told locals (token + 2) names)
+    (λ f g here there. let at : f.token ≡ token = ap (λ f. f.token) (among_name locals token n f here) in
+    inl (omega (arith, at, among_names locals (token + 2) names g there)))
 
 pub returns_tell_the_first : ReturnsTellTheFirst
 returns_tell_the_first locals n = name_told locals 1 n
@@ -153,35 +155,35 @@ choice true b y = refl
 choice false b y = refl
 
 pub calls_tell_the_first : CallsTellTheFirst
-calls_tell_the_first line locals called arguments =
+calls_tell_the_first unit locals called arguments =
     let names = wrong_names locals 2 arguments in
     let too_many : Bool = ltb 7 (length arguments) in
-    let told : Option Blame = cond too_many (Some (too_many_arguments line).blame) None in
-    let rest : IsTold (first_fault told (operands_fault locals arguments)) (names ++ many_arguments line arguments) =
-    told_second (operands_fault locals arguments) told names (many_arguments line arguments) (names_told locals 2 arguments) (told_if too_many (too_many_arguments line))
-    (λ f g here there. let at : f.place ≡ 0 = ap (λ f. f.place) (among_if too_many (too_many_arguments line) f here) in
+    let told : Option Blame = cond too_many (Some (too_many_arguments unit).blame) None in
+    let rest : IsTold (first_fault told (operands_fault locals arguments)) (names ++ many_arguments unit arguments) =
+    told_second (operands_fault locals arguments) told names (many_arguments unit arguments) (names_told locals 2 arguments) (told_if too_many (too_many_arguments unit))
+    (λ f g here there. let at : f.token ≡ 0 = ap (λ f. f.token) (among_if too_many (too_many_arguments unit) f here) in
     inl (omega (arith, at, among_names locals 2 arguments g there))) in
     let all =
-    told_first (operand_fault locals called) (first_fault told (operands_fault locals arguments)) (wrong_name locals 0 called) (names ++ many_arguments line arguments)
+    told_first (operand_fault locals called) (first_fault told (operands_fault locals arguments)) (wrong_name locals 0 called) (names ++ many_arguments unit arguments)
     (name_told locals 0 called) rest
-    (λ f g here there. behind f g (among_name locals 0 called f here) (Contains-append_cases names (many_arguments line arguments) g there)) in
-    subst (λ x. IsTold (first_fault (operand_fault locals called) x) (wrong_name locals 0 called ++ names ++ many_arguments line arguments))
-    (choice too_many (too_many_arguments line).blame (operands_fault locals arguments))
+    (λ f g here there. behind f g (among_name locals 0 called f here) (Contains-append_cases names (many_arguments unit arguments) g there)) in
+    subst (λ x. IsTold (first_fault (operand_fault locals called) x) (wrong_name locals 0 called ++ names ++ many_arguments unit arguments))
+    (choice too_many (too_many_arguments unit).blame (operands_fault locals arguments))
     (subst (IsTold (first_fault (operand_fault locals called) (first_fault told (operands_fault locals arguments))))
-    (sym (append_assoc (wrong_name locals 0 called) names (many_arguments line arguments))) all)
+    (sym (append_assoc (wrong_name locals 0 called) names (many_arguments unit arguments))) all)
   where
-    behind : (f g : Finding) → f ≡ system_operand 0 called → Contains (wrong_names locals 2 arguments) g ⊎ Contains (many_arguments line arguments) g → IsBefore f g
-    behind f g is (inl there) = let at : f.place ≡ 0 = ap (λ f. f.place) is in inl (omega (arith, at, among_names locals 2 arguments g there))
+    behind : (f g : Finding) → f ≡ system_operand 0 called → Contains (wrong_names locals 2 arguments) g ⊎ Contains (many_arguments unit arguments) g → IsBefore f g
+    behind f g is (inl there) = let at : f.token ≡ 0 = ap (λ f. f.token) is in inl (omega (arith, at, among_names locals 2 arguments g there))
     behind f g is (inr there) =
-        let same : g ≡ too_many_arguments line = among_if (ltb 7 (length arguments)) (too_many_arguments line) g there in
+        let same : g ≡ too_many_arguments unit = among_if (ltb 7 (length arguments)) (too_many_arguments unit) g there in
         let number : f.number ≡ (system_operand 0 called).number = ap (λ f. f.number) is in
-        let other : g.number ≡ (too_many_arguments line).number = ap (λ f. f.number) same in
-        inr (ap (λ f. f.place) is ∙ sym (ap (λ f. f.place) same), omega (arith, number, other))
+        let other : g.number ≡ (too_many_arguments unit).number = ap (λ f. f.number) same in
+        inr (ap (λ f. f.token) is ∙ sym (ap (λ f. f.token) same), omega (arith, number, other))
 
 -- Headers
 
 abbrev new_local : Name → Local
-new_local n = record { name = n.bytes; line = n.line; is_named = false }
+new_local n = record { name = n.bytes; place = n.place; is_named = false }
 
 first_named-push : (name : List ℕ) (before : List Name) (n : Name) → first_named name (before ++ n ∷ []) ≡ either (first_named name before) (cond (str_eq_ignore_ascii_case n.bytes name) (Some n) None)
 first_named-push name [] n = refl
@@ -226,39 +228,46 @@ are_of-new before n ls of name =
     go (Some x) b = refl
 
 -- the first local that is named again
-abbrev repeat_by : Option Name → Name → Option Blame
+abbrev repeat_by : Option Name → Name → Option Repeated
 repeat_by None n = None
-repeat_by (Some first) n = Some (record { line = n.line; message = Declared n.bytes first.line })
+repeat_by (Some first) n = Some (record { name = n; first = first.place })
 
-abbrev repeat_of : List Name → List Name → Option Blame
+abbrev repeat_of : List Name → List Name → Option Repeated
 repeat_of before [] = None
-repeat_of before (n ∷ names) = first_fault (repeat_by (first_named n.bytes before) n) (repeat_of (before ++ n ∷ []) names)
+repeat_of before (n ∷ names) = either (repeat_by (first_named n.bytes before) n) (repeat_of (before ++ n ∷ []) names)
 
-repeated_told : (o : Option Name) (place : ℕ) (n : Name) → IsTold (repeat_by o n) (repeated_one o place n)
-repeated_told None place n = refl
-repeated_told (Some first) place n = told_one (repeated_local first place n)
+first_repeated : (files : FileNames) (o later : Option Repeated) → local_fault files (either o later) ≡ first_fault (local_fault files o) (local_fault files later)
+first_repeated files None later = refl
+first_repeated files (Some r) later = refl
 
-among_repeated : (o : Option Name) (place : ℕ) (n : Name) (g : Finding) → Contains (repeated_one o place n) g → g.place ≡ place
-among_repeated None place n g among = absurd (one_of_none g among)
-among_repeated (Some first) place n g among =
-    ap (λ f. f.place) (one_of_one (repeated_local first place n) g among)
+repeated_told : (files : FileNames) (o : Option Name) (token : ℕ) (n : Name) → IsTold (local_fault files (repeat_by o n)) (repeated_one files o token n)
+repeated_told files None token n = refl
+repeated_told files (Some first) token n = told_one (repeated_local files first token n)
 
-among_repeats : (before : List Name) (place : ℕ) (names : List Name) (g : Finding) → Contains (repeated_locals before place names) g → place ≤ g.place
-among_repeats before place [] g among = absurd (one_of_none g among)
-among_repeats before place (n ∷ names) g among =
-    go (Contains-append_cases (repeated_one (first_named n.bytes before) place n) (repeated_locals (before ++ n ∷ []) (place + 1) names) g among)
-    (among_repeats (before ++ n ∷ []) (place + 1) names g)
+among_repeated : (files : FileNames) (o : Option Name) (token : ℕ) (n : Name) (g : Finding) → Contains (repeated_one files o token n) g → g.token ≡ token
+among_repeated files None token n g among = absurd (one_of_none g among)
+among_repeated files (Some first) token n g among =
+    ap (λ f. f.token) (one_of_one (repeated_local files first token n) g among)
+
+among_repeats : (files : FileNames) (before : List Name) (token : ℕ) (names : List Name) (g : Finding) → Contains (repeated_locals files before token names) g → token ≤ g.token
+among_repeats files before token [] g among = absurd (one_of_none g among)
+among_repeats files before token (n ∷ names) g among =
+    go (Contains-append_cases (repeated_one files (first_named n.bytes before) token n) (repeated_locals files (before ++ n ∷ []) (token + 1) names) g among)
+    (among_repeats files (before ++ n ∷ []) (token + 1) names g)
   where
-    go : Contains (repeated_one (first_named n.bytes before) place n) g ⊎ Contains (repeated_locals (before ++ n ∷ []) (place + 1) names) g → (Contains (repeated_locals (before ++ n ∷ []) (place + 1) names) g → place + 1 ≤ g.place) → place ≤ g.place
-    go (inl here) later = omega (arith, among_repeated (first_named n.bytes before) place n g here)
+    go : Contains (repeated_one files (first_named n.bytes before) token n) g ⊎ Contains (repeated_locals files (before ++ n ∷ []) (token + 1) names) g → (Contains (repeated_locals files (before ++ n ∷ []) (token + 1) names) g → token + 1 ≤ g.token) → token ≤ g.token
+    go (inl here) later = omega (arith, among_repeated files (first_named n.bytes before) token n g here)
     go (inr there) later = omega (arith, later there)
 
-repeats_told : (before : List Name) (place : ℕ) (names : List Name) → IsTold (repeat_of before names) (repeated_locals before place names)
-repeats_told before place [] = refl
-repeats_told before place (n ∷ names) =
-    told_first (repeat_by (first_named n.bytes before) n) (repeat_of (before ++ n ∷ []) names) (repeated_one (first_named n.bytes before) place n) (repeated_locals (before ++ n ∷ []) (place + 1) names)
-    (repeated_told (first_named n.bytes before) place n) (repeats_told (before ++ n ∷ []) (place + 1) names)
-    (λ f g here there. inl (omega (arith, among_repeated (first_named n.bytes before) place n f here, among_repeats (before ++ n ∷ []) (place + 1) names g there)))
+repeats_told : (files : FileNames) (before : List Name) (token : ℕ) (names : List Name) → IsTold (local_fault files (repeat_of before names)) (repeated_locals files before token names)
+repeats_told files before token [] = refl
+repeats_told files before token (n ∷ names) =
+    let here = repeat_by (first_named n.bytes before) n in
+    let there = repeat_of (before ++ n ∷ []) names in
+    subst (λ b. IsTold b (repeated_locals files before token (n ∷ names))) (sym (first_repeated files here there))
+    (told_first (local_fault files here) (local_fault files there) (repeated_one files (first_named n.bytes before) token n) (repeated_locals files (before ++ n ∷ []) (token + 1) names)
+    (repeated_told files (first_named n.bytes before) token n) (repeats_told files (before ++ n ∷ []) (token + 1) names)
+    (λ f g here there. inl (omega (arith, among_repeated files (first_named n.bytes before) token n f here, among_repeats files (before ++ n ∷ []) (token + 1) names g there))))
 
 -- more than 15 locals stay more
 full_stays : (names : List Name) (h : Headed) → h.are_too_many ≡ true → (with_locals names h).are_too_many ≡ true
@@ -273,18 +282,14 @@ full_stays (n ∷ names) h full = full_stays names (with_local_by n (local_of n.
 -- What a header says of its locals: there are more than 15 different ones, or the first that comes again is told.
 data Ends (before names : List Name) (h after : Headed) : Type 0 where
   Full : after.are_too_many ≡ true → 15 < length h.locals + different before names → Ends before names h after
-  Fits : after.are_too_many ≡ false → length h.locals + different before names ≤ 15 → after.repeated ≡ first_fault h.repeated (repeat_of before names) → Ends before names h after
+  Fits : after.are_too_many ≡ false → length h.locals + different before names ≤ 15 → after.repeated ≡ either h.repeated (repeat_of before names) → Ends before names h after
 
-first-earlier : (o later : Option Blame) (b : Blame) → first_fault (earlier o b) later ≡ first_fault o (Some b)
-first-earlier None later b = refl
-first-earlier (Some c) later b = refl
-
-first-none : (o : Option Blame) → o ≡ first_fault o None
-first-none None = refl
-first-none (Some b) = refl
+first-earlier : (o later : Option Repeated) (r : Repeated) → either (earlier o r) later ≡ either o (Some r)
+first-earlier None later r = refl
+first-earlier (Some c) later r = refl
 
 -- what the names behind one more make of it
-onward : (before names : List Name) (n : Name) (o : Option Name) (h next after : Headed) → first_named n.bytes before ≡ o → length next.locals ≡ length h.locals + cond (is_some o) 0 1 → ((later : Option Blame) → first_fault next.repeated later ≡ first_fault h.repeated (first_fault (repeat_by o n) later)) → Ends (before ++ n ∷ []) names next after → Ends before (n ∷ names) h after
+onward : (before names : List Name) (n : Name) (o : Option Name) (h next after : Headed) → first_named n.bytes before ≡ o → length next.locals ≡ length h.locals + cond (is_some o) 0 1 → ((later : Option Repeated) → either next.repeated later ≡ either h.repeated (either (repeat_by o n) later)) → Ends (before ++ n ∷ []) names next after → Ends before (n ∷ names) h after
 onward before names n o h next after is len same (Full full more) =
     let count : different before (n ∷ names) ≡ cond (is_some o) 0 1 + different (before ++ n ∷ []) names = ap (λ x. cond (is_some x) 0 1 + different (before ++ n ∷ []) names) is in
     Full full (omega (arith, len, count, more))
@@ -292,11 +297,11 @@ onward before names n o h next after is len same (Fits fits few repeated) =
     let count : different before (n ∷ names) ≡ cond (is_some o) 0 1 + different (before ++ n ∷ []) names = ap (λ x. cond (is_some x) 0 1 + different (before ++ n ∷ []) names) is in
     Fits fits (omega (arith, len, count, few))
     (repeated ∙ same (repeat_of (before ++ n ∷ []) names)
-    ∙ ap (λ x. first_fault h.repeated (first_fault (repeat_by x n) (repeat_of (before ++ n ∷ []) names))) (sym is))
+    ∙ ap (λ x. either h.repeated (either (repeat_by x n) (repeat_of (before ++ n ∷ []) names))) (sym is))
 
 -- what a header says of its locals, after some of them
 ends : (names before : List Name) (h : Headed) → AreOf before h.locals → h.are_too_many ≡ false → length h.locals ≤ 15 → Ends before names h (with_locals names h)
-ends [] before h of fits few = Fits fits (omega (arith, few)) (first-none h.repeated)
+ends [] before h of fits few = Fits fits (omega (arith, few)) (sym (either-none h.repeated))
 ends (n ∷ names) before h of fits few = go (first_named n.bytes before) refl (ends names (before ++ n ∷ []))
   where
     fresh : (b : Bool) → ltb (length h.locals) 15 ≡ b → first_named n.bytes before ≡ None → ((h : Headed) → AreOf (before ++ n ∷ []) h.locals → h.are_too_many ≡ false → length h.locals ≤ 15 → Ends (before ++ n ∷ []) names h (with_locals names h)) → Ends before (n ∷ names) h (with_locals names (cond b (record h { locals = h.locals ++ new_local n ∷ [] }) (record h { are_too_many = true })))
@@ -315,66 +320,61 @@ ends (n ∷ names) before h of fits few = go (first_named n.bytes before) refl (
         subst (λ l. Ends before (n ∷ names) h (with_locals names (with_local_by n l h))) (sym (of n.bytes ∙ ap (option_map new_local) is))
         (fresh (ltb (length h.locals) 15) refl is later)
     go (Some first) is later =
-        let b : Blame = record { line = n.line; message = Declared n.bytes first.line } in
-        let again : Headed = record h { repeated = earlier h.repeated b } in
+        let r : Repeated = record { name = n; first = first.place } in
+        let again : Headed = record h { repeated = earlier h.repeated r } in
         let len : length h.locals ≡ length h.locals + 0 = omega arith in
         subst (λ l. Ends before (n ∷ names) h (with_locals names (with_local_by n l h))) (sym (of n.bytes ∙ ap (option_map new_local) is))
-        (onward before names n (Some first) h again (with_locals names again) is len (λ x. first-earlier h.repeated x b)
+        (onward before names n (Some first) h again (with_locals names again) is len (λ x. first-earlier h.repeated x r)
         (later again (are_of-repeated before n first h.locals of is) fits few))
 
 -- The name of a routine
 
-declared_told : (o : Option Declaration) (name : Name) → IsTold (declared_fault name o) (declared_name o name)
-declared_told None name = refl
-declared_told (Some d) name = told_one (declared_before d name)
+routine_told_by : (files : FileNames) (f : Found Place) (full : Bool) (name : Name) → IsTold (name_fault files name (declare_fault_by f full)) (taken_as files f name)
+routine_told_by files (found.System meaning) full name = told_one (system_routine name)
+routine_told_by files (found.Declared meaning first) full name = told_one (declared_before files first name)
+routine_told_by files found.Used full name = refl
+routine_told_by files found.Unknown true name = refl
+routine_told_by files found.Unknown false name = refl
 
-among_declared : (o : Option Declaration) (name : Name) (g : Finding) → Contains (declared_name o name) g → g.place ≡ 1
-among_declared None name g among = absurd (one_of_none g among)
-among_declared (Some d) name g among =
-    ap (λ f. f.place) (one_of_one (declared_before d name) g among)
+routine_told : (files : FileNames) (names : Table Place) (name : Name) → IsTold (name_fault files name (declare_fault name.bytes names)) (taken_name files names name)
+routine_told files names name = routine_told_by files (found_in name.bytes names) (is_full names) name
 
-routine_told : (names : List Named) (name : Name) → IsTold (name_fault (folded name.bytes) name names) (taken_name names name)
-routine_told names name = go (is_system_name name.bytes)
+among_routine : (files : FileNames) (f : Found Place) (name : Name) (g : Finding) → Contains (taken_as files f name) g → g.token ≡ 1
+among_routine files (found.System meaning) name g among = ap (λ f. f.token) (one_of_one (system_routine name) g among)
+among_routine files (found.Declared meaning first) name g among = ap (λ f. f.token) (one_of_one (declared_before files first name) g among)
+among_routine files found.Used name g among = absurd (one_of_none g among)
+among_routine files found.Unknown name g among = absurd (one_of_none g among)
+
+header_told : (files : FileNames) (unit : Place) (names : Table Place) (name : Name) (locals : List Name) (h : Headed) → Ends [] locals no_locals h → IsTold (header_fault files unit (name_fault files name (declare_fault name.bytes names)) h) (taken_name files names name ++ (repeated_locals files [] 2 locals ++ many_locals unit locals))
+header_told files unit names name locals h (Full full more) =
+    let of_name = taken_name files names name in
+    let repeats = repeated_locals files [] 2 locals in
+    let fault = name_fault files name (declare_fault name.bytes names) in
+    let many : many_locals unit locals ≡ too_many_locals unit ∷ [] = ap (λ b. found_if b (too_many_locals unit)) (lt-ltb 15 (different [] locals) (omega (arith, more))) in
+    let first : header_fault files unit fault h ≡ Some (too_many_locals unit).blame =
+    ap (λ b. cond b (Some (too_many_locals unit).blame) (first_fault fault (local_fault files h.repeated))) full in
+    subst (λ x. IsTold x (of_name ++ (repeats ++ many_locals unit locals))) (sym first)
+    (subst (λ l. IsTold (Some (too_many_locals unit).blame) (of_name ++ (repeats ++ l))) (sym many)
+    (subst (IsTold (Some (too_many_locals unit).blame)) (append_assoc of_name repeats (too_many_locals unit ∷ []))
+    (second_before (too_many_locals unit).blame (of_name ++ repeats) (too_many_locals unit ∷ []) (told_one (too_many_locals unit))
+    (λ f g here there. behind f g (one_of_one (too_many_locals unit) f here) (Contains-append_cases of_name repeats g there)))))
   where
-    go : (b : Bool) → IsTold (cond b (Some (system_routine name).blame) (declared_fault name (declaration_of (folded name.bytes) names))) (cond b (system_routine name ∷ []) (declared_name (declaration_of (folded name.bytes) names) name))
-    go true = told_one (system_routine name)
-    go false = declared_told (declaration_of (folded name.bytes) names) name
-
-among_routine : (names : List Named) (name : Name) (g : Finding) → Contains (taken_name names name) g → g.place ≡ 1
-among_routine names name g among = go (is_system_name name.bytes) among
-  where
-    go : (b : Bool) → Contains (cond b (system_routine name ∷ []) (declared_name (declaration_of (folded name.bytes) names) name)) g → g.place ≡ 1
-    go true among = ap (λ f. f.place) (one_of_one (system_routine name) g among)
-    go false among = among_declared (declaration_of (folded name.bytes) names) name g among
-
-header_told : (line : ℕ) (names : List Named) (name : Name) (locals : List Name) (h : Headed) → Ends [] locals no_locals h → IsTold (header_fault line (name_fault (folded name.bytes) name names) h) (taken_name names name ++ (repeated_locals [] 2 locals ++ many_locals line locals))
-header_told line names name locals h (Full full more) =
-    let of_name = taken_name names name in
-    let repeats = repeated_locals [] 2 locals in
-    let many : many_locals line locals ≡ too_many_locals line ∷ [] = ap (λ b. found_if b (too_many_locals line)) (lt-ltb 15 (different [] locals) (omega (arith, more))) in
-    let first : header_fault line (name_fault (folded name.bytes) name names) h ≡ Some (too_many_locals line).blame =
-    ap (λ b. cond b (Some (too_many_locals line).blame) (first_fault (name_fault (folded name.bytes) name names) h.repeated)) full in
-    subst (λ x. IsTold x (of_name ++ (repeats ++ many_locals line locals))) (sym first)
-    (subst (λ l. IsTold (Some (too_many_locals line).blame) (of_name ++ (repeats ++ l))) (sym many)
-    (subst (IsTold (Some (too_many_locals line).blame)) (append_assoc of_name repeats (too_many_locals line ∷ []))
-    (second_before (too_many_locals line).blame (of_name ++ repeats) (too_many_locals line ∷ []) (told_one (too_many_locals line))
-    (λ f g here there. behind f g (one_of_one (too_many_locals line) f here) (Contains-append_cases of_name repeats g there)))))
-  where
-    behind : (f g : Finding) → f ≡ too_many_locals line → Contains (taken_name names name) g ⊎ Contains (repeated_locals [] 2 locals) g → IsBefore f g
-    behind f g is (inl there) = let at : f.place ≡ (too_many_locals line).place = ap (λ f. f.place) is in inl (omega (arith, at, among_routine names name g there))
-    behind f g is (inr there) = let at : f.place ≡ (too_many_locals line).place = ap (λ f. f.place) is in inl (omega (arith, at, among_repeats [] 2 locals g there))
-header_told line names name locals h (Fits fits few repeated) =
-    let of_name = taken_name names name in
-    let repeats = repeated_locals [] 2 locals in
-    let fault = name_fault (folded name.bytes) name names in
-    let many : many_locals line locals ≡ [] = ap (λ b. found_if b (too_many_locals line)) (le-ltb 15 (different [] locals) (omega (arith, few))) in
-    let first : header_fault line fault h ≡ first_fault fault (repeat_of [] locals) =
-    ap (λ b. cond b (Some (too_many_locals line).blame) (first_fault fault h.repeated)) fits ∙ ap (first_fault fault) repeated in
-    subst (λ x. IsTold x (of_name ++ (repeats ++ many_locals line locals))) (sym first)
-    (subst (λ l. IsTold (first_fault fault (repeat_of [] locals)) (of_name ++ l)) (sym (append-nil repeats) ∙ ap (λ l. repeats ++ l) (sym many))
-    (told_first fault (repeat_of [] locals) of_name repeats (routine_told names name) (repeats_told [] 2 locals)
-    (λ f g here there. inl (omega (arith, among_routine names name f here, among_repeats [] 2 locals g there)))))
+    behind : (f g : Finding) → f ≡ too_many_locals unit → Contains (taken_name files names name) g ⊎ Contains (repeated_locals files [] 2 locals) g → IsBefore f g
+    behind f g is (inl there) = let at : f.token ≡ (too_many_locals unit).token = ap (λ f. f.token) is in inl (omega (arith, at, among_routine files (found_in name.bytes names) name g there))
+    behind f g is (inr there) = let at : f.token ≡ (too_many_locals unit).token = ap (λ f. f.token) is in inl (omega (arith, at, among_repeats files [] 2 locals g there))
+header_told files unit names name locals h (Fits fits few repeated) =
+    let of_name = taken_name files names name in
+    let repeats = repeated_locals files [] 2 locals in
+    let fault = name_fault files name (declare_fault name.bytes names) in
+    let again = local_fault files (repeat_of [] locals) in
+    let many : many_locals unit locals ≡ [] = ap (λ b. found_if b (too_many_locals unit)) (le-ltb 15 (different [] locals) (omega (arith, few))) in
+    let first : header_fault files unit fault h ≡ first_fault fault again =
+    ap (λ b. cond b (Some (too_many_locals unit).blame) (first_fault fault (local_fault files h.repeated))) fits ∙ ap (λ r. first_fault fault (local_fault files r)) repeated in
+    subst (λ x. IsTold x (of_name ++ (repeats ++ many_locals unit locals))) (sym first)
+    (subst (λ l. IsTold (first_fault fault again) (of_name ++ l)) (sym (append-nil repeats) ∙ ap (λ l. repeats ++ l) (sym many))
+    (told_first fault again of_name repeats (routine_told files names name) (repeats_told files [] 2 locals)
+    (λ f g here there. inl (omega (arith, among_routine files (found_in name.bytes names) name f here, among_repeats files [] 2 locals g there)))))
 
 pub headers_tell_the_first : HeadersTellTheFirst
-headers_tell_the_first line names name locals =
-    header_told line names name locals (with_locals locals no_locals) (ends locals [] no_locals (λ name. refl) refl (omega arith))
+headers_tell_the_first files unit names name locals =
+    header_told files unit names name locals (with_locals locals no_locals) (ends locals [] no_locals (λ name. refl) refl (omega arith))

@@ -1,238 +1,441 @@
 -- What is known of names after declarations and uses.
-use Rattle.std.proofs.Common.{◌≡◌, ℕ, List, [], ◌∷◌, ◌++◌, append_assoc, append-nil, filter, cond, not, ◌||◌, Bool, true, false, Option, None, Some, refl, sym, ap, ◌∙◌}
-use Rattle.std.specs.Prelude.{is_some}
+use Rattle.std.proofs.Common.{◌≡◌, ◌+◌, ◌<◌, ◌≤◌, ℕ, List, [], ◌∷◌, ◌++◌, append_assoc, append-nil, arith, length, filter, cond, not, ◌||◌, Bool, true, false, Option, None, Some, refl, sym, ap, subst, ◌∙◌}
+use Rattle.std.specs.Prelude.{find, is_some}
 use Rattle.std.specs.List.{list_any}
 use Rattle.std.specs.Str.{bytes_eq}
-use Rattle.std.proofs.lemmas.Bool.{or_from, or_left, or_parts}
+use Rattle.std.proofs.lemmas.Bool.{lt-leb, or_from, or_left, or_parts}
 use Rattle.std.proofs.lemmas.List.Elements.{filter-append}
-use Rattle.inf_symbol.specs.Messages.{Reported, SystemName, Undeclared, with_error}
-use Rattle.inf_symbol.specs.Names.{Named, Standing, IsDeclared, IsUsed, declaration_in, declaration_of, folded, is_system_name, with_all_undeclared, with_declared, with_undeclared, with_used}
-use Rattle.inf_symbol.specs.declared.names.Declaration.{Declaration}
-use Rattle.inf_unit.specs.Units.{declared_fault, with_name}
-use Rattle.inf_laws.specs.NameEvents.{Declares, Event, FirstDeclarationsCount, HeadersDeclare, OperandsUse, UndeclaredAreTold, Use, Uses, declares, first_declaration, undeclared_use, undeclared_uses, uses, with_event, with_events, with_uses_told}
-use Rattle.inf_laws.proofs.Choices.{cond-again, cond-swap, either, either-none, either-some, is_none, or-assoc, or-between, or-false, or-first, or-known, or-second}
+use Rattle.inf_scanner.specs.declared.tokens.Place.{Place}
+use Rattle.inf_names.specs.SystemNames.{meaning_if, name_of, system_meaning, system_names}
+use Rattle.inf_names.specs.Symbols.{IsDeclared, IsUsed, Named, Standing, Table, declare_fault, declare_fault_by, folded, found_as, found_in, is_full, no_names, put, refer_fault, refer_fault_by, standing_of, with_declared, with_used_by}
+use Rattle.inf_names.specs.declared.meanings.Meaning.{Meaning}
+use Rattle.inf_names.specs.declared.meanings.Meaning.TheVariants as meaning
+use Rattle.inf_names.specs.declared.symbols.DeclareFault.{DeclareFault}
+use Rattle.inf_names.specs.declared.symbols.Found.{Found}
+use Rattle.inf_names.specs.declared.symbols.Found.TheVariants as found
+use Rattle.inf_names.specs.declared.symbols.ReferFault.{ReferFault}
+use Rattle.inf_names.proofs.Putting.{length-put}
+use Rattle.inf_report.specs.Messages.{Undeclared}
+use Rattle.inf_unit.specs.Messages.{FileNames, Reported, location, with_error}
+use Rattle.inf_unit.specs.Names.{with_all_undeclared, with_undeclared}
+use Rattle.inf_unit.specs.Units.{name_full, used, with_name}
+use Rattle.inf_laws.specs.NameEvents.{Declares, Event, FirstDeclarationsCount, FewHaveRoom, HaveRoom, HeadersDeclare, OperandsUse, UndeclaredAreTold, Use, Uses, declares, first_declaration, is_too_many, stands_for, undeclared_use, undeclared_uses, uses, with_event, with_events, with_uses_told}
+use Rattle.inf_laws.proofs.Choices.{cond-again, cond-swap, either, or-assoc, or-false, or-known}
 use Rattle.inf_laws.proofs.SameNames.{bytes_eq-sym, key_same, same_key}
 
--- Declarations
+-- What the compiler does is an event
 
-abbrev nothing : Option Declaration
-nothing = None
+pub headers_declare : HeadersDeclare
+headers_declare n at t = go (declare_fault n.bytes t)
+  where
+    go : (o : Option (DeclareFault Place)) → with_name n at o t ≡ cond (is_some o) t (with_declared n.bytes n.place (meaning.Routine at) t)
+    go None = refl
+    go (Some fault) = refl
 
-declaration_of-used : (key used spelling : List ℕ) (line : ℕ) (names : List Named) → declaration_of key (with_used used spelling line names) ≡ declaration_of key names
-declaration_of-used key used spelling line [] = go (bytes_eq key used)
+pub operands_use : OperandsUse
+operands_use n o = go (refer_fault n.bytes o.names)
   where
-    go : (t : Bool) → cond t nothing None ≡ None
-    go true = refl
-    go false = refl
-declaration_of-used key used spelling line (n ∷ names) = go (bytes_eq used n.name) (declaration_of-used key used spelling line names)
-  where
-    go : (t : Bool) → declaration_of key (with_used used spelling line names) ≡ declaration_of key names → declaration_of key (cond t (n ∷ names) (n ∷ with_used used spelling line names)) ≡ declaration_of key (n ∷ names)
-    go true later = refl
-    go false later = ap (λ o. cond (bytes_eq key n.name) (declaration_in n.standing) o) later
+    go : (r : Option ReferFault) → (used r n o).names ≡ cond (is_some r) o.names (with_used_by (found_in n.bytes o.names) n.bytes n.place o.names)
+    go None = refl
+    go (Some fault) = refl
 
-declaration_of-declared : (key new : List ℕ) (d : Declaration) (names : List Named) → declaration_of key (with_declared new d names) ≡ cond (bytes_eq key new) (Some d) (declaration_of key names)
-declaration_of-declared key new d [] = refl
-declaration_of-declared key new d (n ∷ names) = go (bytes_eq new n.name) refl (declaration_of-declared key new d names)
+-- Room for names
+
+no_fault : (e : Event) (t : Table Place) → is_full t ≡ false → is_too_many e t ≡ false
+no_fault (Declares name m place) t room = ap (λ full. is_some (name_full (declare_fault_by (found_in name t) full))) room ∙ go (found_in name t)
   where
-    go : (t : Bool) → bytes_eq new n.name ≡ t → declaration_of key (with_declared new d names) ≡ cond (bytes_eq key new) (Some d) (declaration_of key names) → declaration_of key (cond t (record { name = n.name; standing = IsDeclared d } ∷ names) (n ∷ with_declared new d names)) ≡ cond (bytes_eq key new) (Some d) (cond (bytes_eq key n.name) (declaration_in n.standing) (declaration_of key names))
+    go : (f : Found Place) → is_some (name_full (declare_fault_by f false)) ≡ false
+    go (found.System x) = refl
+    go (found.Declared x first) = refl
+    go found.Used = refl
+    go found.Unknown = refl
+no_fault (Uses name place) t room = ap (λ full. is_some (refer_fault_by (found_in name t) full)) room ∙ go (found_in name t)
+  where
+    go : (f : Found Place) → is_some (refer_fault_by f false) ≡ false
+    go (found.System x) = refl
+    go (found.Declared x first) = refl
+    go found.Used = refl
+    go found.Unknown = refl
+
+-- one name more, at most, of as many as before
+abbrev OneMore : Table Place → Table Place → Type 0
+OneMore t new = (new.limit ≡ t.limit) × (length new.names ≤ length t.names + 1)
+
+put_one : (key : List ℕ) (s : Standing Place) (names : List (Named Place)) → length (put key s names) ≤ length names + 1
+put_one key s names = go (is_some (standing_of key names)) (length-put key s names)
+  where
+    go : (known : Bool) → length (put key s names) ≡ length names + cond known 0 1 → length (put key s names) ≤ length names + 1
+    go true e = omega (arith, e)
+    go false e = omega (arith, e)
+
+one_more : (e : Event) (t : Table Place) → OneMore t (with_event e t)
+one_more (Declares name m place) t = go (is_some (declare_fault name t))
+  where
+    go : (b : Bool) → OneMore t (cond b t (with_declared name place m t))
+    go true = (refl, omega arith)
+    go false = (refl, put_one (folded name) (IsDeclared t.declared m place) t.names)
+one_more (Uses name place) t = go (is_some (refer_fault name t)) (found_in name t)
+  where
+    go : (b : Bool) (f : Found Place) → OneMore t (cond b t (with_used_by f name place t))
+    go true f = (refl, omega arith)
+    go false (found.System m) = (refl, omega arith)
+    go false (found.Declared m first) = (refl, omega arith)
+    go false found.Used = (refl, omega arith)
+    go false found.Unknown = (refl, put_one (folded name) (IsUsed name place) t.names)
+
+few_fit : (events : List Event) (t : Table Place) → length t.names + length events ≤ t.limit → HaveRoom events t
+few_fit [] t few = tt
+few_fit (e ∷ events) t few =
+    let more = one_more e t in
+    let room : length t.names < t.limit = omega (arith, few) in
+    (no_fault e t (lt-leb t.limit (length t.names) room), few_fit events (with_event e t) (omega (arith, few, more.0, more.1)))
+
+pub few_have_room : FewHaveRoom
+few_have_room limit debugging events few = few_fit events (no_names limit debugging) (omega (arith, few))
+
+-- What is found after an event
+
+standing_of-put : (key new : List ℕ) (s : Standing Place) (names : List (Named Place)) → standing_of key (put new s names) ≡ cond (bytes_eq key new) (Some s) (standing_of key names)
+standing_of-put key new s [] = refl
+standing_of-put key new s (n ∷ names) = go (bytes_eq new n.name) refl (standing_of-put key new s names)
+  where
+    go : (t : Bool) → bytes_eq new n.name ≡ t → standing_of key (put new s names) ≡ cond (bytes_eq key new) (Some s) (standing_of key names) → standing_of key (cond t (record { name = n.name; standing = s } ∷ names) (n ∷ put new s names)) ≡ cond (bytes_eq key new) (Some s) (cond (bytes_eq key n.name) (Some n.standing) (standing_of key names))
     go true e later =
-        cond-again (bytes_eq key n.name) (Some d) (declaration_in n.standing) (declaration_of key names)
-        ∙ ap (λ k. cond (bytes_eq key k) (Some d) (cond (bytes_eq key n.name) (declaration_in n.standing) (declaration_of key names))) (sym (same_key new n.name e))
+        cond-again (bytes_eq key n.name) (Some s) (Some n.standing) (standing_of key names)
+        ∙ ap (λ k. cond (bytes_eq key k) (Some s) (cond (bytes_eq key n.name) (Some n.standing) (standing_of key names))) (sym (same_key new n.name e))
     go false e later =
-        ap (λ o. cond (bytes_eq key n.name) (declaration_in n.standing) o) later
-        ∙ cond-swap (bytes_eq key n.name) (bytes_eq key new) (declaration_in n.standing) (Some d) (declaration_of key names)
+        ap (λ o. cond (bytes_eq key n.name) (Some n.standing) o) later
+        ∙ cond-swap (bytes_eq key n.name) (bytes_eq key new) (Some n.standing) (Some s) (standing_of key names)
         (λ a b. let same : new ≡ n.name = sym (same_key key new b) ∙ same_key key n.name a in
         let never : true ≡ false = sym (key_same new n.name same) ∙ e in cc)
 
-declared_then : (events : List Event) (name : List ℕ) (names : List Named) → declaration_of (folded name) (with_events events names) ≡ either (declaration_of (folded name) names) (first_declaration name events)
-declared_then [] name names = sym (either-none (declaration_of (folded name) names))
-declared_then (Uses other line ∷ events) name names =
-    declared_then events name (with_used (folded other) other line names)
-    ∙ ap (λ o. either o (first_declaration name events)) (declaration_of-used (folded name) (folded other) other line names)
-declared_then (Declares other d ∷ events) name names = declared_then events name (with_event (Declares other d) names) ∙ go (is_some (declaration_of (folded other) names)) refl
+-- the language has a name in any case
+system_same : (debugging : Bool) (a b : List ℕ) → folded a ≡ folded b → system_meaning debugging a ≡ system_meaning debugging b
+system_same debugging a b e = ap (λ k. meaning_if debugging (find (λ known. bytes_eq k (folded (name_of known))) system_names)) e
+
+found_same : (a b : List ℕ) (t : Table Place) → folded a ≡ folded b → found_in a t ≡ found_in b t
+found_same a b t e =
+    ap (λ m. found_as m (standing_of (folded a) t.names)) (system_same t.is_debugging a b e)
+    ∙ ap (λ k. found_as (system_meaning t.is_debugging b) (standing_of k t.names)) e
+
+-- what is found of a name, after it was declared, and after it was used, or another one
+abbrev behind_declared : Bool → Meaning → Place → Found Place → Found Place
+behind_declared same m place (found.System x) = found.System x
+behind_declared same m place (found.Declared x first) = found.Declared x first
+behind_declared same m place found.Used = cond same (found.Declared m place) found.Used
+behind_declared same m place found.Unknown = cond same (found.Declared m place) found.Unknown
+
+abbrev behind_used : Bool → Found Place → Found Place
+behind_used same (found.System x) = found.System x
+behind_used same (found.Declared x first) = found.Declared x first
+behind_used same found.Used = found.Used
+behind_used same found.Unknown = cond same found.Used found.Unknown
+
+abbrev behind_event : List ℕ → Event → Found Place → Found Place
+behind_event name (Declares other m place) f = behind_declared (bytes_eq (folded name) (folded other)) m place f
+behind_event name (Uses other place) f = behind_used (bytes_eq (folded name) (folded other)) f
+
+other_declared : (m : Meaning) (place : Place) (f : Found Place) → behind_declared false m place f ≡ f
+other_declared m place (found.System x) = refl
+other_declared m place (found.Declared x first) = refl
+other_declared m place found.Used = refl
+other_declared m place found.Unknown = refl
+
+other_used : (f : Found Place) → behind_used false f ≡ f
+other_used (found.System x) = refl
+other_used (found.Declared x first) = refl
+other_used found.Used = refl
+other_used found.Unknown = refl
+
+-- what is known of one name leaves another as it is
+found-other : (name other : List ℕ) (s : Standing Place) (t : Table Place) → bytes_eq (folded name) (folded other) ≡ false → found_as (system_meaning t.is_debugging name) (standing_of (folded name) (put (folded other) s t.names)) ≡ found_in name t
+found-other name other s t e =
+    ap (found_as (system_meaning t.is_debugging name)) (standing_of-put (folded name) (folded other) s t.names ∙ ap (λ b. cond b (Some s) (standing_of (folded name) t.names)) e)
+
+found-put : (name other : List ℕ) (s : Standing Place) (t : Table Place) → bytes_eq (folded name) (folded other) ≡ true → found_as (system_meaning t.is_debugging name) (standing_of (folded name) (put (folded other) s t.names)) ≡ found_as (system_meaning t.is_debugging name) (Some s)
+found-put name other s t e =
+    ap (found_as (system_meaning t.is_debugging name)) (standing_of-put (folded name) (folded other) s t.names ∙ ap (λ b. cond b (Some s) (standing_of (folded name) t.names)) e)
+
+declared_behind : (name other : List ℕ) (m : Meaning) (place : Place) (t : Table Place) → is_too_many (Declares other m place) t ≡ false → found_in name (with_event (Declares other m place) t) ≡ behind_event name (Declares other m place) (found_in name t)
+declared_behind name other m place t room = go (bytes_eq (folded name) (folded other)) refl
   where
-    known : (b : Bool) → bytes_eq (folded name) (folded other) ≡ b → is_some (declaration_of (folded other) names) ≡ true → either (declaration_of (folded name) names) (first_declaration name events) ≡ either (declaration_of (folded name) names) (cond b (Some d) (first_declaration name events))
-    known true same is =
-        either-some (declaration_of (folded name) names) (first_declaration name events) (Some d)
-        (ap (λ k. is_some (declaration_of k names)) (same_key (folded name) (folded other) same) ∙ is)
-    known false same is = refl
+    new : Standing Place
+    new = IsDeclared t.declared m place
 
-    unknown : (b : Bool) → bytes_eq (folded name) (folded other) ≡ b → is_some (declaration_of (folded other) names) ≡ false → either (cond b (Some d) (declaration_of (folded name) names)) (first_declaration name events) ≡ either (declaration_of (folded name) names) (cond b (Some d) (first_declaration name events))
-    unknown true same is =
-        ap (λ o. either o (Some d)) (sym (is_none (declaration_of (folded name) names) (ap (λ k. is_some (declaration_of k names)) (same_key (folded name) (folded other) same) ∙ is)))
-    unknown false same is = refl
+    apart : (b : Bool) → bytes_eq (folded name) (folded other) ≡ false → found_in name (cond b t (with_declared other place m t)) ≡ found_in name t
+    apart true e = refl
+    apart false e = found-other name other new t e
 
-    go : (t : Bool) → is_some (declaration_of (folded other) names) ≡ t → either (declaration_of (folded name) (cond t names (with_declared (folded other) d names))) (first_declaration name events) ≡ either (declaration_of (folded name) names) (cond (bytes_eq (folded name) (folded other)) (Some d) (first_declaration name events))
-    go true is = known (bytes_eq (folded name) (folded other)) refl is
-    go false is =
-        ap (λ o. either o (first_declaration name events)) (declaration_of-declared (folded name) (folded other) d names)
-        ∙ unknown (bytes_eq (folded name) (folded other)) refl is
+    same : (f : Found Place) (full : Bool) → found_in name t ≡ f → bytes_eq (folded name) (folded other) ≡ true → is_some (name_full (declare_fault_by f full)) ≡ false → found_in name (cond (is_some (declare_fault_by f full)) t (with_declared other place m t)) ≡ behind_declared true m place f
+    same (found.System x) full is e room = is
+    same (found.Declared x first) full is e room = is
+    same found.Used full is e room = found-put name other new t e
+    same found.Unknown true is e room = cc
+    same found.Unknown false is e room = found-put name other new t e
+
+    go : (b : Bool) → bytes_eq (folded name) (folded other) ≡ b → found_in name (with_event (Declares other m place) t) ≡ behind_declared b m place (found_in name t)
+    go false e = apart (is_some (declare_fault other t)) e ∙ sym (other_declared m place (found_in name t))
+    go true e =
+        let alike = found_same name other t (same_key (folded name) (folded other) e) in
+        same (found_in other t) (is_full t) alike e room ∙ ap (behind_declared true m place) (sym alike)
+
+used_behind : (name other : List ℕ) (place : Place) (t : Table Place) → is_too_many (Uses other place) t ≡ false → found_in name (with_event (Uses other place) t) ≡ behind_event name (Uses other place) (found_in name t)
+used_behind name other place t room = go (bytes_eq (folded name) (folded other)) refl
+  where
+    new : Standing Place
+    new = IsUsed other place
+
+    apart : (b : Bool) (f : Found Place) → bytes_eq (folded name) (folded other) ≡ false → found_in name (cond b t (with_used_by f other place t)) ≡ found_in name t
+    apart true f e = refl
+    apart false (found.System x) e = refl
+    apart false (found.Declared x first) e = refl
+    apart false found.Used e = refl
+    apart false found.Unknown e = found-other name other new t e
+
+    same : (f : Found Place) (full : Bool) → found_in name t ≡ f → bytes_eq (folded name) (folded other) ≡ true → is_some (refer_fault_by f full) ≡ false → found_in name (cond (is_some (refer_fault_by f full)) t (with_used_by f other place t)) ≡ behind_used true f
+    same (found.System x) full is e room = is
+    same (found.Declared x first) full is e room = is
+    same found.Used full is e room = is
+    same found.Unknown true is e room = cc
+    same found.Unknown false is e room = found-put name other new t e
+
+    go : (b : Bool) → bytes_eq (folded name) (folded other) ≡ b → found_in name (with_event (Uses other place) t) ≡ behind_used b (found_in name t)
+    go false e = apart (is_some (refer_fault other t)) (found_in other t) e ∙ sym (other_used (found_in name t))
+    go true e =
+        let alike = found_same name other t (same_key (folded name) (folded other) e) in
+        same (found_in other t) (is_full t) alike e room ∙ ap (behind_used true) (sym alike)
+
+found_behind : (name : List ℕ) (e : Event) (t : Table Place) → is_too_many e t ≡ false → found_in name (with_event e t) ≡ behind_event name e (found_in name t)
+found_behind name (Declares other m place) t room = declared_behind name other m place t room
+found_behind name (Uses other place) t room = used_behind name other place t room
+
+-- What is found after some events
+
+-- The names are those of these events.
+abbrev AreOf : Bool → List Event → Table Place → Type 0
+AreOf debugging before t =
+    (name : List ℕ) → found_in name t ≡ stands_for (system_meaning debugging name) (first_declaration name before) (list_any (uses name) before)
+
+any-append : (test : Event → Bool) (before more : List Event) → list_any test (before ++ more) ≡ (list_any test before || list_any test more)
+any-append test [] more = refl
+any-append test (e ∷ before) more = ap (λ b. test e || b) (any-append test before more) ∙ or-assoc (test e) (list_any test before) (list_any test more)
+
+first-append : (name : List ℕ) (before more : List Event) → first_declaration name (before ++ more) ≡ either (first_declaration name before) (first_declaration name more)
+first-append name [] more = refl
+first-append name (Uses other place ∷ before) more = first-append name before more
+first-append name (Declares other m place ∷ before) more = go (bytes_eq (folded name) (folded other)) (first-append name before more)
+  where
+    go : (b : Bool) → first_declaration name (before ++ more) ≡ either (first_declaration name before) (first_declaration name more) → cond b (Some (m, place)) (first_declaration name (before ++ more)) ≡ either (cond b (Some (m, place)) (first_declaration name before)) (first_declaration name more)
+    go true later = refl
+    go false later = later
+
+-- what a name stands for after one event more
+stands_behind : (name : List ℕ) (e : Event) (system : Option Meaning) (first : Option (Meaning × Place)) (is_used : Bool) → behind_event name e (stands_for system first is_used) ≡ stands_for system (either first (first_declaration name (e ∷ []))) (is_used || list_any (uses name) (e ∷ []))
+stands_behind name (Declares other m place) system first is_used = go system first is_used (bytes_eq (folded name) (folded other))
+  where
+    go : (system : Option Meaning) (first : Option (Meaning × Place)) (is_used same : Bool) → behind_declared same m place (stands_for system first is_used) ≡ stands_for system (either first (cond same (Some (m, place)) None)) (is_used || false)
+    go (Some x) first is_used same = refl
+    go None (Some d) is_used same = refl
+    go None None true true = refl
+    go None None true false = refl
+    go None None false true = refl
+    go None None false false = refl
+stands_behind name (Uses other place) system first is_used = go system first is_used (bytes_eq (folded name) (folded other))
+  where
+    go : (system : Option Meaning) (first : Option (Meaning × Place)) (is_used same : Bool) → behind_used same (stands_for system first is_used) ≡ stands_for system (either first None) (is_used || (same || false))
+    go (Some x) first is_used same = refl
+    go None (Some d) is_used same = refl
+    go None None true same = refl
+    go None None false true = refl
+    go None None false false = refl
+
+are_of-event : (debugging : Bool) (e : Event) (before : List Event) (t : Table Place) → is_too_many e t ≡ false → AreOf debugging before t → AreOf debugging (before ++ e ∷ []) (with_event e t)
+are_of-event debugging e before t room of name =
+    let system = system_meaning debugging name in
+    found_behind name e t room
+    ∙ ap (behind_event name e) (of name)
+    ∙ stands_behind name e system (first_declaration name before) (list_any (uses name) before)
+    ∙ ap (λ d. stands_for system d (list_any (uses name) before || list_any (uses name) (e ∷ []))) (sym (first-append name before (e ∷ [])))
+    ∙ ap (stands_for system (first_declaration name (before ++ e ∷ []))) (sym (any-append (uses name) before (e ∷ [])))
+
+are_of-events : (debugging : Bool) (events before : List Event) (t : Table Place) → HaveRoom events t → AreOf debugging before t → AreOf debugging (before ++ events) (with_events events t)
+are_of-events debugging [] before t room of = subst (λ es. AreOf debugging es t) (sym (append-nil before)) of
+are_of-events debugging (e ∷ events) before t room of =
+    subst (λ es. AreOf debugging es (with_events events (with_event e t))) (append_assoc before (e ∷ []) events)
+    (are_of-events debugging events (before ++ e ∷ []) (with_event e t) room.1 (are_of-event debugging e before t room.0 of))
+
+nothing_known : (limit : ℕ) (debugging : Bool) → AreOf debugging [] (no_names limit debugging)
+nothing_known limit debugging name = go (system_meaning debugging name)
+  where
+    go : (system : Option Meaning) → found_as system None ≡ stands_for system None false
+    go None = refl
+    go (Some m) = refl
 
 pub first_declarations_count : FirstDeclarationsCount
-first_declarations_count events name = declared_then events name []
-
-pub headers_declare : HeadersDeclare
-headers_declare name place names = system (is_system_name name.bytes)
-  where
-    known : (o : Option Declaration) → with_name (folded name.bytes) name place (declared_fault name o) names ≡ cond (is_some o) names (with_declared (folded name.bytes) (record { line = name.line; place = place }) names)
-    known None = refl
-    known (Some d) = refl
-
-    system : (b : Bool) → with_name (folded name.bytes) name place (cond b (Some (record { line = name.line; message = SystemName name.bytes })) (declared_fault name (declaration_of (folded name.bytes) names))) names ≡ cond b names (with_event (Declares name.bytes (record { line = name.line; place = place })) names)
-    system true = refl
-    system false = known (declaration_of (folded name.bytes) names)
-
-pub operands_use : OperandsUse
-operands_use n o = refl
+first_declarations_count limit debugging events name room =
+    are_of-events debugging events [] (no_names limit debugging) room (nothing_known limit debugging) name
 
 -- Undeclared names
 
 -- the uses that the names are
-abbrev use_in : Standing → List Use
-use_in (IsDeclared d) = []
-use_in (IsUsed spelling line) = record { name = spelling; line = line } ∷ []
+abbrev use_in : Standing Place → List Use
+use_in (IsDeclared number m place) = []
+use_in (IsUsed spelling place) = record { name = spelling; place = place } ∷ []
 
-abbrev used_of : List Named → List Use
+abbrev use_at : Option (Standing Place) → List Use
+use_at None = []
+use_at (Some s) = use_in s
+
+abbrev used_of : List (Named Place) → List Use
 used_of [] = []
 used_of (n ∷ names) = use_in n.standing ++ used_of names
 
-told : (file : List ℕ) (names : List Named) (r : Reported) → with_all_undeclared file names r ≡ with_uses_told file (used_of names) r
-told file [] r = refl
-told file (n ∷ names) r = go n.standing (told file names)
+told : (files : FileNames) (names : List (Named Place)) (r : Reported) → with_all_undeclared files names r ≡ with_uses_told files (used_of names) r
+told files [] r = refl
+told files (n ∷ names) r = go n.standing (told files names)
   where
-    go : (standing : Standing) → ((r : Reported) → with_all_undeclared file names r ≡ with_uses_told file (used_of names) r) → with_all_undeclared file names (with_undeclared file standing r) ≡ with_uses_told file (use_in standing ++ used_of names) r
-    go (IsDeclared d) later = later r
-    go (IsUsed spelling line) later = later (with_error file line line (Undeclared spelling) r)
+    go : (s : Standing Place) → ((r : Reported) → with_all_undeclared files names r ≡ with_uses_told files (used_of names) r) → with_all_undeclared files names (with_undeclared files s r) ≡ with_uses_told files (use_in s ++ used_of names) r
+    go (IsDeclared number m place) later = later r
+    go (IsUsed spelling place) later = later (with_error (location files place) (location files place) (Undeclared spelling) r)
 
-abbrev has : List ℕ → List Named → Bool
+abbrev has : List ℕ → List (Named Place) → Bool
 has key names = list_any (λ n. bytes_eq key n.name) names
 
 -- a used name stands under its spelling without case
-abbrev IsKeyed : List ℕ → Standing → Type 0
-IsKeyed key (IsDeclared d) = Unit {0}
-IsKeyed key (IsUsed spelling line) = folded spelling ≡ key
+abbrev IsKeyed : List ℕ → Standing Place → Type 0
+IsKeyed key (IsDeclared number m place) = Unit {0}
+IsKeyed key (IsUsed spelling place) = folded spelling ≡ key
 
 -- each name stands there once
-abbrev Sound : List Named → Type 0
+abbrev Sound : List (Named Place) → Type 0
 Sound [] = Unit {0}
 Sound (n ∷ names) = (has n.name names ≡ false) × IsKeyed n.name n.standing × Sound names
 
-has-declared : (key new : List ℕ) (d : Declaration) (names : List Named) → has key (with_declared new d names) ≡ (has key names || bytes_eq key new)
-has-declared key new d [] = or-false (bytes_eq key new)
-has-declared key new d (n ∷ names) = go (bytes_eq new n.name) refl (has-declared key new d names)
+has-put : (key new : List ℕ) (s : Standing Place) (names : List (Named Place)) → has key (put new s names) ≡ (has key names || bytes_eq key new)
+has-put key new s [] = or-false (bytes_eq key new)
+has-put key new s (n ∷ names) = go (bytes_eq new n.name) refl (has-put key new s names)
   where
-    go : (t : Bool) → bytes_eq new n.name ≡ t → has key (with_declared new d names) ≡ (has key names || bytes_eq key new) → has key (cond t (record { name = n.name; standing = IsDeclared d } ∷ names) (n ∷ with_declared new d names)) ≡ ((bytes_eq key n.name || has key names) || bytes_eq key new)
+    go : (t : Bool) → bytes_eq new n.name ≡ t → has key (put new s names) ≡ (has key names || bytes_eq key new) → has key (cond t (record { name = n.name; standing = s } ∷ names) (n ∷ put new s names)) ≡ ((bytes_eq key n.name || has key names) || bytes_eq key new)
     go true e later = or-known (bytes_eq key n.name || has key names) (bytes_eq key new) (λ is. or_left (bytes_eq key n.name) (has key names) (key_same key n.name (same_key key new is ∙ same_key new n.name e)))
     go false e later = ap (λ b. bytes_eq key n.name || b) later ∙ or-assoc (bytes_eq key n.name) (has key names) (bytes_eq key new)
 
-has-used : (key new spelling : List ℕ) (line : ℕ) (names : List Named) → has key (with_used new spelling line names) ≡ (has key names || bytes_eq key new)
-has-used key new spelling line [] = or-false (bytes_eq key new)
-has-used key new spelling line (n ∷ names) = go (bytes_eq new n.name) refl (has-used key new spelling line names)
+sound-put : (new : List ℕ) (s : Standing Place) (names : List (Named Place)) → IsKeyed new s → Sound names → Sound (put new s names)
+sound-put new s [] keyed sound = (refl, keyed, tt)
+sound-put new s (n ∷ names) keyed sound = go (bytes_eq new n.name) refl (sound-put new s names keyed sound.2)
   where
-    go : (t : Bool) → bytes_eq new n.name ≡ t → has key (with_used new spelling line names) ≡ (has key names || bytes_eq key new) → has key (cond t (n ∷ names) (n ∷ with_used new spelling line names)) ≡ ((bytes_eq key n.name || has key names) || bytes_eq key new)
-    go true e later = or-known (bytes_eq key n.name || has key names) (bytes_eq key new) (λ is. or_left (bytes_eq key n.name) (has key names) (key_same key n.name (same_key key new is ∙ same_key new n.name e)))
-    go false e later = ap (λ b. bytes_eq key n.name || b) later ∙ or-assoc (bytes_eq key n.name) (has key names) (bytes_eq key new)
-
-sound-declared : (new : List ℕ) (d : Declaration) (names : List Named) → Sound names → Sound (with_declared new d names)
-sound-declared new d [] sound = (refl, tt, tt)
-sound-declared new d (n ∷ names) sound = go (bytes_eq new n.name) refl (sound-declared new d names sound.2)
-  where
-    go : (t : Bool) → bytes_eq new n.name ≡ t → Sound (with_declared new d names) → Sound (cond t (record { name = n.name; standing = IsDeclared d } ∷ names) (n ∷ with_declared new d names))
-    go true e later = (sound.0, tt, sound.2)
+    go : (t : Bool) → bytes_eq new n.name ≡ t → Sound (put new s names) → Sound (cond t (record { name = n.name; standing = s } ∷ names) (n ∷ put new s names))
+    go true e later = (sound.0, subst (λ k. IsKeyed k s) (same_key new n.name e) keyed, sound.2)
     go false e later =
-        (has-declared n.name new d names ∙ or_from (has n.name names) (bytes_eq n.name new) sound.0 (bytes_eq-sym n.name new ∙ e), sound.1, later)
+        (has-put n.name new s names ∙ or_from (has n.name names) (bytes_eq n.name new) sound.0 (bytes_eq-sym n.name new ∙ e), sound.1, later)
 
-sound-used : (spelling : List ℕ) (line : ℕ) (names : List Named) → Sound names → Sound (with_used (folded spelling) spelling line names)
-sound-used spelling line [] sound = (refl, refl, tt)
-sound-used spelling line (n ∷ names) sound = go (bytes_eq (folded spelling) n.name) refl (sound-used spelling line names sound.2)
+sound-event : (e : Event) (t : Table Place) → Sound t.names → Sound (with_event e t).names
+sound-event (Declares name m place) t sound = go (is_some (declare_fault name t))
   where
-    go : (t : Bool) → bytes_eq (folded spelling) n.name ≡ t → Sound (with_used (folded spelling) spelling line names) → Sound (cond t (n ∷ names) (n ∷ with_used (folded spelling) spelling line names))
-    go true e later = sound
-    go false e later =
-        (has-used n.name (folded spelling) spelling line names ∙ or_from (has n.name names) (bytes_eq n.name (folded spelling)) sound.0 (bytes_eq-sym n.name (folded spelling) ∙ e), sound.1, later)
-
-sound-event : (e : Event) (names : List Named) → Sound names → Sound (with_event e names)
-sound-event (Uses name line) names sound = sound-used name line names sound
-sound-event (Declares name d) names sound = go (is_some (declaration_of (folded name) names))
-  where
-    go : (t : Bool) → Sound (cond t names (with_declared (folded name) d names))
+    go : (b : Bool) → Sound (cond b t (with_declared name place m t)).names
     go true = sound
-    go false = sound-declared (folded name) d names sound
+    go false = sound-put (folded name) (IsDeclared t.declared m place) t.names tt sound
+sound-event (Uses name place) t sound = go (is_some (refer_fault name t)) (found_in name t)
+  where
+    go : (b : Bool) (f : Found Place) → Sound (cond b t (with_used_by f name place t)).names
+    go true f = sound
+    go false (found.System m) = sound
+    go false (found.Declared m first) = sound
+    go false found.Used = sound
+    go false found.Unknown = sound-put (folded name) (IsUsed name place) t.names refl sound
 
 -- the uses of other names
 abbrev others : List ℕ → List Use → List Use
 others key us = filter (λ u. not (bytes_eq (folded u.name) key)) us
 
 -- one use more in front, of another name
-others-keep : (key name : List ℕ) (standing : Standing) (us : List Use) → IsKeyed name standing → bytes_eq key name ≡ false → others key us ≡ us → others key (use_in standing ++ us) ≡ use_in standing ++ us
-others-keep key name (IsDeclared d) us keyed other later = later
-others-keep key name (IsUsed spelling line) us keyed other later =
-    ap (λ k. cond (not (bytes_eq k key)) (record { name = spelling; line = line } ∷ others key us) (others key us)) keyed
-    ∙ ap (λ b. cond (not b) (record { name = spelling; line = line } ∷ others key us) (others key us)) (bytes_eq-sym name key ∙ other)
-    ∙ ap (λ rest. record { name = spelling; line = line } ∷ rest) later
-
-others-split : (key name : List ℕ) (standing : Standing) (us : List Use) → IsKeyed name standing → bytes_eq key name ≡ false → others key (use_in standing ++ us) ≡ use_in standing ++ others key us
-others-split key name (IsDeclared d) us keyed other = refl
-others-split key name (IsUsed spelling line) us keyed other =
-    ap (λ k. cond (not (bytes_eq k key)) (record { name = spelling; line = line } ∷ others key us) (others key us)) keyed
-    ∙ ap (λ b. cond (not b) (record { name = spelling; line = line } ∷ others key us) (others key us)) (bytes_eq-sym name key ∙ other)
+others-split : (key name : List ℕ) (s : Standing Place) (us : List Use) → IsKeyed name s → bytes_eq key name ≡ false → others key (use_in s ++ us) ≡ use_in s ++ others key us
+others-split key name (IsDeclared number m place) us keyed other = refl
+others-split key name (IsUsed spelling place) us keyed other =
+    ap (λ k. cond (not (bytes_eq k key)) (record { name = spelling; place = place } ∷ others key us) (others key us)) keyed
+    ∙ ap (λ b. cond (not b) (record { name = spelling; place = place } ∷ others key us) (others key us)) (bytes_eq-sym name key ∙ other)
 
 -- one use more in front, of this name
-others-drop : (key name : List ℕ) (standing : Standing) (us : List Use) → IsKeyed name standing → bytes_eq key name ≡ true → others key (use_in standing ++ us) ≡ others key us
-others-drop key name (IsDeclared d) us keyed same = refl
-others-drop key name (IsUsed spelling line) us keyed same =
-    ap (λ k. cond (not (bytes_eq k key)) (record { name = spelling; line = line } ∷ others key us) (others key us)) keyed
-    ∙ ap (λ b. cond (not b) (record { name = spelling; line = line } ∷ others key us) (others key us)) (bytes_eq-sym name key ∙ same)
+others-drop : (key name : List ℕ) (s : Standing Place) (us : List Use) → IsKeyed name s → bytes_eq key name ≡ true → others key (use_in s ++ us) ≡ others key us
+others-drop key name (IsDeclared number m place) us keyed same = refl
+others-drop key name (IsUsed spelling place) us keyed same =
+    ap (λ k. cond (not (bytes_eq k key)) (record { name = spelling; place = place } ∷ others key us) (others key us)) keyed
+    ∙ ap (λ b. cond (not b) (record { name = spelling; place = place } ∷ others key us) (others key us)) (bytes_eq-sym name key ∙ same)
 
-others-absent : (key : List ℕ) (names : List Named) → Sound names → has key names ≡ false → others key (used_of names) ≡ used_of names
+others-absent : (key : List ℕ) (names : List (Named Place)) → Sound names → has key names ≡ false → others key (used_of names) ≡ used_of names
 others-absent key [] sound is = refl
 others-absent key (n ∷ names) sound is =
     let parts = or_parts (bytes_eq key n.name) (has key names) is in
-    others-keep key n.name n.standing (used_of names) sound.1 parts.0 (others-absent key names sound.2 parts.1)
+    others-split key n.name n.standing (used_of names) sound.1 parts.0 ∙ ap (λ u. use_in n.standing ++ u) (others-absent key names sound.2 parts.1)
 
 -- where this name stands first, it stands nowhere else
-others-behind : (key : List ℕ) (n : Named) (names : List Named) → Sound (n ∷ names) → bytes_eq key n.name ≡ true → others key (used_of names) ≡ used_of names
+others-behind : (key : List ℕ) (n : Named Place) (names : List (Named Place)) → Sound (n ∷ names) → bytes_eq key n.name ≡ true → others key (used_of names) ≡ used_of names
 others-behind key n names sound same = others-absent key names sound.2 (ap (λ k. has k names) (same_key key n.name same) ∙ sound.0)
 
-declared_is_no_use : (standing : Standing) → is_some (declaration_in standing) ≡ true → use_in standing ≡ []
-declared_is_no_use (IsDeclared d) is = refl
-declared_is_no_use (IsUsed spelling line) is = cc
-
-used_of-known : (key : List ℕ) (names : List Named) → Sound names → is_some (declaration_of key names) ≡ true → used_of names ≡ others key (used_of names)
+-- a name that is no use
+used_of-known : (key : List ℕ) (names : List (Named Place)) → Sound names → use_at (standing_of key names) ≡ [] → used_of names ≡ others key (used_of names)
 used_of-known key [] sound is = refl
 used_of-known key (n ∷ names) sound is = go (bytes_eq key n.name) refl is (used_of-known key names sound.2)
   where
-    go : (t : Bool) → bytes_eq key n.name ≡ t → is_some (cond t (declaration_in n.standing) (declaration_of key names)) ≡ true → (is_some (declaration_of key names) ≡ true → used_of names ≡ others key (used_of names)) → use_in n.standing ++ used_of names ≡ others key (use_in n.standing ++ used_of names)
+    go : (t : Bool) → bytes_eq key n.name ≡ t → use_at (cond t (Some n.standing) (standing_of key names)) ≡ [] → (use_at (standing_of key names) ≡ [] → used_of names ≡ others key (used_of names)) → use_in n.standing ++ used_of names ≡ others key (use_in n.standing ++ used_of names)
     go true e is later =
-        ap (λ u. u ++ used_of names) (declared_is_no_use n.standing is)
+        ap (λ u. u ++ used_of names) is
         ∙ sym (others-behind key n names sound e)
         ∙ sym (others-drop key n.name n.standing (used_of names) sound.1 e)
     go false e is later = ap (λ u. use_in n.standing ++ u) (later is) ∙ sym (others-split key n.name n.standing (used_of names) sound.1 e)
 
-used_of-declared : (key : List ℕ) (d : Declaration) (names : List Named) → Sound names → used_of (with_declared key d names) ≡ others key (used_of names)
-used_of-declared key d [] sound = refl
-used_of-declared key d (n ∷ names) sound = go (bytes_eq key n.name) refl (used_of-declared key d names sound.2)
+used_of-declared : (key : List ℕ) (number : ℕ) (m : Meaning) (place : Place) (names : List (Named Place)) → Sound names → used_of (put key (IsDeclared number m place) names) ≡ others key (used_of names)
+used_of-declared key number m place [] sound = refl
+used_of-declared key number m place (n ∷ names) sound = go (bytes_eq key n.name) refl (used_of-declared key number m place names sound.2)
   where
-    go : (t : Bool) → bytes_eq key n.name ≡ t → used_of (with_declared key d names) ≡ others key (used_of names) → used_of (cond t (record { name = n.name; standing = IsDeclared d } ∷ names) (n ∷ with_declared key d names)) ≡ others key (use_in n.standing ++ used_of names)
+    go : (t : Bool) → bytes_eq key n.name ≡ t → used_of (put key (IsDeclared number m place) names) ≡ others key (used_of names) → used_of (cond t (record { name = n.name; standing = IsDeclared number m place } ∷ names) (n ∷ put key (IsDeclared number m place) names)) ≡ others key (use_in n.standing ++ used_of names)
     go true e later = sym (others-behind key n names sound e) ∙ sym (others-drop key n.name n.standing (used_of names) sound.1 e)
     go false e later = ap (λ u. use_in n.standing ++ u) later ∙ sym (others-split key n.name n.standing (used_of names) sound.1 e)
 
-used_of-declaring : (name : List ℕ) (d : Declaration) (names : List Named) → Sound names → used_of (with_event (Declares name d) names) ≡ others (folded name) (used_of names)
-used_of-declaring name d names sound = go (is_some (declaration_of (folded name) names)) refl
+used_of-declaring : (name : List ℕ) (m : Meaning) (place : Place) (t : Table Place) → Sound t.names → used_of (with_event (Declares name m place) t).names ≡ others (folded name) (used_of t.names)
+used_of-declaring name m place t sound = go (system_meaning t.is_debugging name) (standing_of (folded name) t.names) (is_full t) refl
   where
-    go : (t : Bool) → is_some (declaration_of (folded name) names) ≡ t → used_of (cond t names (with_declared (folded name) d names)) ≡ others (folded name) (used_of names)
-    go true is = used_of-known (folded name) names sound is
-    go false is = used_of-declared (folded name) d names sound
+    declared : used_of (with_declared name place m t).names ≡ others (folded name) (used_of t.names)
+    declared = used_of-declared (folded name) t.declared m place t.names sound
 
-used_of-using : (key spelling : List ℕ) (line : ℕ) (names : List Named) → used_of (with_used key spelling line names) ≡ used_of names ++ cond (has key names) [] (record { name = spelling; line = line } ∷ [])
-used_of-using key spelling line [] = refl
-used_of-using key spelling line (n ∷ names) = go (bytes_eq key n.name) (used_of-using key spelling line names)
+    none : (s : Option (Standing Place)) → standing_of (folded name) t.names ≡ s → use_at s ≡ [] → used_of t.names ≡ others (folded name) (used_of t.names)
+    none s is no_use = used_of-known (folded name) t.names sound (ap use_at is ∙ no_use)
+
+    go : (system : Option Meaning) (s : Option (Standing Place)) (full : Bool) → standing_of (folded name) t.names ≡ s → used_of (cond (is_some (declare_fault_by (found_as system s) full)) t (with_declared name place m t)).names ≡ others (folded name) (used_of t.names)
+    go system (Some (IsDeclared number x first)) full is = none (Some (IsDeclared number x first)) is refl
+    go system (Some (IsUsed spelling first)) full is = declared
+    go (Some x) None full is = none None is refl
+    go None None true is = none None is refl
+    go None None false is = declared
+
+-- a name that is put behind all others
+used_of-put : (key : List ℕ) (s : Standing Place) (names : List (Named Place)) → is_some (standing_of key names) ≡ false → used_of (put key s names) ≡ used_of names ++ use_in s
+used_of-put key s [] is = append-nil (use_in s)
+used_of-put key s (n ∷ names) is = go (bytes_eq key n.name) is (used_of-put key s names)
   where
-    go : (t : Bool) → used_of (with_used key spelling line names) ≡ used_of names ++ cond (has key names) [] (record { name = spelling; line = line } ∷ []) → used_of (cond t (n ∷ names) (n ∷ with_used key spelling line names)) ≡ use_in n.standing ++ used_of names ++ cond (t || has key names) [] (record { name = spelling; line = line } ∷ [])
-    go true later = sym (append-nil (use_in n.standing ++ used_of names))
-    go false later =
-        ap (λ u. use_in n.standing ++ u) later
-        ∙ sym (append_assoc (use_in n.standing) (used_of names) (cond (has key names) [] (record { name = spelling; line = line } ∷ [])))
+    go : (t : Bool) → is_some (cond t (Some n.standing) (standing_of key names)) ≡ false → (is_some (standing_of key names) ≡ false → used_of (put key s names) ≡ used_of names ++ use_in s) → used_of (cond t (record { name = n.name; standing = s } ∷ names) (n ∷ put key s names)) ≡ (use_in n.standing ++ used_of names) ++ use_in s
+    go true is later = cc
+    go false is later =
+        ap (λ u. use_in n.standing ++ u) (later is) ∙ sym (append_assoc (use_in n.standing) (used_of names) (use_in s))
+
+abbrev is_unknown : Found Place → Bool
+is_unknown found.Unknown = true
+is_unknown _ = false
+
+abbrev one_use : List ℕ → Place → List Use
+one_use name place = record { name = name; place = place } ∷ []
+
+used_of-using : (name : List ℕ) (place : Place) (t : Table Place) → is_too_many (Uses name place) t ≡ false → used_of (with_event (Uses name place) t).names ≡ used_of t.names ++ cond (is_unknown (found_in name t)) (one_use name place) []
+used_of-using name place t room = go (system_meaning t.is_debugging name) (standing_of (folded name) t.names) (is_full t) refl room
+  where
+    as_it_was : used_of t.names ≡ used_of t.names ++ []
+    as_it_was = sym (append-nil (used_of t.names))
+
+    go : (system : Option Meaning) (s : Option (Standing Place)) (full : Bool) → standing_of (folded name) t.names ≡ s → is_some (refer_fault_by (found_as system s) full) ≡ false → used_of (cond (is_some (refer_fault_by (found_as system s) full)) t (with_used_by (found_as system s) name place t)).names ≡ used_of t.names ++ cond (is_unknown (found_as system s)) (one_use name place) []
+    go system (Some (IsDeclared number m first)) full is room = as_it_was
+    go system (Some (IsUsed spelling first)) full is room = as_it_was
+    go (Some m) None full is room = as_it_was
+    go None None true is room = cc
+    go None None false is room = used_of-put (folded name) (IsUsed name place) t.names (ap is_some is)
 
 -- the uses that are left, since none of these events declares them
 abbrev left : List Event → List Use → List Use
@@ -242,99 +445,77 @@ all_left : (us : List Use) → left [] us ≡ us
 all_left [] = refl
 all_left (u ∷ us) = ap (λ rest. u ∷ rest) (all_left us)
 
-left-others : (name : List ℕ) (d : Declaration) (events : List Event) (us : List Use) → left events (others (folded name) us) ≡ left (Declares name d ∷ events) us
-left-others name d events [] = refl
-left-others name d events (u ∷ us) = go (bytes_eq (folded u.name) (folded name)) (left-others name d events us)
+left-others : (name : List ℕ) (m : Meaning) (place : Place) (events : List Event) (us : List Use) → left events (others (folded name) us) ≡ left (Declares name m place ∷ events) us
+left-others name m place events [] = refl
+left-others name m place events (u ∷ us) = go (bytes_eq (folded u.name) (folded name)) (left-others name m place events us)
   where
-    go : (t : Bool) → left events (others (folded name) us) ≡ left (Declares name d ∷ events) us → left events (cond (not t) (u ∷ others (folded name) us) (others (folded name) us)) ≡ cond (not (t || list_any (declares u.name) events)) (u ∷ left (Declares name d ∷ events) us) (left (Declares name d ∷ events) us)
+    go : (t : Bool) → left events (others (folded name) us) ≡ left (Declares name m place ∷ events) us → left events (cond (not t) (u ∷ others (folded name) us) (others (folded name) us)) ≡ cond (not (t || list_any (declares u.name) events)) (u ∷ left (Declares name m place ∷ events) us) (left (Declares name m place ∷ events) us)
     go true later = later
     go false later = ap (λ rest. cond (not (list_any (declares u.name) events)) (u ∷ rest) rest) later
 
 -- the use that an event is, where its name is new and none of the later events declares it
-abbrev fresh_use : List Named → List Event → Event → List Use
-fresh_use names events (Declares name d) = []
-fresh_use names events (Uses name line) = cond (has (folded name) names || list_any (declares name) events) [] (record { name = name; line = line } ∷ [])
+abbrev fresh_use : Table Place → List Event → Event → List Use
+fresh_use t events (Declares name m place) = []
+fresh_use t events (Uses name place) = left events (cond (is_unknown (found_in name t)) (one_use name place) [])
 
-abbrev fresh : List Named → List Event → List Use
-fresh names [] = []
-fresh names (e ∷ events) = fresh_use names events e ++ fresh (with_event e names) events
+abbrev fresh : Table Place → List Event → List Use
+fresh t [] = []
+fresh t (e ∷ events) = fresh_use t events e ++ fresh (with_event e t) events
 
-left-fresh : (e : Event) (events : List Event) (names : List Named) → Sound names → left events (used_of (with_event e names)) ≡ left (e ∷ events) (used_of names) ++ fresh_use names events e
-left-fresh (Declares name d) events names sound =
-    ap (left events) (used_of-declaring name d names sound)
-    ∙ left-others name d events (used_of names)
-    ∙ sym (append-nil (left (Declares name d ∷ events) (used_of names)))
-left-fresh (Uses name line) events names sound =
-    ap (left events) (used_of-using (folded name) name line names)
-    ∙ filter-append (λ u. not (list_any (declares u.name) events)) (used_of names) (cond (has (folded name) names) [] (record { name = name; line = line } ∷ []))
-    ∙ ap (λ u. left events (used_of names) ++ u) (go (has (folded name) names) (list_any (declares name) events) refl)
+left-fresh : (e : Event) (events : List Event) (t : Table Place) → is_too_many e t ≡ false → Sound t.names → left events (used_of (with_event e t).names) ≡ left (e ∷ events) (used_of t.names) ++ fresh_use t events e
+left-fresh (Declares name m place) events t room sound =
+    ap (left events) (used_of-declaring name m place t sound)
+    ∙ left-others name m place events (used_of t.names)
+    ∙ sym (append-nil (left (Declares name m place ∷ events) (used_of t.names)))
+left-fresh (Uses name place) events t room sound =
+    ap (left events) (used_of-using name place t room)
+    ∙ filter-append (λ u. not (list_any (declares u.name) events)) (used_of t.names) (cond (is_unknown (found_in name t)) (one_use name place) [])
+
+used_then : (events : List Event) (t : Table Place) → HaveRoom events t → Sound t.names → used_of (with_events events t).names ≡ left events (used_of t.names) ++ fresh t events
+used_then [] t room sound = sym (append-nil (left [] (used_of t.names)) ∙ all_left (used_of t.names))
+used_then (e ∷ events) t room sound =
+    used_then events (with_event e t) room.1 (sound-event e t sound)
+    ∙ ap (λ u. u ++ fresh (with_event e t) events) (left-fresh e events t room.0 sound)
+    ∙ append_assoc (left (e ∷ events) (used_of t.names)) (fresh_use t events e) (fresh (with_event e t) events)
+
+-- some event declares a name where there is a first declaration
+first_declared : (name : List ℕ) (events : List Event) → is_some (first_declaration name events) ≡ list_any (declares name) events
+first_declared name [] = refl
+first_declared name (Uses other place ∷ events) = first_declared name events
+first_declared name (Declares other m place ∷ events) = go (bytes_eq (folded name) (folded other)) (first_declared name events)
   where
-    go : (a b : Bool) → list_any (declares name) events ≡ b → left events (cond a [] (record { name = name; line = line } ∷ [])) ≡ cond (a || b) [] (record { name = name; line = line } ∷ [])
-    go true b e = refl
-    go false true e = ap (λ b. cond (not b) (record { name = name; line = line } ∷ []) []) e
-    go false false e = ap (λ b. cond (not b) (record { name = name; line = line } ∷ []) []) e
+    go : (b : Bool) → is_some (first_declaration name events) ≡ list_any (declares name) events → is_some (cond b (Some (m, place)) (first_declaration name events)) ≡ (b || list_any (declares name) events)
+    go true later = refl
+    go false later = later
 
-used_then : (events : List Event) (names : List Named) → Sound names → used_of (with_events events names) ≡ left events (used_of names) ++ fresh names events
-used_then [] names sound = sym (append-nil (left [] (used_of names)) ∙ all_left (used_of names))
-used_then (e ∷ events) names sound =
-    used_then events (with_event e names) (sound-event e names sound)
-    ∙ ap (λ u. u ++ fresh (with_event e names) events) (left-fresh e events names sound)
-    ∙ append_assoc (left (e ∷ events) (used_of names)) (fresh_use names events e) (fresh (with_event e names) events)
-
--- The names are those of these events.
-abbrev AreOf : List Event → List Named → Type 0
-AreOf before names = (name : List ℕ) → has (folded name) names ≡ (list_any (declares name) before || list_any (uses name) before)
-
-any-append : (test : Event → Bool) (before more : List Event) → list_any test (before ++ more) ≡ (list_any test before || list_any test more)
-any-append test [] more = refl
-any-append test (e ∷ before) more = ap (λ b. test e || b) (any-append test before more) ∙ or-assoc (test e) (list_any test before) (list_any test more)
-
-declared_has : (key : List ℕ) (names : List Named) → is_some (declaration_of key names) ≡ true → has key names ≡ true
-declared_has key [] is = cc
-declared_has key (n ∷ names) is = go (bytes_eq key n.name) is (declared_has key names)
+fresh-is_undeclared : (debugging : Bool) (e : Event) (before events : List Event) (t : Table Place) → AreOf debugging before t → fresh_use t events e ≡ undeclared_use debugging (before ++ e ∷ events) before e
+fresh-is_undeclared debugging (Declares name m place) before events t of = refl
+fresh-is_undeclared debugging (Uses name place) before events t of =
+    let system = system_meaning debugging name in
+    ap (λ f. left events (cond (is_unknown f) (one_use name place) [])) (of name)
+    ∙ go system (first_declaration name before) (list_any (uses name) before) (list_any (declares name) events) refl
+    ∙ ap (λ b. cond (is_some system) [] (cond ((b || list_any (declares name) events) || list_any (uses name) before) [] (one_use name place))) (first_declared name before)
+    ∙ ap (λ b. cond (is_some system) [] (cond (b || list_any (uses name) before) [] (one_use name place))) (sym (any-append (declares name) before (Uses name place ∷ events)))
   where
-    go : (t : Bool) → is_some (cond t (declaration_in n.standing) (declaration_of key names)) ≡ true → (is_some (declaration_of key names) ≡ true → has key names ≡ true) → (t || has key names) ≡ true
-    go true is later = refl
-    go false is later = later is
+    go : (system : Option Meaning) (first : Option (Meaning × Place)) (is_used later : Bool) → list_any (declares name) events ≡ later
+        → left events (cond (is_unknown (stands_for system first is_used)) (one_use name place) []) ≡ cond (is_some system) [] (cond ((is_some first || later) || is_used) [] (one_use name place))
+    go (Some m) first is_used later e = refl
+    go None (Some d) is_used later e = refl
+    go None None true true e = refl
+    go None None true false e = refl
+    go None None false true e = ap (λ b. cond (not b) (one_use name place) []) e
+    go None None false false e = ap (λ b. cond (not b) (one_use name place) []) e
 
-has-declaring : (key new : List ℕ) (d : Declaration) (names : List Named) → has key (cond (is_some (declaration_of new names)) names (with_declared new d names)) ≡ (has key names || bytes_eq key new)
-has-declaring key new d names = go (is_some (declaration_of new names)) refl
-  where
-    go : (t : Bool) → is_some (declaration_of new names) ≡ t → has key (cond t names (with_declared new d names)) ≡ (has key names || bytes_eq key new)
-    go true is = or-known (has key names) (bytes_eq key new) (λ same. ap (λ k. has k names) (same_key key new same) ∙ declared_has new names is)
-    go false is = has-declared key new d names
-
-are_of-event : (e : Event) (before : List Event) (names : List Named) → AreOf before names → AreOf (before ++ e ∷ []) (with_event e names)
-are_of-event (Uses other line) before names of name =
-    has-used (folded name) (folded other) other line names
-    ∙ ap (λ b. b || bytes_eq (folded name) (folded other)) (of name)
-    ∙ or-second (list_any (declares name) before) (list_any (uses name) before) (bytes_eq (folded name) (folded other))
-    ∙ ap (λ b. b || (list_any (uses name) before || (bytes_eq (folded name) (folded other) || false))) (sym (any-append (declares name) before (Uses other line ∷ [])))
-    ∙ ap (λ b. list_any (declares name) (before ++ Uses other line ∷ []) || b) (sym (any-append (uses name) before (Uses other line ∷ [])))
-are_of-event (Declares other d) before names of name =
-    has-declaring (folded name) (folded other) d names
-    ∙ ap (λ b. b || bytes_eq (folded name) (folded other)) (of name)
-    ∙ or-first (list_any (declares name) before) (list_any (uses name) before) (bytes_eq (folded name) (folded other))
-    ∙ ap (λ b. b || (list_any (uses name) before || false)) (sym (any-append (declares name) before (Declares other d ∷ [])))
-    ∙ ap (λ b. list_any (declares name) (before ++ Declares other d ∷ []) || b) (sym (any-append (uses name) before (Declares other d ∷ [])))
-
-fresh-is_undeclared : (e : Event) (before events : List Event) (names : List Named) → AreOf before names → fresh_use names events e ≡ undeclared_use (before ++ e ∷ events) before e
-fresh-is_undeclared (Declares name d) before events names of = refl
-fresh-is_undeclared (Uses name line) before events names of =
-    ap (λ b. cond b [] (record { name = name; line = line } ∷ []))
-    (ap (λ b. b || list_any (declares name) events) (of name)
-    ∙ or-between (list_any (declares name) before) (list_any (uses name) before) (list_any (declares name) events)
-    ∙ ap (λ b. b || list_any (uses name) before) (sym (any-append (declares name) before (Uses name line ∷ events))))
-
-fresh_are_undeclared : (events before : List Event) (names : List Named) → AreOf before names → fresh names events ≡ undeclared_uses (before ++ events) before events
-fresh_are_undeclared [] before names of = refl
-fresh_are_undeclared (e ∷ events) before names of =
-    ap (λ u. u ++ fresh (with_event e names) events) (fresh-is_undeclared e before events names of)
-    ∙ ap (λ u. undeclared_use (before ++ e ∷ events) before e ++ u)
-    (fresh_are_undeclared events (before ++ e ∷ []) (with_event e names) (are_of-event e before names of)
-    ∙ ap (λ all. undeclared_uses all (before ++ e ∷ []) events) (append_assoc before (e ∷ []) events))
+fresh_are_undeclared : (debugging : Bool) (events before : List Event) (t : Table Place) → HaveRoom events t → AreOf debugging before t → fresh t events ≡ undeclared_uses debugging (before ++ events) before events
+fresh_are_undeclared debugging [] before t room of = refl
+fresh_are_undeclared debugging (e ∷ events) before t room of =
+    ap (λ u. u ++ fresh (with_event e t) events) (fresh-is_undeclared debugging e before events t of)
+    ∙ ap (λ u. undeclared_use debugging (before ++ e ∷ events) before e ++ u)
+    (fresh_are_undeclared debugging events (before ++ e ∷ []) (with_event e t) room.1 (are_of-event debugging e before t room.0 of)
+    ∙ ap (λ all. undeclared_uses debugging all (before ++ e ∷ []) events) (append_assoc before (e ∷ []) events))
 
 pub undeclared_are_told : UndeclaredAreTold
-undeclared_are_told file events r =
-    told file (with_events events []) r
-    ∙ ap (λ us. with_uses_told file us r) (used_then events [] tt ∙ fresh_are_undeclared events [] [] (λ name. refl))
+undeclared_are_told files limit debugging events r room =
+    let begun : Table Place = no_names limit debugging in
+    told files (with_events events begun).names r
+    ∙ ap (λ us. with_uses_told files us r) (used_then events begun room tt ∙ fresh_are_undeclared debugging events [] begun room (nothing_known limit debugging))

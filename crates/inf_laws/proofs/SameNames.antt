@@ -3,7 +3,7 @@ use Rattle.std.proofs.Common.{◌≡◌, ℕ, true, List, sym}
 use Rattle.std.specs.Str.{bytes_eq, str_eq_ignore_ascii_case}
 use Rattle.std.proofs.lemmas.Bool.Decides.{Decides-like, same_from_decides}
 use Rattle.std.proofs.lemmas.Slice.Eq.{bytes_eq-Decides}
-use Rattle.inf_symbol.specs.Names.{folded}
+use Rattle.inf_names.specs.Symbols.{folded}
 
 pub same_key : (a b : List ℕ) → bytes_eq a b ≡ true → a ≡ b
 same_key a b e = (bytes_eq-Decides a b).0 e

@@ -3,17 +3,20 @@ use Rattle.std.proofs.Common.{◌≡◌, ℕ, List, [], ◌∷◌, ◌++◌, len
 use Rattle.std.specs.List.{list_any, list_all}
 use Rattle.std.specs.Str.{bytes_eq, str_eq_ignore_ascii_case}
 use Rattle.std.proofs.lemmas.Bool.{and_from, and_parts, cond_both, not-true, or_from, or_parts}
+use Rattle.inf_scanner.specs.declared.tokens.Place.{Place}
+use Rattle.inf_names.specs.Symbols.{folded}
+use Rattle.inf_report.specs.Messages.{UnusedLocal}
 use Rattle.inf_symbol.specs.Spellings.{Name}
-use Rattle.inf_symbol.specs.Messages.{Reported, UnusedLocal, with_warning}
-use Rattle.inf_symbol.specs.Names.{folded}
-use Rattle.inf_symbol.specs.Locals.{Local, Headed, local_of, most_locals, no_locals, with_all_named, with_all_unused, with_local_by, with_locals, with_named}
+use Rattle.inf_symbol.specs.Locals.{Local, Headed, local_of, most_locals, no_locals, with_all_named, with_local_by, with_locals, with_named}
+use Rattle.inf_unit.specs.Messages.{FileNames, Reported, location, with_warning}
+use Rattle.inf_unit.specs.Actions.{with_all_unused}
 use Rattle.inf_laws.specs.UnusedLocals.{AreDifferent, AreNew, AreUnnamed, HeadersMakeNew, UnusedAreWarned, is_local, is_named_by, is_named_in, with_units, with_warnings}
 use Rattle.inf_laws.proofs.Choices.{or-swap}
 use Rattle.inf_laws.proofs.SameNames.{bytes_eq-sym, same_names}
 
 -- a local that is named also where its name passes a test
 abbrev marked : (List ℕ → Bool) → Local → Local
-marked test l = record { name = l.name; line = l.line; is_named = test l.name || l.is_named }
+marked test l = record { name = l.name; place = l.place; is_named = test l.name || l.is_named }
 
 abbrev is_same : List ℕ → List ℕ → Bool
 is_same name other = str_eq_ignore_ascii_case other name
@@ -25,15 +28,15 @@ none_marked : (name : List ℕ) (ls : List Local) → is_local name ls ≡ false
 none_marked name [] is = refl
 none_marked name (l ∷ ls) is =
     let parts = or_parts (str_eq_ignore_ascii_case l.name name) (is_local name ls) is in
-    ap (λ b. record { name = l.name; line = l.line; is_named = b || l.is_named } ∷ map (marked (is_same name)) ls) parts.0
+    ap (λ b. record { name = l.name; place = l.place; is_named = b || l.is_named } ∷ map (marked (is_same name)) ls) parts.0
     ∙ ap (λ rest. l ∷ rest) (none_marked name ls parts.1)
 
 with_named-marks : (name : List ℕ) (ls : List Local) → AreDifferent ls → with_named name ls ≡ map (marked (is_same name)) ls
 with_named-marks name [] d = refl
 with_named-marks name (l ∷ ls) d = go (str_eq_ignore_ascii_case l.name name) refl (with_named-marks name ls d.1)
   where
-    go : (t : Bool) → str_eq_ignore_ascii_case l.name name ≡ t → with_named name ls ≡ map (marked (is_same name)) ls → cond t (record { name = l.name; line = l.line; is_named = true } ∷ ls) (l ∷ with_named name ls) ≡ record { name = l.name; line = l.line; is_named = t || l.is_named } ∷ map (marked (is_same name)) ls
-    go true e later = ap (λ rest. record { name = l.name; line = l.line; is_named = true } ∷ rest) (sym (none_marked name ls (sym (is_local-same l.name name ls (same_names l.name name e)) ∙ d.0)))
+    go : (t : Bool) → str_eq_ignore_ascii_case l.name name ≡ t → with_named name ls ≡ map (marked (is_same name)) ls → cond t (record { name = l.name; place = l.place; is_named = true } ∷ ls) (l ∷ with_named name ls) ≡ record { name = l.name; place = l.place; is_named = t || l.is_named } ∷ map (marked (is_same name)) ls
+    go true e later = ap (λ rest. record { name = l.name; place = l.place; is_named = true } ∷ rest) (sym (none_marked name ls (sym (is_local-same l.name name ls (same_names l.name name e)) ∙ d.0)))
     go false e later = ap (λ rest. l ∷ rest) later
 
 is_local-marked : (test : List ℕ → Bool) (name : List ℕ) (ls : List Local) → is_local name (map (marked test) ls) ≡ is_local name ls
@@ -47,7 +50,7 @@ different-marked test (l ∷ ls) d = (is_local-marked test l.name ls ∙ d.0, di
 marked_twice : (first later : List ℕ → Bool) (ls : List Local) → map (marked later) (map (marked first) ls) ≡ map (marked (λ n. first n || later n)) ls
 marked_twice first later [] = refl
 marked_twice first later (l ∷ ls) =
-    ap (λ b. record { name = l.name; line = l.line; is_named = b } ∷ map (marked later) (map (marked first) ls)) (or-swap (later l.name) (first l.name) l.is_named)
+    ap (λ b. record { name = l.name; place = l.place; is_named = b } ∷ map (marked later) (map (marked first) ls)) (or-swap (later l.name) (first l.name) l.is_named)
     ∙ ap (λ rest. marked (λ n. first n || later n) l ∷ rest) (marked_twice first later ls)
 
 marked_by_nothing : (ls : List Local) → ls ≡ map (marked (λ n. false)) ls
@@ -68,21 +71,21 @@ with_units-marks (names ∷ units) ls d =
     ∙ with_units-marks units (map (marked (λ n. is_named_by n names)) ls) (different-marked (λ n. is_named_by n names) ls d)
     ∙ marked_twice (λ n. is_named_by n names) (λ n. is_named_in n units) ls
 
-warned : (file : List ℕ) (line : ℕ) (test : List ℕ → Bool) (ls : List Local) (r : Reported) → AreUnnamed ls → with_all_unused file line (map (marked test) ls) r ≡ with_warnings file line (filter (λ l. not (test l.name)) ls) r
-warned file line test [] r un = refl
-warned file line test (l ∷ ls) r un =
+warned : (files : FileNames) (place : Place) (test : List ℕ → Bool) (ls : List Local) (r : Reported) → AreUnnamed ls → with_all_unused files place (map (marked test) ls) r ≡ with_warnings files place (filter (λ l. not (test l.name)) ls) r
+warned files place test [] r un = refl
+warned files place test (l ∷ ls) r un =
     let parts = and_parts (not l.is_named) (list_all (λ l. not l.is_named) ls) un in
-    go (test l.name) l.is_named (not-true l.is_named parts.0) (λ r. warned file line test ls r parts.1)
+    go (test l.name) l.is_named (not-true l.is_named parts.0) (λ r. warned files place test ls r parts.1)
   where
-    go : (t b : Bool) → b ≡ false → ((r : Reported) → with_all_unused file line (map (marked test) ls) r ≡ with_warnings file line (filter (λ l. not (test l.name)) ls) r) → with_all_unused file line (map (marked test) ls) (cond (t || b) r (with_warning file line (UnusedLocal l.name) r)) ≡ with_warnings file line (cond (not t) (l ∷ filter (λ l. not (test l.name)) ls) (filter (λ l. not (test l.name)) ls)) r
+    go : (t b : Bool) → b ≡ false → ((r : Reported) → with_all_unused files place (map (marked test) ls) r ≡ with_warnings files place (filter (λ l. not (test l.name)) ls) r) → with_all_unused files place (map (marked test) ls) (cond (t || b) r (with_warning (location files place) (UnusedLocal l.name) r)) ≡ with_warnings files place (cond (not t) (l ∷ filter (λ l. not (test l.name)) ls) (filter (λ l. not (test l.name)) ls)) r
     go true b e later = later r
     go false true e later = cc
-    go false false e later = later (with_warning file line (UnusedLocal l.name) r)
+    go false false e later = later (with_warning (location files place) (UnusedLocal l.name) r)
 
 pub unused_are_warned : UnusedAreWarned
-unused_are_warned file line units ls r different unnamed =
-    ap (λ xs. with_all_unused file line xs r) (with_units-marks units ls different)
-    ∙ warned file line (λ n. is_named_in n units) ls r unnamed
+unused_are_warned files place units ls r different unnamed =
+    ap (λ xs. with_all_unused files place xs r) (with_units-marks units ls different)
+    ∙ warned files place (λ n. is_named_in n units) ls r unnamed
 
 -- Headers
 
@@ -115,7 +118,7 @@ unnamed-push (m ∷ ls) l un is =
 one_more : (n : Name) (h : Headed) (o : Option Local) → local_of n.bytes h.locals ≡ o → AreNew h.locals → AreNew (with_local_by n o h).locals
 one_more n h (Some l) e new = new
 one_more n h None e new =
-    let l : Local = record { name = n.bytes; line = n.line; is_named = false } in
+    let l : Local = record { name = n.bytes; place = n.place; is_named = false } in
     let more : Headed = record h { locals = h.locals ++ l ∷ [] } in
     let full : Headed = record h { are_too_many = true } in
     cond_both (ltb (length h.locals) most_locals) more full (λ x. AreNew x.locals)

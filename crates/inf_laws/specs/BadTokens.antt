@@ -1,6 +1,7 @@
 -- How a bad token is passed over, said of the tokens of its piece before it.
 use Rattle.std.specs.Prelude.{◌≡◌, ℕ, suc, List, [], ◌∷◌, Bool, true, false, if◌then◌else◌}
 use Rattle.inf_scanner.specs.declared.tokens.Mark.TheVariants as mark
+use Rattle.inf_unit.specs.Messages.{FileNames}
 use Rattle.inf_unit.specs.Tokens.{Spelled, is_mark}
 use Rattle.inf_reader.specs.Cursors.{next_token}
 use Rattle.inf_reader.specs.Reading.{State, between, passed}
@@ -25,6 +26,6 @@ skip_behind tokens = if opened_by_all false tokens then mode.SkipsRoutine else m
 -- routine exactly where it stands behind the routine's opening bracket, and no closing one stands between them.
 abbrev pub BadTokensArePassedOver : Type 0
 BadTokensArePassedOver =
-    (file : List ℕ) (n : ℕ) (s : State) → s.reading.stack ≡ []
-    → AllAreTaken file n s → BeginsPiece (front n s.cursor) → turned file (suc n) s ≡ telling file (turned file n s)
-    → (turned file (suc n) s).reading ≡ between (passed (skip_behind (front n s.cursor)) (next_token (behind n s.cursor)).0.kind)
+    (files : FileNames) (n : ℕ) (s : State) → s.reading.stack ≡ []
+    → AllAreTaken files n s → BeginsPiece (front n s.cursor) → turned files (suc n) s ≡ telling files (turned files n s)
+    → (turned files (suc n) s).reading ≡ between (passed (skip_behind (front n s.cursor)) (next_token (behind n s.cursor)).0.kind)

@@ -1,25 +1,29 @@
--- The error of a unit: each rule finds its own errors, and the first of all, by its place and then by its number, is told.
+-- The error of a unit: each rule finds its own errors, and the first of all, by its token and then by its number, is told.
 use Rattle.std.specs.Prelude.{◌≡◌, ◌+◌, ◌<◌, ◌⊎◌, ℕ, List, [], ◌∷◌, ◌++◌, length, find, Contains, ◌&&◌, not, nat_lt, if◌then◌else◌, Option, Some, None, is_some}
 use Rattle.std.specs.Str.{str_eq_ignore_ascii_case}
+use Rattle.inf_scanner.specs.declared.tokens.Place.{Place}
+use Rattle.inf_names.specs.Symbols.{Table, declare_fault, found_in}
+use Rattle.inf_names.specs.declared.symbols.Found.{Found}
+use Rattle.inf_names.specs.declared.symbols.Found.TheVariants as found
+use Rattle.inf_report.specs.Messages.{Bytes, Declared, SystemName, WrongKind, TooManyArguments, TooMany}
+use Rattle.inf_report.specs.declared.messages.Countable.TheVariants as countable
 use Rattle.inf_symbol.specs.Spellings.{Name}
-use Rattle.inf_symbol.specs.Messages.{Bytes, Blame, Declared, SystemName, WrongKind, TooManyArguments, TooManyLocals}
-use Rattle.inf_symbol.specs.Names.{Named, folded, is_system_name, declaration_of}
 use Rattle.inf_symbol.specs.Locals.{Local, with_locals, no_locals}
-use Rattle.inf_symbol.specs.declared.names.Declaration.{Declaration}
-use Rattle.inf_unit.specs.Units.{call_fault, operand_fault, header_fault, name_fault}
+use Rattle.inf_unit.specs.Messages.{FileNames, Blame, location}
+use Rattle.inf_unit.specs.Units.{is_system_name, call_fault, operand_fault, header_fault, name_fault}
 use Rattle.inf_laws.specs.UnusedLocals.{is_local}
 
 -- What a rule finds: at which token of the unit, counted from 0, the unit's first; the number of the kind of its message; and
--- the message at its line. The kinds: 8, a name that was declared before or is a system name; 9, a name of the wrong kind;
+-- the message at its place. The kinds: 8, a name that was declared before or is a system name; 9, a name of the wrong kind;
 -- 14, too many arguments; 19, too many locals.
 pub record Finding : Type 0 where
-  pub place : ℕ
+  pub token : ℕ
   pub number : ℕ
   pub blame : Blame
 
--- by place, then by number
+-- by token, then by number
 abbrev pub IsBefore : Finding → Finding → Type 0
-IsBefore f g = (f.place < g.place) ⊎ ((f.place ≡ g.place) × (f.number < g.number))
+IsBefore f g = (f.token < g.token) ⊎ ((f.token ≡ g.token) × (f.number < g.number))
 
 -- It is one of these, none of these comes before it, and each other one comes behind it.
 pub record IsLeast (f : Finding) (all : List Finding) : Type 0 where
@@ -36,28 +40,28 @@ IsTold (Some b) all = (f : Finding) × (f.blame ≡ b) × IsLeast f all
 
 -- a system name as an operand: its kind is wrong
 abbrev pub system_operand : ℕ → Name → Finding
-system_operand place n = record { place = place; number = 9; blame = record { line = n.line; message = WrongKind (Bytes n.bytes) } }
+system_operand token n = record { token = token; number = 9; blame = record { place = n.place; message = WrongKind (Bytes n.bytes) } }
 
 -- it is found where no local of this name hides it
 abbrev pub wrong_name : List Local → ℕ → Name → List Finding
-wrong_name locals place n =
-    if is_system_name n.bytes && not (is_local n.bytes locals) then system_operand place n ∷ [] else []
+wrong_name locals token n =
+    if is_system_name n.bytes && not (is_local n.bytes locals) then system_operand token n ∷ [] else []
 
 -- The names of a call are every second of its tokens: a parenthesis or a comma stands behind each.
 abbrev pub wrong_names : List Local → ℕ → List Name → List Finding
-wrong_names locals place [] = []
-wrong_names locals place (n ∷ names) = wrong_name locals place n ++ wrong_names locals (place + 2) names
+wrong_names locals token [] = []
+wrong_names locals token (n ∷ names) = wrong_name locals token n ++ wrong_names locals (token + 2) names
 
 -- more than seven arguments, which is told where the call begins
-abbrev pub too_many_arguments : ℕ → Finding
-too_many_arguments line = record { place = 0; number = 14; blame = record { line = line; message = TooManyArguments } }
+abbrev pub too_many_arguments : Place → Finding
+too_many_arguments unit = record { token = 0; number = 14; blame = record { place = unit; message = TooManyArguments } }
 
-abbrev pub many_arguments : ℕ → List Name → List Finding
-many_arguments line arguments = if nat_lt 7 (length arguments) then too_many_arguments line ∷ [] else []
+abbrev pub many_arguments : Place → List Name → List Finding
+many_arguments unit arguments = if nat_lt 7 (length arguments) then too_many_arguments unit ∷ [] else []
 
-abbrev pub call_findings : ℕ → List Local → Name → List Name → List Finding
-call_findings line locals called arguments =
-    wrong_names locals 0 (called ∷ arguments) ++ many_arguments line arguments
+abbrev pub call_findings : Place → List Local → Name → List Name → List Finding
+call_findings unit locals called arguments =
+    wrong_names locals 0 (called ∷ arguments) ++ many_arguments unit arguments
 
 -- the name stands behind the word `return`
 abbrev pub return_findings : List Local → Name → List Finding
@@ -66,22 +70,22 @@ return_findings locals n = wrong_name locals 1 n
 -- A header
 
 -- a local that an earlier name of the header is, too
-abbrev pub repeated_local : Name → ℕ → Name → Finding
-repeated_local first place n =
-    record { place = place; number = 8; blame = record { line = n.line; message = Declared n.bytes first.line } }
+abbrev pub repeated_local : FileNames → Name → ℕ → Name → Finding
+repeated_local files first token n =
+    record { token = token; number = 8; blame = record { place = n.place; message = Declared n.bytes (location files first.place) } }
 
 -- the first of these that is this name, in any case
 abbrev pub first_named : List ℕ → List Name → Option Name
 first_named name names = find (λ n. str_eq_ignore_ascii_case n.bytes name) names
 
-abbrev pub repeated_one : Option Name → ℕ → Name → List Finding
-repeated_one None place n = []
-repeated_one (Some first) place n = repeated_local first place n ∷ []
+abbrev pub repeated_one : FileNames → Option Name → ℕ → Name → List Finding
+repeated_one files None token n = []
+repeated_one files (Some first) token n = repeated_local files first token n ∷ []
 
-abbrev pub repeated_locals : List Name → ℕ → List Name → List Finding
-repeated_locals before place [] = []
-repeated_locals before place (n ∷ names) =
-    repeated_one (first_named n.bytes before) place n ++ repeated_locals (before ++ n ∷ []) (place + 1) names
+abbrev pub repeated_locals : FileNames → List Name → ℕ → List Name → List Finding
+repeated_locals files before token [] = []
+repeated_locals files before token (n ∷ names) =
+    repeated_one files (first_named n.bytes before) token n ++ repeated_locals files (before ++ n ∷ []) (token + 1) names
 
 -- how many different names these add to those before
 abbrev pub different : List Name → List Name → ℕ
@@ -90,43 +94,44 @@ different before (n ∷ names) =
     (if is_some (first_named n.bytes before) then 0 else 1) + different (before ++ n ∷ []) names
 
 -- more than 15 different locals, which is told at the bracket
-abbrev pub too_many_locals : ℕ → Finding
-too_many_locals line = record { place = 0; number = 19; blame = record { line = line; message = TooManyLocals } }
+abbrev pub too_many_locals : Place → Finding
+too_many_locals unit = record { token = 0; number = 19; blame = record { place = unit; message = TooMany countable.Locals } }
 
-abbrev pub many_locals : ℕ → List Name → List Finding
-many_locals line locals = if nat_lt 15 (different [] locals) then too_many_locals line ∷ [] else []
+abbrev pub many_locals : Place → List Name → List Finding
+many_locals unit locals = if nat_lt 15 (different [] locals) then too_many_locals unit ∷ [] else []
 
--- the name of the routine behind the bracket: it was declared before
-abbrev pub declared_before : Declaration → Name → Finding
-declared_before d name =
-    record { place = 1; number = 8; blame = record { line = name.line; message = Declared name.bytes d.line } }
+-- the name of the routine behind the bracket: it was declared before, at a place
+abbrev pub declared_before : FileNames → Place → Name → Finding
+declared_before files first name =
+    record { token = 1; number = 8; blame = record { place = name.place; message = Declared name.bytes (location files first) } }
 
 -- or it is a system name, which the language itself declares
 abbrev pub system_routine : Name → Finding
-system_routine name = record { place = 1; number = 8; blame = record { line = name.line; message = SystemName name.bytes } }
+system_routine name = record { token = 1; number = 8; blame = record { place = name.place; message = SystemName name.bytes } }
 
-abbrev pub declared_name : Option Declaration → Name → List Finding
-declared_name None name = []
-declared_name (Some d) name = declared_before d name ∷ []
+-- By what the name stands for before its header. That a new name would be one too many is no finding.
+abbrev pub taken_as : FileNames → Found Place → Name → List Finding
+taken_as files (found.System meaning) name = system_routine name ∷ []
+taken_as files (found.Declared meaning first) name = declared_before files first name ∷ []
+taken_as files found.Used name = []
+taken_as files found.Unknown name = []
 
-abbrev pub taken_name : List Named → Name → List Finding
-taken_name names name =
-    if is_system_name name.bytes then system_routine name ∷ []
-    else declared_name (declaration_of (folded name.bytes) names) name
+abbrev pub taken_name : FileNames → Table Place → Name → List Finding
+taken_name files names name = taken_as files (found_in name.bytes names) name
 
-abbrev pub header_findings : ℕ → List Named → Name → List Name → List Finding
-header_findings line names name locals =
-    taken_name names name ++ (repeated_locals [] 2 locals ++ many_locals line locals)
+abbrev pub header_findings : FileNames → Place → Table Place → Name → List Name → List Finding
+header_findings files unit names name locals =
+    taken_name files names name ++ (repeated_locals files [] 2 locals ++ many_locals unit locals)
 
--- What is told of a unit that begins on this line
+-- What is told of a unit that begins at this place
 
 abbrev pub CallsTellTheFirst : Type 0
-CallsTellTheFirst = (line : ℕ) (locals : List Local) (called : Name) (arguments : List Name)
-    → IsTold (call_fault line locals called arguments) (call_findings line locals called arguments)
+CallsTellTheFirst = (unit : Place) (locals : List Local) (called : Name) (arguments : List Name)
+    → IsTold (call_fault unit locals called arguments) (call_findings unit locals called arguments)
 
 abbrev pub ReturnsTellTheFirst : Type 0
 ReturnsTellTheFirst = (locals : List Local) (n : Name) → IsTold (operand_fault locals n) (return_findings locals n)
 
 abbrev pub HeadersTellTheFirst : Type 0
-HeadersTellTheFirst = (line : ℕ) (names : List Named) (name : Name) (locals : List Name)
-    → IsTold (header_fault line (name_fault (folded name.bytes) name names) (with_locals locals no_locals)) (header_findings line names name locals)
+HeadersTellTheFirst = (files : FileNames) (unit : Place) (names : Table Place) (name : Name) (locals : List Name)
+    → IsTold (header_fault files unit (name_fault files name (declare_fault name.bytes names)) (with_locals locals no_locals)) (header_findings files unit names name locals)

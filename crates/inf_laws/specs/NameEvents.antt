@@ -1,87 +1,118 @@
 -- What is known of names, said of the declarations and uses of a source in their order.
-use Rattle.std.specs.Prelude.{◌≡◌, ℕ, List, [], ◌∷◌, ◌++◌, Bool, false, ◌||◌, if◌then◌else◌, Option, Some, None, is_some}
+use Rattle.std.specs.Prelude.{◌≡◌, ◌≤◌, ℕ, List, [], ◌∷◌, ◌++◌, length, Bool, false, ◌||◌, if◌then◌else◌, Option, Some, None, is_some, ⊤}
 use Rattle.std.specs.List.{list_any}
 use Rattle.std.specs.Str.{str_eq_ignore_ascii_case}
+use Rattle.inf_scanner.specs.declared.tokens.Place.{Place}
+use Rattle.inf_names.specs.SystemNames.{system_meaning}
+use Rattle.inf_names.specs.Symbols.{Table, declare_fault, found_in, no_names, refer_fault, with_declared, with_used}
+use Rattle.inf_names.specs.declared.meanings.Meaning.{Meaning}
+use Rattle.inf_names.specs.declared.meanings.Meaning.TheVariants as meaning
+use Rattle.inf_names.specs.declared.symbols.Found.{Found}
+use Rattle.inf_names.specs.declared.symbols.Found.TheVariants as found
+use Rattle.inf_report.specs.Messages.{Undeclared}
 use Rattle.inf_symbol.specs.Spellings.{Name}
-use Rattle.inf_symbol.specs.Messages.{Reported, Undeclared, with_error}
-use Rattle.inf_symbol.specs.Names.{Named, folded, is_system_name, declaration_of, with_declared, with_used, with_all_undeclared}
-use Rattle.inf_symbol.specs.declared.names.Declaration.{Declaration}
-use Rattle.inf_unit.specs.Units.{Operands, name_fault, with_name, with_operand_by}
+use Rattle.inf_unit.specs.Messages.{FileNames, Reported, location, with_error}
+use Rattle.inf_unit.specs.Names.{with_all_undeclared}
+use Rattle.inf_unit.specs.Units.{Operands, name_full, with_name, with_operand_by}
 
--- a name is declared, or used as it is spelled on a line
+-- a name is declared with what it stands for, or used as it is spelled, at a place
 pub data Event : Type 0 where
-  Declares : (name : List ℕ) (declaration : Declaration) → Event
-  Uses : (name : List ℕ) (line : ℕ) → Event
+  Declares : (name : List ℕ) (stands_for : Meaning) (place : Place) → Event
+  Uses : (name : List ℕ) (place : Place) → Event
 
--- The names after an event: where a name is declared already, a declaration changes nothing.
-abbrev pub with_event : Event → List Named → List Named
-with_event (Declares name d) names =
-    if is_some (declaration_of (folded name) names) then names else with_declared (folded name) d names
-with_event (Uses name line) names = with_used (folded name) name line names
+-- The names after an event: what the names refuse changes nothing.
+abbrev pub with_event : Event → Table Place → Table Place
+with_event (Declares name m place) t = if is_some (declare_fault name t) then t else with_declared name place m t
+with_event (Uses name place) t = if is_some (refer_fault name t) then t else with_used name place t
 
-abbrev pub with_events : List Event → List Named → List Named
-with_events [] names = names
-with_events (e ∷ events) names = with_events events (with_event e names)
+abbrev pub with_events : List Event → Table Place → Table Place
+with_events [] t = t
+with_events (e ∷ events) t = with_events events (with_event e t)
 
--- The header of a routine is such an event, unless its name is a system name, and so is an operand that is no local.
+-- whether the name of an event is one more than there may be, which ends a compilation
+abbrev pub is_too_many : Event → Table Place → Bool
+is_too_many (Declares name m place) t = is_some (name_full (declare_fault name t))
+is_too_many (Uses name place) t = is_some (refer_fault name t)
+
+-- None is.
+abbrev pub HaveRoom : List Event → Table Place → Type 0
+HaveRoom [] t = ⊤
+HaveRoom (e ∷ events) t = (is_too_many e t ≡ false) × HaveRoom events (with_event e t)
+
+-- So it is where there may be as many names as there are events.
+abbrev pub FewHaveRoom : Type 0
+FewHaveRoom = (limit : ℕ) (debugging : Bool) (events : List Event) → length events ≤ limit → HaveRoom events (no_names limit debugging)
+
+-- The header of a routine at a place in the code is such an event, and so is an operand that is no local.
 abbrev pub HeadersDeclare : Type 0
-HeadersDeclare = (name : Name) (place : ℕ) (names : List Named)
-    → with_name (folded name.bytes) name place (name_fault (folded name.bytes) name names) names
-    ≡ (if is_system_name name.bytes then names
-    else with_event (Declares name.bytes (record { line = name.line; place = place })) names)
+HeadersDeclare = (n : Name) (at : ℕ) (t : Table Place)
+    → with_name n at (declare_fault n.bytes t) t ≡ with_event (Declares n.bytes (meaning.Routine at) n.place) t
 
 abbrev pub OperandsUse : Type 0
-OperandsUse = (n : Name) (o : Operands) → (with_operand_by None n (folded n.bytes) o).names ≡ with_event (Uses n.bytes n.line) o.names
+OperandsUse = (n : Name) (o : Operands) → (with_operand_by None n o).names ≡ with_event (Uses n.bytes n.place) o.names
 
 -- The first declaration of a name counts
 
--- the first declaration of this name, in any case
-abbrev pub first_declaration : List ℕ → List Event → Option Declaration
+-- what the first declaration of this name, in any case, says that it stands for, and its place
+abbrev pub first_declaration : List ℕ → List Event → Option (Meaning × Place)
 first_declaration name [] = None
-first_declaration name (Declares other d ∷ events) =
-    if str_eq_ignore_ascii_case name other then Some d else first_declaration name events
-first_declaration name (Uses other line ∷ events) = first_declaration name events
-
-abbrev pub FirstDeclarationsCount : Type 0
-FirstDeclarationsCount = (events : List Event) (name : List ℕ)
-    → declaration_of (folded name) (with_events events []) ≡ first_declaration name events
-
--- Each undeclared name is told once
+first_declaration name (Declares other m place ∷ events) =
+    if str_eq_ignore_ascii_case name other then Some (m, place) else first_declaration name events
+first_declaration name (Uses other place ∷ events) = first_declaration name events
 
 -- whether an event declares this name, in any case
 abbrev pub declares : List ℕ → Event → Bool
-declares name (Declares other d) = str_eq_ignore_ascii_case name other
-declares name (Uses other line) = false
+declares name (Declares other m place) = str_eq_ignore_ascii_case name other
+declares name (Uses other place) = false
 
 -- or uses it
 abbrev pub uses : List ℕ → Event → Bool
-uses name (Declares other d) = false
-uses name (Uses other line) = str_eq_ignore_ascii_case name other
+uses name (Declares other m place) = false
+uses name (Uses other place) = str_eq_ignore_ascii_case name other
 
--- a name as it is spelled on a line
+-- What a name stands for: first what the language has, then its first declaration; and whether it was used.
+abbrev pub stands_for : Option Meaning → Option (Meaning × Place) → Bool → Found Place
+stands_for (Some m) first is_used = found.System m
+stands_for None (Some first) is_used = found.Declared first.0 first.1
+stands_for None None is_used = if is_used then found.Used else found.Unknown
+
+abbrev pub FirstDeclarationsCount : Type 0
+FirstDeclarationsCount = (limit : ℕ) (debugging : Bool) (events : List Event) (name : List ℕ)
+    → HaveRoom events (no_names limit debugging)
+    → found_in name (with_events events (no_names limit debugging))
+    ≡ stands_for (system_meaning debugging name) (first_declaration name events) (list_any (uses name) events)
+
+-- Each undeclared name is told once
+
+-- a name as it is spelled at a place
 pub record Use : Type 0 where
   pub name : List ℕ
-  pub line : ℕ
+  pub place : Place
 
--- The use that an event is, where it is the first one of its name and no event at all declares that.
-abbrev pub undeclared_use : List Event → List Event → Event → List Use
-undeclared_use all before (Declares name d) = []
-undeclared_use all before (Uses name line) =
-    if list_any (declares name) all || list_any (uses name) before then [] else record { name = name; line = line } ∷ []
+-- The use that an event is, where the language does not have its name, it is the first one of its name, and no event at all
+-- declares that.
+abbrev pub undeclared_use : Bool → List Event → List Event → Event → List Use
+undeclared_use debugging all before (Declares name m place) = []
+undeclared_use debugging all before (Uses name place) =
+    if is_some (system_meaning debugging name) then [] else
+    if list_any (declares name) all || list_any (uses name) before then [] else record { name = name; place = place } ∷ []
 
-abbrev pub undeclared_uses : List Event → List Event → List Event → List Use
-undeclared_uses all before [] = []
-undeclared_uses all before (e ∷ events) = undeclared_use all before e ++ undeclared_uses all (before ++ e ∷ []) events
+abbrev pub undeclared_uses : Bool → List Event → List Event → List Event → List Use
+undeclared_uses debugging all before [] = []
+undeclared_uses debugging all before (e ∷ events) =
+    undeclared_use debugging all before e ++ undeclared_uses debugging all (before ++ e ∷ []) events
 
 -- all of them, in order
-abbrev pub undeclared : List Event → List Use
-undeclared events = undeclared_uses events [] events
+abbrev pub undeclared : Bool → List Event → List Use
+undeclared debugging events = undeclared_uses debugging events [] events
 
 -- an error for each
-abbrev pub with_uses_told : List ℕ → List Use → Reported → Reported
-with_uses_told file [] r = r
-with_uses_told file (u ∷ uses) r = with_uses_told file uses (with_error file u.line u.line (Undeclared u.name) r)
+abbrev pub with_uses_told : FileNames → List Use → Reported → Reported
+with_uses_told files [] r = r
+with_uses_told files (u ∷ uses) r =
+    with_uses_told files uses (with_error (location files u.place) (location files u.place) (Undeclared u.name) r)
 
 abbrev pub UndeclaredAreTold : Type 0
-UndeclaredAreTold = (file : List ℕ) (events : List Event) (r : Reported)
-    → with_all_undeclared file (with_events events []) r ≡ with_uses_told file (undeclared events) r
+UndeclaredAreTold = (files : FileNames) (limit : ℕ) (debugging : Bool) (events : List Event) (r : Reported)
+    → HaveRoom events (no_names limit debugging)
+    → with_all_undeclared files (with_events events (no_names limit debugging)).names r ≡ with_uses_told files (undeclared debugging events) r

@@ -2,9 +2,12 @@
 use Rattle.std.specs.Prelude.{◌≡◌, ℕ, List, [], ◌∷◌, filter, Bool, true, false, not, ⊤}
 use Rattle.std.specs.List.{list_any, list_all}
 use Rattle.std.specs.Str.{str_eq_ignore_ascii_case}
+use Rattle.inf_scanner.specs.declared.tokens.Place.{Place}
+use Rattle.inf_report.specs.Messages.{UnusedLocal}
 use Rattle.inf_symbol.specs.Spellings.{Name}
-use Rattle.inf_symbol.specs.Messages.{Reported, UnusedLocal, with_warning}
-use Rattle.inf_symbol.specs.Locals.{Local, with_all_named, with_all_unused, with_locals, no_locals}
+use Rattle.inf_symbol.specs.Locals.{Local, with_all_named, with_locals, no_locals}
+use Rattle.inf_unit.specs.Messages.{FileNames, Reported, location, with_warning}
+use Rattle.inf_unit.specs.Actions.{with_all_unused}
 
 -- some local has this name, in any case
 abbrev pub is_local : List ℕ → List Local → Bool
@@ -35,16 +38,16 @@ abbrev pub unused : List (List Name) → List Local → List Local
 unused units locals = filter (λ l. not (is_named_in l.name units)) locals
 
 -- a warning for each
-abbrev pub with_warnings : List ℕ → ℕ → List Local → Reported → Reported
-with_warnings file line [] r = r
-with_warnings file line (l ∷ locals) r = with_warnings file line locals (with_warning file line (UnusedLocal l.name) r)
+abbrev pub with_warnings : FileNames → Place → List Local → Reported → Reported
+with_warnings files place [] r = r
+with_warnings files place (l ∷ locals) r = with_warnings files place locals (with_warning (location files place) (UnusedLocal l.name) r)
 
 -- Where the names of a routine's locals differ, and none was named yet, the warnings after some units are those about the locals
 -- that no name of any unit is.
 abbrev pub UnusedAreWarned : Type 0
-UnusedAreWarned = (file : List ℕ) (line : ℕ) (units : List (List Name)) (locals : List Local) (r : Reported)
+UnusedAreWarned = (files : FileNames) (place : Place) (units : List (List Name)) (locals : List Local) (r : Reported)
     → AreDifferent locals → AreUnnamed locals
-    → with_all_unused file line (with_units units locals) r ≡ with_warnings file line (unused units locals) r
+    → with_all_unused files place (with_units units locals) r ≡ with_warnings files place (unused units locals) r
 
 -- The locals of every header are such.
 pub record AreNew (locals : List Local) : Type 0 where

@@ -1,29 +1,32 @@
 //! What the definitions give together.
 ghost use Rattle.inf_laws.specs.BadTokens.{BadTokensArePassedOver};
 ghost use Rattle.inf_laws.specs.Findings.{CallsTellTheFirst, HeadersTellTheFirst, ReturnsTellTheFirst};
-ghost use Rattle.inf_laws.specs.NameEvents.{FirstDeclarationsCount, HeadersDeclare, OperandsUse, UndeclaredAreTold};
+ghost use Rattle.inf_laws.specs.NameEvents.{FewHaveRoom, FirstDeclarationsCount, HeadersDeclare, OperandsUse, UndeclaredAreTold};
 ghost use Rattle.inf_laws.specs.Skipping.{DirectivesAreSkipped, RoutinesAreSkipped, SourcesEnd};
 ghost use Rattle.inf_laws.specs.UnusedLocals.{HeadersMakeNew, UnusedAreWarned};
 
 /// Of all errors that its rules find, a call, a return and a header of a routine tell the first by
-/// place, and of two at one place the one whose message has the lower number.
+/// token, and of two at one token the one whose message has the lower number.
 pub fn first_errors_are_told()
     ensures calls { CallsTellTheFirst }
     ensures returns { ReturnsTellTheFirst }
     ensures headers { HeadersTellTheFirst }
 {}
 
-/// A name that is used and never declared is told once, at its first use, in the order of these.
+/// A name that is used and never declared, and that the language does not have, is told once, at its
+/// first use, in the order of these. This holds as long as there is room for the names.
 pub fn undeclared_names_are_told_once()
     ensures { UndeclaredAreTold }
 {}
 
-/// What a name stands for is its first declaration, whatever else is declared and used. Headers
-/// declare names and operands use them.
+/// What a name stands for is what the language has, or else its first declaration, whatever else is
+/// declared and used, as long as there is room for the names. Headers declare names and operands use
+/// them. There is room where there may be as many names as there are events.
 pub fn first_declarations_count()
     ensures count { FirstDeclarationsCount }
     ensures headers { HeadersDeclare }
     ensures operands { OperandsUse }
+    ensures room { FewHaveRoom }
 {}
 
 /// The warnings at the end of a routine are about the locals that no name in a statement is, in

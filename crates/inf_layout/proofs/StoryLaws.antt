@@ -5,7 +5,7 @@ use Rattle.byteorder.specs.Endian.{big_bytes}
 use Rattle.inf_layout.specs.Areas.{fill, gap}
 use Rattle.inf_layout.specs.Fixed.{repeated, fixed_bytes, header_front, header_sizes, header_bytes, start_bytes, code_bytes as routines_bytes, body_bytes, story_bytes}
 use Rattle.inf_layout.specs.Code.{code_bytes}
-use Rattle.inf_symbol.specs.Names.{packed_address}
+use Rattle.inf_layout.specs.Addresses.{packed_address}
 use Rattle.inf_layout.specs.StoryLaws.{TellsItself, StoriesTellThemselves}
 use Rattle.inf_layout.proofs.Fixed.{story_is}
 

@@ -4,8 +4,8 @@ ghost use Rattle.inf_layout.specs.Areas.{word, fill};
 ghost use Rattle.inf_layout.specs.Fixed.{repeated, object_bytes, objects_bytes, fixed_bytes, start_bytes, code_bytes, header_front, header_sizes, header_bytes, body_bytes, story_bytes, is_over_long};
 ghost use Rattle.inf_layout.specs.Story.{checksum};
 
+use crate::addresses::ROUTINES;
 use byteorder::{BigEndian, ByteOrder};
-use inf_symbol::names::ROUTINES;
 use std::alloc::{AllocError, Global};
 
 /// The most bytes that a story of version 5 has (Z-Machine Standard 1.1, section 1.1.4).

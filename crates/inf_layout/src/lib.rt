@@ -2,6 +2,7 @@
 //! and its header (Z-Machine Standard 1.1, sections 1 and 11).
 #![tactic(auto)]
 
+pub mod addresses;
 pub mod code;
 mod laws;
 pub mod layout;

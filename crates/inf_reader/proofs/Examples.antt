@@ -10,6 +10,7 @@ use Rattle.inf_layout.specs.Story.{body, story}
 use Rattle.inf_layout.specs.StoryLaws.{HasWordAt, TellsItself}
 use Rattle.inf_reader.specs.Examples.{NoSource, EmptySource, TextIsMissing, SemicolonIsMissing, NameIsDeclaredTwice, LinesEndInThreeWays, HelloIsCompiled, CallsAreCompiled, NamesAreUndeclared, LocalIsNamedTwice, ArgumentsAreTooMany, HelloIsAStory}
 use Rattle.inf_grammar.specs.Language as language
+use Rattle.inf_names.specs.SystemNames as system
 use Rattle.inf_layout.proofs.Fixed.{story_is}
 use Rattle.inf_layout.proofs.StoryLaws.{story_length, bytes_tell_themselves}
 
@@ -18,50 +19,50 @@ unfolding digits
 no_source serial = refl
 
 pub empty_source : EmptySource
-unfolding digits
+unfolding digits system.system_names
 empty_source serial = refl
 
 pub text_is_missing : TextIsMissing
-unfolding digits language.grammar language.known
+unfolding digits language.grammar language.known system.system_names
 text_is_missing serial = refl
 
 pub semicolon_is_missing : SemicolonIsMissing
-unfolding digits language.grammar language.known
+unfolding digits language.grammar language.known system.system_names
 semicolon_is_missing serial = refl
 
 pub name_is_declared_twice : NameIsDeclaredTwice
-unfolding digits language.grammar language.known
+unfolding digits language.grammar language.known system.system_names
 name_is_declared_twice serial = refl
 
 pub lines_end_in_three_ways : LinesEndInThreeWays
-unfolding digits
+unfolding digits system.system_names
 lines_end_in_three_ways serial = refl
 
 pub hello_is_compiled : HelloIsCompiled
-unfolding text_of piece_at escape_piece spelled spellings zscii_of zscii_of_unicode accented packed longest character_zs punctuation language.grammar language.known
+unfolding text_of piece_at escape_piece spelled spellings zscii_of zscii_of_unicode accented packed longest character_zs punctuation language.grammar language.known system.system_names
 hello_is_compiled = refl
 
 pub calls_are_compiled : CallsAreCompiled
-unfolding language.grammar language.known
+unfolding language.grammar language.known system.system_names
 calls_are_compiled = refl
 
 pub names_are_undeclared : NamesAreUndeclared
-unfolding digits language.grammar language.known
+unfolding digits language.grammar language.known system.system_names
 names_are_undeclared serial = refl
 
 pub local_is_named_twice : LocalIsNamedTwice
-unfolding digits language.grammar language.known
+unfolding digits language.grammar language.known system.system_names
 local_is_named_twice serial = refl
 
 pub arguments_are_too_many : ArgumentsAreTooMany
-unfolding digits language.grammar language.known
+unfolding digits language.grammar language.known system.system_names
 arguments_are_too_many serial = refl
 
 abbrev hello_bytes : List ℕ
 hello_bytes = 0x00 ∷ 0xB2 ∷ 0x35 ∷ 0x51 ∷ 0xC6 ∷ 0x85 ∷ 0xB0 ∷ 0x00 ∷ []
 
 hello_size : length (body_bytes 0 hello_bytes) ≡ 912
-unfolding repeated fixed_bytes
+unfolding repeated fixed_bytes system.system_names
 hello_size = refl
 
 hello_story : (serial : List ℕ) → length serial ≡ 6 → TellsItself (story_bytes serial 0 hello_bytes) × (length (story_bytes serial 0 hello_bytes) ≡ 976)
@@ -71,7 +72,7 @@ hello_story serial six = (
 )
 
 pub hello_is_a_story : HelloIsAStory
-unfolding digits text_of piece_at escape_piece spelled spellings zscii_of zscii_of_unicode accented packed longest character_zs punctuation body language.grammar language.known
+unfolding digits text_of piece_at escape_piece spelled spellings zscii_of zscii_of_unicode accented packed longest character_zs punctuation body language.grammar language.known system.system_names
 hello_is_a_story serial six =
     let whole : story serial 0 (0 ∷ []) (known hello_bytes) ≡ story_bytes serial 0 hello_bytes = story_is serial 0 (0 ∷ []) (known hello_bytes) in
     let says = hello_story serial six in

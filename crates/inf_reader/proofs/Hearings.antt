@@ -1,15 +1,16 @@
 -- What is heard of a source, turn by turn.
-use Rattle.std.proofs.Common.{◌≡◌, ◌⊎◌, inl, inr, ℕ, ◌+◌, ◌<◌, ◌≤◌, List, [], ◌∷◌, ◌++◌, length, ◌&&◌, ◌||◌, Bool, true, false, IsTrue, IsSome, refl, sym, ap, subst, ◌∙◌, arith, append_assoc, length-append}
+use Rattle.std.proofs.Common.{◌≡◌, ◌⊎◌, inl, inr, ℕ, ◌+◌, List, [], ◌∷◌, ◌++◌, length, ◌&&◌, ◌||◌, Bool, true, false, IsTrue, IsSome, refl, sym, ap, subst, ◌∙◌, arith, append_assoc, length-append}
 use Rattle.inf_characters.specs.declared.characters.CharSet.{CharSet}
 use Rattle.inf_characters.specs.declared.characters.CharSet.TheVariants as charset
 use Rattle.inf_scanner.specs.TokenLaws.{is_run}
 use Rattle.inf_scanner.specs.Tokens.{Read, next_token as scanned}
+use Rattle.inf_scanner.specs.declared.tokens.Place.{Place}
 use Rattle.inf_scanner.specs.declared.tokens.Token.{Token}
 use Rattle.inf_scanner.specs.declared.tokens.TokenKind.{TokenKind}
 use Rattle.inf_scanner.specs.declared.tokens.TokenKind.TheVariants as kind
 use Rattle.inf_token.specs.Files.{Openings, Sources}
 use Rattle.inf_lexer.specs.Readers.{Reader as Lexing, Took, read_out}
-use Rattle.inf_lexer.specs.Unread.{Along, CanFollow, Gave, Heard, IsAtEnd, View}
+use Rattle.inf_lexer.specs.Unread.{Along, CanFollow, Gave, Heard, View}
 use Rattle.inf_lexer.proofs.Giving.{gave_nothing, gave_more}
 use Rattle.inf_lexer.proofs.Hearing.{heard_as}
 use Rattle.inf_scanner.specs.declared.tokens.Mark.TheVariants as mark
@@ -21,6 +22,7 @@ use Rattle.inf_unit.specs.Actions.{Work}
 use Rattle.inf_unit.specs.Statements.{name_of_kind}
 use Rattle.inf_unit.specs.Tokens.{Spelled, is_end, is_mark}
 use Rattle.inf_unit.proofs.Cases.{of_both}
+use Rattle.inf_unit.specs.Messages.{FileNames}
 use Rattle.inf_reader.specs.Cursors.{most_quoted, read_token}
 use Rattle.inf_reader.specs.Selection.{begins_piece, has_come}
 use Rattle.inf_reader.specs.Tests.{atom_of}
@@ -31,48 +33,57 @@ use Rattle.inf_reader.specs.declared.mode.Mode.TheVariants as mode
 use Rattle.inf_reader.proofs.Turns.{LeadsTo, end_at, ended, leads_here, leads_on}
 
 -- what a token does to what was read
-abbrev pub stepped : List ℕ → Stand → Read → Stand
-stepped file p r = step file (read_token r).0 p.reading p.work
-
-abbrev pub state_behind : List ℕ → Stand → Read → State
-state_behind file p r = let t = read_token r in record {
+abbrev pub state_behind : FileNames → ℕ → Stand → Read → State
+state_behind files file p r = let t = read_token file r in record {
   cursor = t.1;
-  reading = (step file t.0 p.reading p.work).reading;
-  work = (step file t.0 p.reading p.work).work;
+  reading = (step files t.0 p.reading p.work).reading;
+  work = (step files t.0 p.reading p.work).work;
 }
 
 -- the token that was read
 abbrev pub spelled_of : Token → Lexing → Spelled
-spelled_of token lexer = record { kind = token.kind; bytes = lexer.kept.bytes; line = token.place.line }
+spelled_of token lexer = record { kind = token.kind; bytes = lexer.kept.bytes; place = token.place }
+
+-- where that leads in a file of this number, by a token of a file of that number
+abbrev pub stood : FileNames → Stand → Token → Lexing → ℕ → ℕ → List ℕ → State
+stood files p token after at of rest =
+    let t : Spelled = record { kind = token.kind; bytes = after.kept.bytes; place = record { file = of; line = token.place.line } } in
+    record {
+      cursor = record { rest = rest; lines = after.lines; file = at };
+      reading = (step files t p.reading p.work).reading;
+      work = (step files t p.reading p.work).work;
+    }
 
 -- A token that is heard makes a turn.
-pub heard_turn : (h : Bool) (s : Sources) (old new : Openings) (file : List ℕ) (token : Token) (before after : Lexing) (p q : Stand) → IsReady before
+pub heard_turn : (h : Bool) (s : Sources) (old new : Openings) (files : FileNames) (token : Token) (before after : Lexing) (p q : Stand) → IsReady before
     → Heard Read h s old new before.window after.window (read_out token after) (scanned before.set before.limit before.lines)
-    → q ≡ step file (spelled_of token after) p.reading p.work
-    → Heard State h s old new before.window after.window (state_at after q) (λ rest. turn file (state_at before p rest))
-heard_turn h s old new file token before after p q ready heard taken =
+    → q ≡ step files (spelled_of token after) p.reading p.work → token.place.file ≡ before.file → after.file ≡ before.file
+    → Heard State h s old new before.window after.window (state_at after q) (λ rest. turn files (state_at before p rest))
+heard_turn h s old new files token before after p q ready heard taken of_file same =
     let Of : CharSet → ℕ → Type 0 = λ set limit. Heard Read h s old new before.window after.window (read_out token after) (scanned set limit before.lines) in
     let ours : Of charset.Latin1 most_quoted =
     subst (λ (limit : ℕ). Of charset.Latin1 limit) ready.limit (subst (λ (set : CharSet). Of set before.limit) ready.set heard) in
-    let made = heard_as Read State (state_behind file p) h s old new before.window after.window (read_out token after) (scanned charset.Latin1 most_quoted before.lines) ours in
-    subst (λ (x : Stand). Heard State h s old new before.window after.window (state_at after x) (λ rest. turn file (state_at before p rest))) (sym taken) made
+    let made = heard_as Read State (state_behind files before.file p) h s old new before.window after.window (read_out token after) (scanned charset.Latin1 most_quoted before.lines) ours in
+    let At : ℕ → ℕ → Type 0 = λ at of. Heard State h s old new before.window after.window (λ rest. stood files p token after at of rest) (λ rest. turn files (state_at before p rest)) in
+    let moved : At after.file token.place.file = subst (At after.file) (sym of_file) (subst (λ (at : ℕ). At at before.file) (sym same) made) in
+    subst (λ (x : Stand). Heard State h s old new before.window after.window (state_at after x) (λ rest. turn files (state_at before p rest))) (sym taken) moved
 
 -- a name has few bytes
-pub name_is_run : (k : TokenKind) (bytes : List ℕ) (line : ℕ) → IsSome (name_of_kind k bytes line) → is_run k ≡ true
-name_is_run kind.Name bytes line some = refl
-name_is_run (kind.Number n) bytes line some = cc
-name_is_run kind.Text bytes line some = cc
-name_is_run (kind.Char c) bytes line some = cc
-name_is_run (kind.Word w) bytes line some = cc
-name_is_run (kind.Mark m) bytes line some = cc
-name_is_run (kind.Bad b) bytes line some = cc
-name_is_run kind.End bytes line some = cc
+pub name_is_run : (k : TokenKind) (bytes : List ℕ) (place : Place) → IsSome (name_of_kind k bytes place) → is_run k ≡ true
+name_is_run kind.Name bytes place some = refl
+name_is_run (kind.Number n) bytes place some = cc
+name_is_run kind.Text bytes place some = cc
+name_is_run (kind.Char c) bytes place some = cc
+name_is_run (kind.Word w) bytes place some = cc
+name_is_run (kind.Mark m) bytes place some = cc
+name_is_run (kind.Bad b) bytes place some = cc
+name_is_run kind.End bytes place some = cc
 
 -- A turn ends reading, or takes a byte at least.
-pub turn_moves : (file : List ℕ) (token : Token) (before after : Lexing) (p q : Stand) → Took token.kind before.window after.window after.kept
-    → q ≡ step file (spelled_of token after) p.reading p.work → Moves q before.window after.window
-turn_moves file token before after p q took taken = elim took.one [
-  | inl e ↦ inl (ap has_ended_at taken ∙ ended _ _ (end_at p.reading.mode file token.kind after.kept.bytes token.place.line p.reading p.work (ap is_end e) refl))
+pub turn_moves : (files : FileNames) (token : Token) (before after : Lexing) (p q : Stand) → Took token.kind before.window after.window after.kept
+    → q ≡ step files (spelled_of token after) p.reading p.work → Moves q before.window after.window
+turn_moves files token before after p q took taken = elim took.one [
+  | inl e ↦ inl (ap has_ended_at taken ∙ ended _ _ (end_at p.reading.mode files token.kind after.kept.bytes token.place p.reading p.work (ap is_end e) refl))
   | inr less ↦ inr less
 ]
 
@@ -103,29 +114,29 @@ passed_end skip k = of_both (λ m. m ≡ mode.Ended → is_end k ≡ true) (is_e
 abbrev EndsAt : TokenKind → Stand → Type 0
 EndsAt k s = s.reading.mode ≡ mode.Ended → is_end k ≡ true
 
-judged_end : (file : List ℕ) (come : Bool) (t : Spelled) (r : Reading) (w : Work) → r.mode ≡ mode.Reads → EndsAt t.kind (judged file come t r w)
-judged_end file come t r w reads =
-    of_both (EndsAt t.kind) (come && fits grammar known (atom_of t) r.stack) (took file t r w) (bad file t r w)
+judged_end : (files : FileNames) (come : Bool) (t : Spelled) (r : Reading) (w : Work) → r.mode ≡ mode.Reads → EndsAt t.kind (judged files come t r w)
+judged_end files come t r w reads =
+    of_both (EndsAt t.kind) (come && fits grammar known (atom_of t) r.stack) (took files t r w) (bad files t r w)
     (λ _ e. let never : mode.Reads ≡ mode.Ended = sym reads ∙ e in cc)
     (λ _ e. passed_end (skip_of r.stack) t.kind e)
 
-read_end : (file : List ℕ) (t : Spelled) (stack : List (Symbol Action)) (r : Reading) (w : Work) → r.mode ≡ mode.Reads → EndsAt t.kind (read_at file t stack r w)
-read_end file t [] r w reads =
-    of_both (EndsAt t.kind) (is_end t.kind) (record { reading = record r { mode = mode.Ended }; work = w }) (judged file (begins_piece t) t (piece_begun r) w)
-    (λ is _. is) (λ _. judged_end file (begins_piece t) t (piece_begun r) w reads)
-read_end file t (symbol ∷ stack) r w reads = judged_end file (has_come r.unit t) t r w reads
+read_end : (files : FileNames) (t : Spelled) (stack : List (Symbol Action)) (r : Reading) (w : Work) → r.mode ≡ mode.Reads → EndsAt t.kind (read_at files t stack r w)
+read_end files t [] r w reads =
+    of_both (EndsAt t.kind) (is_end t.kind) (record { reading = record r { mode = mode.Ended }; work = w }) (judged files (begins_piece t) t (piece_begun r) w)
+    (λ is _. is) (λ _. judged_end files (begins_piece t) t (piece_begun r) w reads)
+read_end files t (symbol ∷ stack) r w reads = judged_end files (has_come r.unit t) t r w reads
 
-step_end : (m : Mode) (file : List ℕ) (t : Spelled) (r : Reading) (w : Work) → r.mode ≡ m → (step_in m file t r w).reading.mode ≡ mode.Ended
+step_end : (m : Mode) (files : FileNames) (t : Spelled) (r : Reading) (w : Work) → r.mode ≡ m → (step_in m files t r w).reading.mode ≡ mode.Ended
     → (r.mode ≡ mode.Ended) ⊎ (is_end t.kind ≡ true)
-step_end mode.Reads file t r w reads e = inr (read_end file t r.stack r w reads e)
-step_end mode.SkipsRoutine file t r w is e = inr (passed_end mode.SkipsRoutine t.kind e)
-step_end mode.SkipsDirective file t r w is e = inr (passed_end mode.SkipsDirective t.kind e)
-step_end mode.Ended file t r w is e = inl is
+step_end mode.Reads files t r w reads e = inr (read_end files t r.stack r w reads e)
+step_end mode.SkipsRoutine files t r w is e = inr (passed_end mode.SkipsRoutine t.kind e)
+step_end mode.SkipsDirective files t r w is e = inr (passed_end mode.SkipsDirective t.kind e)
+step_end mode.Ended files t r w is e = inl is
 
-pub turn_stops : (file : List ℕ) (token : Token) (before after : Lexing) (p q : Stand) → Took token.kind before.window after.window after.kept
-    → q ≡ step file (spelled_of token after) p.reading p.work → Stops p q after.window
-turn_stops file token before after p q took_one taken over =
-    elim (step_end p.reading.mode file (spelled_of token after) p.reading p.work refl (ap (λ (x : Stand). x.reading.mode) (sym taken) ∙ over)) [
+pub turn_stops : (files : FileNames) (token : Token) (before after : Lexing) (p q : Stand) → Took token.kind before.window after.window after.kept
+    → q ≡ step files (spelled_of token after) p.reading p.work → Stops p q after.window
+turn_stops files token before after p q took_one taken over =
+    elim (step_end p.reading.mode files (spelled_of token after) p.reading p.work refl (ap (λ (x : Stand). x.reading.mode) (sym taken) ∙ over)) [
       | inl e ↦ inl e
       | inr e ↦ inr (took_one.last (end_is token.kind e))
     ]
@@ -133,16 +144,16 @@ turn_stops file token before after p q took_one taken over =
 -- Turn by turn
 
 -- What was heard from the front leads to where all of it leads.
-pub record Led (file : List ℕ) (h : Bool) (s : Sources) (old new : Openings) (before after : View) (now final : List ℕ → State) : Type 0 where
+pub record Led (files : FileNames) (h : Bool) (s : Sources) (old new : Openings) (before after : View) (now final : List ℕ → State) : Type 0 where
   pub bytes : List ℕ
   pub given : after.given ≡ before.given + length bytes
   pub stops : before.is_over ≡ true → (bytes ≡ []) × (after.is_over ≡ true)
   pub gave : IsTrue h → Gave s old new bytes
-  pub leads : (behind : List ℕ) → CanFollow after behind → LeadsTo file (now (after.left ++ behind)) (final (before.left ++ (bytes ++ behind)))
+  pub leads : (behind : List ℕ) → CanFollow after behind → LeadsTo files (now (after.left ++ behind)) (final (before.left ++ (bytes ++ behind)))
 
-pub led_none : (file : List ℕ) (h : Bool) (s : Sources) (o : Openings) (v : View) (lexer : Lexing) (p : Stand)
-    → Led file h s o o v v (state_at lexer p) (λ rest. run file (turns_of rest) (state_at lexer p rest))
-led_none file h s o v lexer p = record {
+pub led_none : (files : FileNames) (h : Bool) (s : Sources) (o : Openings) (v : View) (lexer : Lexing) (p : Stand)
+    → Led files h s o o v v (state_at lexer p) (λ rest. run files (turns_of rest) (state_at lexer p rest))
+led_none files h s o v lexer p = record {
   bytes = [];
   given = omega arith;
   stops = λ over. (refl, over);
@@ -151,17 +162,17 @@ led_none file h s o v lexer p = record {
 }
 
 -- one turn more
-pub led_turn : (file : List ℕ) (h g : Bool) (s t : Sources) (old mid new : Openings) (before between after : View) (mid_lexer : Lexing) (mid_stand : Stand) (next final : List ℕ → State)
+pub led_turn : (files : FileNames) (h g : Bool) (s t : Sources) (old mid new : Openings) (before between after : View) (mid_lexer : Lexing) (mid_stand : Stand) (next final : List ℕ → State)
     → g ≡ h → t ≡ s → has_ended_at mid_stand ≡ false
-    → Led file h s old mid before between (state_at mid_lexer mid_stand) final
-    → Heard State g t mid new between after next (λ rest. turn file (state_at mid_lexer mid_stand rest))
-    → Led file h s old new before after next final
-led_turn file h g s t old mid new before between after mid_lexer mid_stand next final e f going a heard = by_same h s e f a
+    → Led files h s old mid before between (state_at mid_lexer mid_stand) final
+    → Heard State g t mid new between after next (λ rest. turn files (state_at mid_lexer mid_stand rest))
+    → Led files h s old new before after next final
+led_turn files h g s t old mid new before between after mid_lexer mid_stand next final e f going a heard = by_same h s e f a
   where
     now : List ℕ → State
     now = state_at mid_lexer mid_stand
 
-    on : Led file g t old mid before between now final → Led file g t old new before after next final
+    on : Led files g t old mid before between now final → Led files g t old new before after next final
     on l = record {
       bytes = l.bytes ++ heard.bytes;
       given = omega (arith, l.given, heard.given, length-append l.bytes heard.bytes);
@@ -171,27 +182,27 @@ led_turn file h g s t old mid new before between after mid_lexer mid_stand next 
           let may : CanFollow between (heard.bytes ++ behind) = λ over. ap (λ bs. bs ++ behind) (heard.stops over).0 ∙ can (heard.stops over).1 in
           let whole : before.left ++ (l.bytes ++ (heard.bytes ++ behind)) ≡ before.left ++ ((l.bytes ++ heard.bytes) ++ behind) =
           ap (λ bs. before.left ++ bs) (sym (append_assoc l.bytes heard.bytes behind)) in
-          let there = leads_on file (now (between.left ++ (heard.bytes ++ behind))) (final (before.left ++ (l.bytes ++ (heard.bytes ++ behind)))) going (l.leads (heard.bytes ++ behind) may) in
-          subst (λ (x : State). LeadsTo file x (final (before.left ++ ((l.bytes ++ heard.bytes) ++ behind)))) (sym (heard.same behind can))
-          (subst (λ (bs : List ℕ). LeadsTo file (turn file (now (between.left ++ (heard.bytes ++ behind)))) (final bs)) whole there);
+          let there = leads_on files (now (between.left ++ (heard.bytes ++ behind))) (final (before.left ++ (l.bytes ++ (heard.bytes ++ behind)))) going (l.leads (heard.bytes ++ behind) may) in
+          subst (λ (x : State). LeadsTo files x (final (before.left ++ ((l.bytes ++ heard.bytes) ++ behind)))) (sym (heard.same behind can))
+          (subst (λ (bs : List ℕ). LeadsTo files (turn files (now (between.left ++ (heard.bytes ++ behind)))) (final bs)) whole there);
     }
 
-    by_same : (h : Bool) (s : Sources) → g ≡ h → t ≡ s → Led file h s old mid before between now final → Led file h s old new before after next final
+    by_same : (h : Bool) (s : Sources) → g ≡ h → t ≡ s → Led files h s old mid before between now final → Led files h s old new before after next final
     by_same h s e f a =
-        subst (λ (x : Bool). Led file x s old new before after next final) e
-        (subst (λ (x : Sources). Led file g x old new before after next final) f
-        (on (subst (λ (x : Sources). Led file g x old mid before between now final) (sym f)
-        (subst (λ (x : Bool). Led file x s old mid before between now final) (sym e) a))))
+        subst (λ (x : Bool). Led files x s old new before after next final) e
+        (subst (λ (x : Sources). Led files g x old new before after next final) f
+        (on (subst (λ (x : Sources). Led files g x old mid before between now final) (sym f)
+        (subst (λ (x : Bool). Led files x s old mid before between now final) (sym e) a))))
 
 -- where reading has ended
-pub led_heard : (file : List ℕ) (h : Bool) (s : Sources) (old new : Openings) (before after : View) (lexer : Lexing) (p : Stand) (final : List ℕ → State)
-    → has_ended_at p ≡ true → Led file h s old new before after (state_at lexer p) final → Heard State h s old new before after (state_at lexer p) final
-led_heard file h s old new before after lexer p final over l = record {
+pub led_heard : (files : FileNames) (h : Bool) (s : Sources) (old new : Openings) (before after : View) (lexer : Lexing) (p : Stand) (final : List ℕ → State)
+    → has_ended_at p ≡ true → Led files h s old new before after (state_at lexer p) final → Heard State h s old new before after (state_at lexer p) final
+led_heard files h s old new before after lexer p final over l = record {
   bytes = l.bytes;
   given = l.given;
   stops = l.stops;
   gave = l.gave;
-  same = λ behind can. leads_here file (state_at lexer p (after.left ++ behind)) (final (before.left ++ (l.bytes ++ behind))) over (l.leads behind can);
+  same = λ behind can. leads_here files (state_at lexer p (after.left ++ behind)) (final (before.left ++ (l.bytes ++ behind))) over (l.leads behind can);
 }
 
 -- what was given first, and what was given then
@@ -212,7 +223,7 @@ along_none s o n = record { bytes = []; gave = gave_nothing s o; count = omega a
 -- what has not ended yet has not stopped before
 pub stops_then : (first p q : Stand) (view : View) → has_ended_at p ≡ false → Stops p q view → Stops first q view
 stops_then first p q view going stops over = elim (stops over) [
-  | inl e ↦ absurd (still p.work.report.is_over p.reading.mode e going)
+  | inl e ↦ absurd (still p.work.report.counts.is_over p.reading.mode e going)
   | inr end ↦ inr end
 ]
   where

@@ -4,8 +4,9 @@ use Rattle.std.proofs.lemmas.Bool.{and_parts, and_from}
 use Rattle.std.proofs.lemmas.List.{append-nil, map-append, take-append-drop}
 use Rattle.inf_scanner.specs.declared.tokens.TokenKind.{TokenKind}
 use Rattle.inf_scanner.specs.declared.tokens.TokenKind.TheVariants as kind
-use Rattle.inf_symbol.specs.Messages.{Message}
+use Rattle.inf_report.specs.Messages.{Message}
 use Rattle.inf_unit.specs.Tokens.{Spelled, is_end}
+use Rattle.inf_unit.specs.Messages.{FileNames}
 use Rattle.inf_reader.specs.Cursors.{next_token}
 use Rattle.inf_grammar.specs.declared.actions.Action.{Action}
 use Rattle.inf_machine.specs.declared.symbols.Symbol.{Symbol}
@@ -26,10 +27,10 @@ use Rattle.inf_reader.proofs.Misfits.{bad_fits_nothing, end_fits_nothing}
 use Rattle.inf_machine.proofs.ReadOn.{OneMore, read_on, read_append, reads_one, reads_none}
 
 pub turns_are_read : TurnsAreRead
-turns_are_read file zero s going = refl
-turns_are_read file (suc n) s going =
-    ap (λ b. cond b s (run file n (turn file s))) (going 0 (omega arith))
-    ∙ turns_are_read file n (turn file s) (λ m less. going (suc m) (omega arith))
+turns_are_read files zero s going = refl
+turns_are_read files (suc n) s going =
+    ap (λ b. cond b s (run files n (turn files s))) (going 0 (omega arith))
+    ∙ turns_are_read files n (turn files s) (λ m less. going (suc m) (omega arith))
 
 abbrev piece : List (Symbol Action)
 piece = Rule piece_rule ∷ []
@@ -95,28 +96,28 @@ ends tokens may_come r at empty =
 
 -- A turn that takes a token, and where reading leads behind it
 
-first_taken : (file : List ℕ) (n : ℕ) (s : State) → turn file s ≡ taking file s → AllAreTaken file n (turn file s) → AllAreTaken file (suc n) s
-first_taken file n s takes all zero less = takes
-first_taken file n s takes all (suc m) less = all m (omega arith)
+first_taken : (files : FileNames) (n : ℕ) (s : State) → turn files s ≡ taking files s → AllAreTaken files n (turn files s) → AllAreTaken files (suc n) s
+first_taken files n s takes all zero less = takes
+first_taken files n s takes all (suc m) less = all m (omega arith)
 
-extend : (file : List ℕ) (tokens : List Spelled) (s : State) → turn file s ≡ taking file s → Leads file (tokens ++ (next_token s.cursor).0 ∷ []) (turn file s) → Leads file tokens s
-extend file tokens s takes (ToItsEnd n all reads empty cursor is) =
-    ToItsEnd (suc n) (first_taken file n s takes all) reads empty cursor (subst IsPiece (append_assoc tokens ((next_token s.cursor).0 ∷ []) (front n (next_token s.cursor).1)) is)
-extend file tokens s takes (ToABadToken n all told so_far unfit) =
-    ToABadToken (suc n) (first_taken file n s takes all) told
+extend : (files : FileNames) (tokens : List Spelled) (s : State) → turn files s ≡ taking files s → Leads files (tokens ++ (next_token s.cursor).0 ∷ []) (turn files s) → Leads files tokens s
+extend files tokens s takes (ToItsEnd n all reads empty cursor is) =
+    ToItsEnd (suc n) (first_taken files n s takes all) reads empty cursor (subst IsPiece (append_assoc tokens ((next_token s.cursor).0 ∷ []) (front n (next_token s.cursor).1)) is)
+extend files tokens s takes (ToABadToken n all told so_far unfit) =
+    ToABadToken (suc n) (first_taken files n s takes all) told
     (subst BeginsPiece (append_assoc tokens ((next_token s.cursor).0 ∷ []) (front n (next_token s.cursor).1)) so_far)
     (λ b. unfit (subst BeginsPiece (sym (append_assoc tokens ((next_token s.cursor).0 ∷ []) (front (suc n) (next_token s.cursor).1))) b))
 
-none_taken : (file : List ℕ) (s : State) → AllAreTaken file 0 s
-none_taken file s m less = absurd (omega arith)
+none_taken : (files : FileNames) (s : State) → AllAreTaken files 0 s
+none_taken files s m less = absurd (omega arith)
 
 -- one token is judged, if reading leads on from behind each token that is taken
-step : (file : List ℕ) (tokens : List Spelled) (may_come : Spelled → Bool) (s : State)
-    → turn file s ≡ stand (record s { cursor = (next_token s.cursor).1 }) (judged file (may_come (next_token s.cursor).0) (next_token s.cursor).0 (at_hand s.reading) s.work)
+step : (files : FileNames) (tokens : List Spelled) (may_come : Spelled → Bool) (s : State)
+    → turn files s ≡ stand (record s { cursor = (next_token s.cursor).1 }) (judged files (may_come (next_token s.cursor).0) (next_token s.cursor).0 (at_hand s.reading) s.work)
     → At tokens may_come (at_hand s.reading)
-    → ((next : State) → next ≡ taking file s → fits grammar known (atom_of (next_token s.cursor).0) (at_hand s.reading).stack ≡ true → At (tokens ++ (next_token s.cursor).0 ∷ []) (has_come next.reading.unit) next.reading → Leads file (tokens ++ (next_token s.cursor).0 ∷ []) next)
-    → Leads file tokens s
-step file tokens may_come s turns at later = by_come (may_come t) refl (fits grammar known (atom_of t) r.stack) refl
+    → ((next : State) → next ≡ taking files s → fits grammar known (atom_of (next_token s.cursor).0) (at_hand s.reading).stack ≡ true → At (tokens ++ (next_token s.cursor).0 ∷ []) (has_come next.reading.unit) next.reading → Leads files (tokens ++ (next_token s.cursor).0 ∷ []) next)
+    → Leads files tokens s
+step files tokens may_come s turns at later = by_come (may_come t) refl (fits grammar known (atom_of t) r.stack) refl
   where
     t : Spelled
     t = (next_token s.cursor).0
@@ -127,18 +128,18 @@ step file tokens may_come s turns at later = by_come (may_come t) refl (fits gra
     there : Stand → State
     there x = stand (record s { cursor = (next_token s.cursor).1 }) x
 
-    by_come : (c : Bool) → may_come t ≡ c → (f : Bool) → fits grammar known (atom_of t) r.stack ≡ f → Leads file tokens s
+    by_come : (c : Bool) → may_come t ≡ c → (f : Bool) → fits grammar known (atom_of t) r.stack ≡ f → Leads files tokens s
     by_come true c true f =
-        let takes : turn file s ≡ taking file s = turns ∙ ap (λ b. there (cond b (took file t r s.work) (bad file t r s.work))) (ap (λ b. b && fits grammar known (atom_of t) r.stack) c ∙ f) in
-        let standing : (turn file s).reading ≡ (taking file s).reading = ap (λ x. x.reading) takes in
-        extend file tokens s takes (later (turn file s) takes f (goes tokens may_come r (turn file s).reading t at c f standing))
+        let takes : turn files s ≡ taking files s = turns ∙ ap (λ b. there (cond b (took files t r s.work) (bad files t r s.work))) (ap (λ b. b && fits grammar known (atom_of t) r.stack) c ∙ f) in
+        let standing : (turn files s).reading ≡ (taking files s).reading = ap (λ x. x.reading) takes in
+        extend files tokens s takes (later (turn files s) takes f (goes tokens may_come r (turn files s).reading t at c f standing))
     by_come true c false f =
         let out = ap (λ b. b && fits grammar known (atom_of t) r.stack) c ∙ f in
-        ToABadToken 0 (none_taken file s) (turns ∙ ap (λ b. there (cond b (took file t r s.work) (bad file t r s.work))) out)
+        ToABadToken 0 (none_taken files s) (turns ∙ ap (λ b. there (cond b (took files t r s.work) (bad files t r s.work))) out)
         (subst BeginsPiece (sym (append-nil tokens)) (begins tokens may_come r at)) (stops tokens may_come r t at out)
     by_come false c f g =
         let out = ap (λ b. b && fits grammar known (atom_of t) r.stack) c in
-        ToABadToken 0 (none_taken file s) (turns ∙ ap (λ b. there (cond b (took file t r s.work) (bad file t r s.work))) out)
+        ToABadToken 0 (none_taken files s) (turns ∙ ap (λ b. there (cond b (took files t r s.work) (bad files t r s.work))) out)
         (subst BeginsPiece (sym (append-nil tokens)) (begins tokens may_come r at)) (stops tokens may_come r t at out)
 
 -- the end fits nowhere, so a token that fits leaves less of the source
@@ -156,18 +157,18 @@ fits_no_end : (t : Spelled) (stack : List (Symbol Action)) → fits grammar know
 fits_no_end t stack f e =
     let both : true ≡ false = sym f ∙ ap (λ atom. fits grammar known atom stack) (end_is t.kind t.bytes e) ∙ end_fits_nothing stack in cc
 
-shorter : (file : List ℕ) (m : ℕ) (s next : State) → length s.cursor.rest < suc m → next ≡ taking file s → fits grammar known (atom_of (next_token s.cursor).0) (at_hand s.reading).stack ≡ true → length next.cursor.rest < m
-shorter file m s next less is f =
+shorter : (files : FileNames) (m : ℕ) (s next : State) → length s.cursor.rest < suc m → next ≡ taking files s → fits grammar known (atom_of (next_token s.cursor).0) (at_hand s.reading).stack ≡ true → length next.cursor.rest < m
+shorter files m s next less is f =
     let fewer : length (next_token s.cursor).1.rest < length s.cursor.rest =
     less_behind (length s.cursor.rest) (next_token s.cursor) (next_moves s.cursor) (fits_no_end (next_token s.cursor).0 (at_hand s.reading).stack f) in
     let same : length next.cursor.rest ≡ length (next_token s.cursor).1.rest = ap (λ x. length x.cursor.rest) is in
     omega (arith, fewer, same, less)
 
 -- inside of a piece
-inside : (file : List ℕ) (m : ℕ) (tokens : List Spelled) (s : State) → At tokens (has_come s.reading.unit) s.reading → length s.cursor.rest < m → Leads file tokens s
-inside file zero tokens s at less = absurd (omega arith)
-inside file (suc m) tokens s at less =
-    by_stack (λ next is f on. inside file m (tokens ++ (next_token s.cursor).0 ∷ []) next on (shorter file m s next less is f)) s.reading.stack refl
+inside : (files : FileNames) (m : ℕ) (tokens : List Spelled) (s : State) → At tokens (has_come s.reading.unit) s.reading → length s.cursor.rest < m → Leads files tokens s
+inside files zero tokens s at less = absurd (omega arith)
+inside files (suc m) tokens s at less =
+    by_stack (λ next is f on. inside files m (tokens ++ (next_token s.cursor).0 ∷ []) next on (shorter files m s next less is f)) s.reading.stack refl
   where
     t : Spelled
     t = (next_token s.cursor).0
@@ -175,16 +176,16 @@ inside file (suc m) tokens s at less =
     there : Stand → State
     there x = stand (record s { cursor = (next_token s.cursor).1 }) x
 
-    by_stack : ((next : State) → next ≡ taking file s → fits grammar known (atom_of t) (at_hand s.reading).stack ≡ true → At (tokens ++ t ∷ []) (has_come next.reading.unit) next.reading → Leads file (tokens ++ t ∷ []) next)
-        → (stack : List (Symbol Action)) → s.reading.stack ≡ stack → Leads file tokens s
-    by_stack later [] e = ToItsEnd 0 (none_taken file s) at.reads e refl (subst IsPiece (sym (append-nil tokens)) (ends tokens (has_come s.reading.unit) s.reading at e))
+    by_stack : ((next : State) → next ≡ taking files s → fits grammar known (atom_of t) (at_hand s.reading).stack ≡ true → At (tokens ++ t ∷ []) (has_come next.reading.unit) next.reading → Leads files (tokens ++ t ∷ []) next)
+        → (stack : List (Symbol Action)) → s.reading.stack ≡ stack → Leads files tokens s
+    by_stack later [] e = ToItsEnd 0 (none_taken files s) at.reads e refl (subst IsPiece (sym (append-nil tokens)) (ends tokens (has_come s.reading.unit) s.reading at e))
     by_stack later (symbol ∷ symbols) e =
         let same : s.reading ≡ at_hand s.reading = sym (ap (λ stack. at_hand_by stack s.reading) e) in
-        let turns : turn file s ≡ there (judged file (has_come s.reading.unit t) t (at_hand s.reading) s.work) =
-        ap (λ m. there (step_in m file t s.reading s.work)) at.reads
-        ∙ ap (λ stack. there (read_at file t stack s.reading s.work)) e
-        ∙ ap (λ r. there (judged file (has_come s.reading.unit t) t r s.work)) same in
-        step file tokens (has_come s.reading.unit) s turns (subst (λ r. At tokens (has_come s.reading.unit) r) same at) later
+        let turns : turn files s ≡ there (judged files (has_come s.reading.unit t) t (at_hand s.reading) s.work) =
+        ap (λ m. there (step_in m files t s.reading s.work)) at.reads
+        ∙ ap (λ stack. there (read_at files t stack s.reading s.work)) e
+        ∙ ap (λ r. there (judged files (has_come s.reading.unit t) t r s.work)) same in
+        step files tokens (has_come s.reading.unit) s turns (subst (λ r. At tokens (has_come s.reading.unit) r) same at) later
 
 -- between the pieces
 nothing_read : (r : Reading) → r.mode ≡ mode.Reads → At [] begins_piece (piece_begun r)
@@ -196,18 +197,18 @@ nothing_read r reads = record {
 }
 
 pub pieces_are_read : PiecesAreRead
-pieces_are_read file s reads empty going =
+pieces_are_read files s reads empty going =
     let t : Spelled = (next_token s.cursor).0 in
     let same : piece_begun s.reading ≡ at_hand s.reading = sym (ap (λ stack. at_hand_by stack s.reading) empty) in
     let behind_t : State = record s { cursor = (next_token s.cursor).1 } in
     let over : Stand = record { reading = record s.reading { mode = mode.Ended }; work = s.work } in
-    let turns : turn file s ≡ stand behind_t (judged file (begins_piece t) t (at_hand s.reading) s.work) =
-    ap (λ m. stand behind_t (step_in m file t s.reading s.work)) reads
-    ∙ ap (λ stack. stand behind_t (read_at file t stack s.reading s.work)) empty
-    ∙ ap (λ b. stand behind_t (cond b over (judged file (begins_piece t) t (piece_begun s.reading) s.work))) going
-    ∙ ap (λ r. stand behind_t (judged file (begins_piece t) t r s.work)) same in
-    step file [] begins_piece s turns (subst (λ r. At [] begins_piece r) same (nothing_read s.reading reads))
-    (λ next is f on. inside file (length s.cursor.rest) (t ∷ []) next on (shorter file (length s.cursor.rest) s next (omega arith) is f))
+    let turns : turn files s ≡ stand behind_t (judged files (begins_piece t) t (at_hand s.reading) s.work) =
+    ap (λ m. stand behind_t (step_in m files t s.reading s.work)) reads
+    ∙ ap (λ stack. stand behind_t (read_at files t stack s.reading s.work)) empty
+    ∙ ap (λ b. stand behind_t (cond b over (judged files (begins_piece t) t (piece_begun s.reading) s.work))) going
+    ∙ ap (λ r. stand behind_t (judged files (begins_piece t) t r s.work)) same in
+    step files [] begins_piece s turns (subst (λ r. At [] begins_piece r) same (nothing_read s.reading reads))
+    (λ next is f on. inside files (length s.cursor.rest) (t ∷ []) next on (shorter files (length s.cursor.rest) s next (omega arith) is f))
 
 -- What pieces begin
 

@@ -46,13 +46,13 @@ hello = codes "[ Main; print \"hello\"; ];"
 
 -- no locals, print, the text, rtrue, and a zero to a multiple of 4
 abbrev pub HelloIsCompiled : Type 0
-HelloIsCompiled = (compiled name hello).work.output.code.finished ≡ known (0x00 ∷ 0xB2 ∷ 0x35 ∷ 0x51 ∷ 0xC6 ∷ 0x85 ∷ 0xB0 ∷ 0x00 ∷ [])
+HelloIsCompiled = (compiled (name ∷ []) hello).work.output.code.finished ≡ known (0x00 ∷ 0xB2 ∷ 0x35 ∷ 0x51 ∷ 0xC6 ∷ 0x85 ∷ 0xB0 ∷ 0x00 ∷ [])
 
 -- Two routines of one local: the first calls the second with its local and gives it back, as the second does. The address
 -- of the second, which is name number 1, comes later.
 abbrev pub CallsAreCompiled : Type 0
 CallsAreCompiled =
-    (compiled name (codes "[ Main x; F(x); return x; ]; [ F y; return y; ];")).work.output.code.finished
+    (compiled (name ∷ []) (codes "[ Main x; F(x); return x; ]; [ F y; return y; ];")).work.output.code.finished
     ≡ known (0x01 ∷ 0xDA ∷ 0x2F ∷ [])
     ++ Awaited (record { kind = PackedAddress; number = 1 })
     ∷ known (0x01 ∷ 0xAB ∷ 0x01 ∷ 0x01 ∷ 0xAB ∷ 0x01 ∷ 0x00 ∷ [])

@@ -3,7 +3,8 @@
 use Rattle.std.specs.Prelude.{◌≡◌, ℕ, ◌<◌, List, [], ◌∷◌, ◌++◌, map, take, true, false, zero, suc, Some}
 use Rattle.inf_unit.specs.Tokens.{Spelled, is_end}
 use Rattle.inf_reader.specs.Cursors.{Cursor, next_token}
-use Rattle.inf_symbol.specs.Messages.{Message}
+use Rattle.inf_report.specs.Messages.{Message}
+use Rattle.inf_unit.specs.Messages.{FileNames}
 use Rattle.inf_grammar.specs.declared.actions.Action.{Action}
 use Rattle.inf_machine.specs.declared.symbols.Symbol.{Symbol}
 use Rattle.inf_machine.specs.declared.symbols.Symbol.TheVariants.{Rule}
@@ -39,9 +40,9 @@ behind zero c = c
 behind (suc n) c = behind n (next_token c).1
 
 -- n turns of reading
-abbrev pub turned : List ℕ → ℕ → State → State
-turned file zero s = s
-turned file (suc n) s = turned file n (turn file s)
+abbrev pub turned : FileNames → ℕ → State → State
+turned files zero s = s
+turned files (suc n) s = turned files n (turn files s)
 
 -- the piece that is at hand at a token: a new one where there was none
 abbrev pub at_hand_by : List (Symbol Action) → Reading → Reading
@@ -52,27 +53,27 @@ abbrev pub at_hand : Reading → Reading
 at_hand r = at_hand_by r.stack r
 
 -- the next token is taken: the actions on the way to it act, and the grammar's machine goes on behind it
-abbrev pub taking : List ℕ → State → State
-taking file s = let t = next_token s.cursor in stand (record s { cursor = t.1 }) (took file t.0 (at_hand s.reading) s.work)
+abbrev pub taking : FileNames → State → State
+taking files s = let t = next_token s.cursor in stand (record s { cursor = t.1 }) (took files t.0 (at_hand s.reading) s.work)
 
 -- it is told as bad, and is the first that is passed over
-abbrev pub telling : List ℕ → State → State
-telling file s = let t = next_token s.cursor in stand (record s { cursor = t.1 }) (bad file t.0 (at_hand s.reading) s.work)
+abbrev pub telling : FileNames → State → State
+telling files s = let t = next_token s.cursor in stand (record s { cursor = t.1 }) (bad files t.0 (at_hand s.reading) s.work)
 
 -- each of the next n tokens is taken
-abbrev pub AllAreTaken : List ℕ → ℕ → State → Type 0
-AllAreTaken file n s = (m : ℕ) → m < n → turned file (suc m) s ≡ taking file (turned file m s)
+abbrev pub AllAreTaken : FileNames → ℕ → State → Type 0
+AllAreTaken files n s = (m : ℕ) → m < n → turned files (suc m) s ≡ taking files (turned files m s)
 
 -- Where reading leads, behind some tokens of a piece: all its other tokens are taken, to its end, where no piece is at hand; or the
 -- tokens up to the bad one are, which is told, and is the first with which the tokens begin no piece.
-pub data Leads (file : List ℕ) (before : List Spelled) (s : State) : Type 0 where
-  ToItsEnd : (n : ℕ) → AllAreTaken file n s → (turned file n s).reading.mode ≡ mode.Reads → (turned file n s).reading.stack ≡ [] → (turned file n s).cursor ≡ behind n s.cursor → IsPiece (before ++ front n s.cursor) → Leads file before s
-  ToABadToken : (n : ℕ) → AllAreTaken file n s → turned file (suc n) s ≡ telling file (turned file n s) → BeginsPiece (before ++ front n s.cursor) → (BeginsPiece (before ++ front (suc n) s.cursor) → ⊥) → Leads file before s
+pub data Leads (files : FileNames) (before : List Spelled) (s : State) : Type 0 where
+  ToItsEnd : (n : ℕ) → AllAreTaken files n s → (turned files n s).reading.mode ≡ mode.Reads → (turned files n s).reading.stack ≡ [] → (turned files n s).cursor ≡ behind n s.cursor → IsPiece (before ++ front n s.cursor) → Leads files before s
+  ToABadToken : (n : ℕ) → AllAreTaken files n s → turned files (suc n) s ≡ telling files (turned files n s) → BeginsPiece (before ++ front n s.cursor) → (BeginsPiece (before ++ front (suc n) s.cursor) → ⊥) → Leads files before s
 
 -- Between the pieces of a source, before its end, reading leads through a piece or to the bad token.
 abbrev pub PiecesAreRead : Type 0
 PiecesAreRead =
-    (file : List ℕ) (s : State) → s.reading.mode ≡ mode.Reads → s.reading.stack ≡ [] → is_end (next_token s.cursor).0.kind ≡ false → Leads file [] s
+    (files : FileNames) (s : State) → s.reading.mode ≡ mode.Reads → s.reading.stack ≡ [] → is_end (next_token s.cursor).0.kind ≡ false → Leads files [] s
 
 -- A token that is faulty by itself fits nowhere.
 abbrev pub FaultyTokensFitNothing : Type 0
@@ -89,4 +90,4 @@ FrontsBegin = (tokens : List Spelled) (n : ℕ) → BeginsPiece tokens → Begin
 -- The turns are those that reading makes, as long as it has not ended.
 abbrev pub TurnsAreRead : Type 0
 TurnsAreRead =
-    (file : List ℕ) (n : ℕ) (s : State) → ((m : ℕ) → m < n → has_ended (turned file m s) ≡ false) → run file n s ≡ turned file n s
+    (files : FileNames) (n : ℕ) (s : State) → ((m : ℕ) → m < n → has_ended (turned files m s) ≡ false) → run files n s ≡ turned files n s

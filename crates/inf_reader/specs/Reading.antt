@@ -6,7 +6,10 @@ use Rattle.std.specs.Prelude.{ℕ, List, [], ◌∷◌, length, Bool, true, fals
 use Rattle.inf_scanner.specs.Lines.{first_line}
 use Rattle.inf_scanner.specs.declared.tokens.Mark.TheVariants as mark
 use Rattle.inf_scanner.specs.declared.tokens.TokenKind.{TokenKind}
-use Rattle.inf_symbol.specs.Messages.{Message, Reported, is_fatal, with_error, with_fatal}
+use Rattle.inf_report.specs.Messages.{Location, Message, kind_of}
+use Rattle.inf_report.specs.declared.messages.Kind.{Kind}
+use Rattle.inf_report.specs.declared.messages.Kind.TheVariants as weight
+use Rattle.inf_unit.specs.Messages.{FileNames, Reported, location, with_error, with_fatal}
 use Rattle.inf_unit.specs.Tokens.{Spelled, is_end, is_mark}
 use Rattle.inf_grammar.specs.declared.actions.Action.{Action}
 use Rattle.inf_machine.specs.declared.symbols.Symbol.{Symbol}
@@ -50,7 +53,7 @@ begun_stand = record { reading = between mode.Reads; work = no_work }
 -- before the first turn all of the source is still to come
 abbrev pub start : List ℕ → State
 start source = record {
-  cursor = record { rest = source; lines = first_line };
+  cursor = record { rest = source; lines = first_line; file = 0 };
   reading = between mode.Reads;
   work = no_work;
 }
@@ -61,10 +64,10 @@ is_mode_ended _ = false
 
 -- nothing is read after the end of the source or a fatal message
 abbrev pub has_ended_at : Stand → Bool
-has_ended_at s = s.work.report.is_over || is_mode_ended s.reading.mode
+has_ended_at s = s.work.report.counts.is_over || is_mode_ended s.reading.mode
 
 abbrev pub has_ended : State → Bool
-has_ended s = s.work.report.is_over || is_mode_ended s.reading.mode
+has_ended s = s.work.report.counts.is_over || is_mode_ended s.reading.mode
 
 -- Bad pieces
 
@@ -84,15 +87,19 @@ skip_of stack = if is_in_routine stack then mode.SkipsRoutine else mode.SkipsDir
 -- Tokens
 
 -- what is wrong with a token at a line: a text that is too long ends the compilation
-abbrev pub with_complaint : List ℕ → ℕ → Message → Reported → Reported
-with_complaint file line m r = if is_fatal m then with_fatal file line m r else with_error file line line m r
+abbrev pub with_complaint_of : Kind → Location → Message → Reported → Reported
+with_complaint_of weight.Fatal at m r = with_fatal at m r
+with_complaint_of _ at m r = with_error at at m r
+
+abbrev pub with_complaint : Location → Message → Reported → Reported
+with_complaint at m r = with_complaint_of (kind_of m) at m r
 
 -- The bad token of a piece is told, and is the first that is passed over. The unit that it stands in gives nothing, and a
 -- routine that it stands in is never finished: what there is of it and of its locals is left, and nothing reads it.
-abbrev pub bad : List ℕ → Spelled → Reading → Work → Stand
-bad file t r w = record {
+abbrev pub bad : FileNames → Spelled → Reading → Work → Stand
+bad files t r w = record {
   reading = between (passed (skip_of r.stack) t.kind);
-  work = record w { report = with_complaint file t.line (complaint_of t) w.report };
+  work = record w { report = with_complaint (location files t.place) (complaint_of t) w.report };
 }
 
 -- what is gathered behind a token that was taken
@@ -100,18 +107,18 @@ abbrev pub gathering : Spelled → Gathered → Gathered
 gathering t g = record g { named = name_of t; read = read_of t }
 
 -- A token that fits is taken: first the actions on the way to it act.
-abbrev pub took : List ℕ → Spelled → Reading → Work → Stand
-took file t r w =
+abbrev pub took : FileNames → Spelled → Reading → Work → Stand
+took files t r w =
     let n = taken grammar known (atom_of t) r.stack in
-    let acted_on = acted file r.unit t.line n.actions w in
+    let acted_on = acted files r.unit t.place n.actions w in
     record {
       reading = record { mode = r.mode; stack = n.left; unit = unit_behind t r.unit };
       work = record acted_on { gathered = gathering t acted_on.gathered };
     }
 
 -- a token of a piece, if it may go on with it as far as what has come goes, is taken where it fits; else it is the bad one
-abbrev pub judged : List ℕ → Bool → Spelled → Reading → Work → Stand
-judged file has_come t r w = if has_come && fits grammar known (atom_of t) r.stack then took file t r w else bad file t r w
+abbrev pub judged : FileNames → Bool → Spelled → Reading → Work → Stand
+judged files has_come t r w = if has_come && fits grammar known (atom_of t) r.stack then took files t r w else bad files t r w
 
 -- the rule of the pieces
 abbrev pub piece_rule : ℕ
@@ -122,40 +129,40 @@ abbrev pub piece_begun : Reading → Reading
 piece_begun r = record { mode = r.mode; stack = Rule piece_rule ∷ []; unit = no_unit }
 
 -- the next token where this is still to come: of a new piece, or of the one at hand
-abbrev pub read_at : List ℕ → Spelled → List (Symbol Action) → Reading → Work → Stand
-read_at file t [] r w =
+abbrev pub read_at : FileNames → Spelled → List (Symbol Action) → Reading → Work → Stand
+read_at files t [] r w =
     if is_end t.kind then record { reading = record r { mode = mode.Ended }; work = w }
-    else judged file (begins_piece t) t (piece_begun r) w
-read_at file t (_ ∷ _) r w = judged file (has_come r.unit t) t r w
+    else judged files (begins_piece t) t (piece_begun r) w
+read_at files t (_ ∷ _) r w = judged files (has_come r.unit t) t r w
 
-abbrev pub step_in : Mode → List ℕ → Spelled → Reading → Work → Stand
-step_in mode.Reads file t r w = read_at file t r.stack r w
-step_in mode.Ended file t r w = record { reading = r; work = w }
-step_in skip file t r w = record { reading = record r { mode = passed skip t.kind }; work = w }
+abbrev pub step_in : Mode → FileNames → Spelled → Reading → Work → Stand
+step_in mode.Reads files t r w = read_at files t r.stack r w
+step_in mode.Ended files t r w = record { reading = r; work = w }
+step_in skip files t r w = record { reading = record r { mode = passed skip t.kind }; work = w }
 
 -- what a token does
-abbrev pub step : List ℕ → Spelled → Reading → Work → Stand
-step file t r w = step_in r.mode file t r w
+abbrev pub step : FileNames → Spelled → Reading → Work → Stand
+step files t r w = step_in r.mode files t r w
 
 abbrev pub stand : State → Stand → State
 stand s n = record s { reading = n.reading; work = n.work }
 
-abbrev pub taken_at : List ℕ → Spelled → State → State
-taken_at file t s = stand s (step file t s.reading s.work)
+abbrev pub taken_at : FileNames → Spelled → State → State
+taken_at files t s = stand s (step files t s.reading s.work)
 
 -- one turn of reading takes the next token
-abbrev pub turn : List ℕ → State → State
-turn file s = let t = next_token s.cursor in taken_at file t.0 (record s { cursor = t.1 })
+abbrev pub turn : FileNames → State → State
+turn files s = let t = next_token s.cursor in taken_at files t.0 (record s { cursor = t.1 })
 
 -- at most n turns
-abbrev pub run : List ℕ → ℕ → State → State
-run file zero s = s
-run file (suc n) s = if has_ended s then s else run file n (turn file s)
+abbrev pub run : FileNames → ℕ → State → State
+run files zero s = s
+run files (suc n) s = if has_ended s then s else run files n (turn files s)
 
 -- Each turn takes a token or finds the end, so this many turns read the whole source.
 abbrev pub turns_of : List ℕ → ℕ
 turns_of source = suc (length source)
 
 -- what is compiled of a source
-abbrev pub compiled : List ℕ → List ℕ → State
-compiled file source = run file (turns_of source) (start source)
+abbrev pub compiled : FileNames → List ℕ → State
+compiled files source = run files (turns_of source) (start source)

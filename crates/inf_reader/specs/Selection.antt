@@ -58,8 +58,8 @@ goes_on _ u t = is_mark mark.Semicolon t.kind
 -- whether a token may go on with a unit that begins so, as far as what has come goes; in a header all may
 abbrev pub has_come_behind : Option Head → Unit → Spelled → Bool
 has_come_behind None u t = begins_statement t.kind t.bytes
-has_come_behind (Some (head.Header line)) u t = true
-has_come_behind (Some (head.Statement s line)) u t = goes_on s u t
+has_come_behind (Some (head.Header place)) u t = true
+has_come_behind (Some (head.Statement s place)) u t = goes_on s u t
 
 abbrev pub has_come : Unit → Spelled → Bool
 has_come u t = has_come_behind u.head u t

@@ -9,10 +9,11 @@ use Rattle.inf_scanner.specs.declared.tokens.BadToken.{BadToken}
 use Rattle.inf_scanner.specs.declared.tokens.BadToken.TheVariants as bad
 use Rattle.inf_scanner.specs.declared.tokens.TokenKind.{TokenKind}
 use Rattle.inf_scanner.specs.declared.tokens.TokenKind.TheVariants as kind
-use Rattle.inf_symbol.specs.Messages.{Message, Syntax, IllegalCharacter, UnclosedQuote, NumberOutOfRange, UnknownEscape, LongName, NoZscii, TextExceeded}
-use Rattle.inf_symbol.specs.Names.{is_condition_word}
+use Rattle.inf_settings.specs.declared.setting.Setting.TheVariants.{QuotedText}
+use Rattle.inf_report.specs.Messages.{Message, Syntax, IllegalCharacter, UnclosedQuote, NumberOutOfRange, UnknownEscape, LongName, NoZscii, Exceeded}
 use Rattle.inf_grammar.specs.Atoms.{mark_atom, place_in, first_word, first_literal}
 use Rattle.inf_grammar.specs.Words.{words}
+use Rattle.inf_unit.specs.Keywords.{is_condition_word}
 use Rattle.inf_unit.specs.Tokens.{Spelled, told}
 
 -- a name
@@ -54,7 +55,7 @@ message_of bad.LongName = LongName
 message_of bad.UnknownEscape = UnknownEscape
 message_of bad.NoZscii = NoZscii
 message_of bad.BadCode = NumberOutOfRange
-message_of bad.TooLong = TextExceeded
+message_of bad.TooLong = Exceeded QuotedText
 
 -- what a token by itself is blamed for, if it is
 abbrev pub fault_of_kind : TokenKind → Option Message

@@ -1,5 +1,5 @@
 //! How a source is read: the machine of the grammar, and how bad pieces are passed over.
-ghost use Rattle.std.specs.Prelude.{◌≡◌, [], OnOk, true};
+ghost use Rattle.std.specs.Prelude.{◌≡◌, [], IfOk, OnOk, false, true};
 ghost use Rattle.inf_grammar.specs.Language.{grammar, known};
 ghost use Rattle.inf_machine.specs.Machine.{fits, taken};
 ghost use Rattle.inf_reader.specs.Reading.{between, passed, skip_of, piece_begun};
@@ -41,16 +41,17 @@ impl Reader {
         self.machine.start(PIECE)
     }
 
-    /// Takes a token that fits, with the actions on the way to it.
-    pub fn take(&mut self, atom: u8, actions: &mut Vec<Action>) -> Result<(), AllocError>
-        requires { fits grammar known atom (reading self.old).stack ≡ true }
-        ensures reading { let before = reading self.old in
-            OnOk result (reading self.new
-            ≡ record before { stack = (taken grammar known atom before.stack).left }) }
-        ensures actions { OnOk result (actions.new.items ≡ (taken grammar known atom (reading self.old).stack).actions) }
+    /// Whether a token fits; where it does, it is taken, with the actions on the way to it.
+    pub fn read(&mut self, atom: u8, actions: &mut Vec<Action>) -> Result<bool, AllocError>
+        ensures fits { IfOk result (λ is_taken. is_taken ≡ fits grammar known atom (reading self.old).stack) }
+        ensures reading { let before = reading self.old in IfOk result (λ is_taken. is_taken ≡ true →
+            reading self.new ≡ record before { stack = (taken grammar known atom before.stack).left }) }
+        ensures actions { IfOk result (λ is_taken. is_taken ≡ true →
+            actions.new.items ≡ (taken grammar known atom (reading self.old).stack).actions) }
+        ensures same { IfOk result (λ is_taken. is_taken ≡ false → reading self.new ≡ reading self.old) }
     {
         actions.clear();
-        self.machine.take(atom, actions)
+        self.machine.read(atom, actions)
     }
 
     /// The piece at hand is bad: it is given up, and its bad token passed over.

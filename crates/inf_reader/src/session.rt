@@ -4,9 +4,7 @@ ghost use Rattle.inf_characters.specs.declared.characters.CharSet.TheVariants as
 ghost use Rattle.inf_token.specs.Files.{Rose, last_count};
 ghost use Rattle.inf_lexer.specs.Readers.{at_front};
 ghost use Rattle.inf_lexer.specs.Unread.{Along, Ends, Heard};
-ghost use Rattle.inf_symbol.specs.Reported.{reported};
-ghost use Rattle.inf_symbol.specs.Names.{places};
-ghost use Rattle.inf_symbol.specs.NameMap.{named as name_list};
+ghost use Rattle.inf_unit.specs.Names.{places};
 ghost use Rattle.inf_layout.specs.Story.{story, is_too_long};
 ghost use Rattle.inf_unit.specs.Works.{work as work_of};
 ghost use Rattle.inf_reader.specs.Cursors.{most_quoted};
@@ -18,12 +16,13 @@ ghost use Rattle.inf_reader.specs.Translations.{seen};
 use crate::outcome::{Status, Translation};
 use crate::progress::Progress;
 use inf_layout::code::Code;
-use inf_layout::layout::story;
-use inf_lexer::{LexFault, Lexer};
-use inf_symbol::messages::Message;
-use inf_symbol::names::Names;
-use inf_symbol::report::Report;
+use inf_layout::layout::{MOST_BYTES, story};
+use inf_lexer::{LexFault, Lexer, Place, Stack};
+use inf_names::symbols::Symbols;
+use inf_report::messages::{Location, Message};
 use inf_token::files::Files;
+use inf_unit::messages::{Messages, location};
+use inf_unit::names::{main_of, packed_addresses, tell_undeclared};
 use inf_unit::tokens::Spelled;
 use inf_unit::work::Work;
 use std::alloc::{AllocError, AllocFailed, Global};
@@ -32,12 +31,12 @@ use std::alloc::{AllocError, AllocFailed, Global};
 pub const MOST_QUOTED: u32 = 4000;
 
 /// Where the messages about a whole source stand.
-const FIRST_LINE: u32 = 1;
+const FIRST_LINE: Place = Place { file: 0, line: 1 };
 
 /// The reading of one source, and what was compiled of it so far.
 #[derive(Drop)]
 pub struct Session<'a> {
-    file: &'a [u8],
+    names: &'a Stack,
     lexer: Lexer,
     progress: Progress,
 }
@@ -46,17 +45,17 @@ impl<'a> Session<'a> {
     ghost use Rattle.inf_reader.specs.Reading.{has_ended_at, run, start, turn, turns_of};
     ghost use Rattle.inf_reader.specs.Sessions.{Moves, Stops, standing, state};
 
-    /// At the front of a source of this name, of which the lexer has read nothing yet. It takes no memory until
+    /// At the front of the first of these files, of which the lexer has read nothing yet. It takes no memory until
     /// something is read.
-    fn new(alloc: Global, file: &'a [u8], lexer: Lexer) -> Session<'a>
-        requires { lexer ≡ at_front charset.Latin1 most_quoted lexer.file }
+    fn new(alloc: Global, names: &'a Stack, lexer: Lexer) -> Session<'a>
+        requires { lexer ≡ at_front charset.Latin1 most_quoted 0 }
         ensures state { (rest : List ℕ) → state result rest ≡ start rest }
         ensures ready { IsReady result.lexer }
         ensures window { result.lexer.window ≡ lexer.window }
-        ensures file { result.file.now ≡ file.now }
+        ensures names { result.names.now ≡ names.now }
     {
         Session {
-            file,
+            names,
             lexer,
             progress: Progress::new(alloc),
         }
@@ -70,9 +69,9 @@ impl<'a> Session<'a> {
         requires few { self.old.lexer.window.given ≤ 16777216 }
         ensures heard { IfOk result (λ _. Heard State (F.is_honest files.old) (F.sources files.old)
             (F.openings files.old) (F.openings files.new) self.old.lexer.window self.new.lexer.window
-            (state self.new) (λ rest. run self.old.file.now (turns_of rest) (state self.old rest))) }
+            (state self.new) (λ rest. run self.old.names.now.names (turns_of rest) (state self.old rest))) }
         ensures stops { IfOk result (λ _. Stops (standing self.old.progress) (standing self.new.progress) self.new.lexer.window) }
-        ensures file { self.new.file ≡ self.old.file }
+        ensures names { self.new.names ≡ self.old.names }
         ensures end { IsTrue (F.is_honest files.old) → Ends (F.sources files.old) (F.openings files.old) self.old.lexer.window →
             Ends (F.sources files.old) (F.openings files.new) self.new.lexer.window }
         ensures window { OnOk result (length self.old.lexer.window.left ≤ 4096 → length self.new.lexer.window.left ≤ 4096) }
@@ -101,11 +100,11 @@ impl<'a> Session<'a> {
         requires ready { IsReady self.old.lexer }
         ensures heard { IfOk result (λ _. Heard State (F.is_honest files.old) (F.sources files.old)
             (F.openings files.old) (F.openings files.new) self.old.lexer.window self.new.lexer.window
-            (state self.new) (λ rest. turn self.old.file.now (state self.old rest))) }
+            (state self.new) (λ rest. turn self.old.names.now.names (state self.old rest))) }
         ensures moves { IfOk result (λ _. Moves (standing self.new.progress) self.old.lexer.window self.new.lexer.window) }
         ensures stops { IfOk result (λ _. Stops (standing self.old.progress) (standing self.new.progress) self.new.lexer.window) }
         ensures ready { OnOk result (IsReady self.new.lexer) }
-        ensures file { self.new.file ≡ self.old.file }
+        ensures names { self.new.names ≡ self.old.names }
         ensures end { IsTrue (F.is_honest files.old) → Ends (F.sources files.old) (F.openings files.old) self.old.lexer.window →
             Ends (F.sources files.old) (F.openings files.new) self.new.lexer.window }
         ensures window { length self.new.lexer.window.left ≤ 4096 }
@@ -125,36 +124,42 @@ impl<'a> Session<'a> {
         let spelled = Spelled {
             kind: token.kind,
             bytes: self.lexer.spelling(),
-            line: token.place.line,
+            place: token.place,
         };
-        self.progress.take(self.file, &spelled)?;
+        self.progress.take(self.names, &spelled)?;
         Ok(())
     }
 }
 
 /// Ends the compilation of a source that was read. A name that was used and never declared is
 /// an error, and that there is no routine `Main`. A story comes only where no error was found.
-fn finish(alloc: Global, file: &[u8], serial: &[u8], work: Work) -> Result<Translation, AllocError>
-    ensures { IfOk result (λ t. seen t ≡ finished serial.now file.now (work_of work)) }
+fn finish(
+    alloc: Global,
+    files: &Stack,
+    serial: &[u8],
+    work: Work,
+) -> Result<Translation, AllocError>
+    ensures { IfOk result (λ t. seen t ≡ finished serial.now files.now.names (work_of work)) }
 {
     let mut report = work.report;
     let names = work.names;
     let output = work.output;
-    names.tell_undeclared(file, &mut report)?;
-    let Some(main) = names.find(b"main") else {
-        report.error(file, FIRST_LINE, FIRST_LINE, Message::NoMain)?;
+    let at = location(files, FIRST_LINE);
+    tell_undeclared(&names, files, &mut report)?;
+    let Some(main) = main_of(&names) else {
+        report.error(at, at, &Message::NoMain)?;
         return refused(report);
     };
-    if report.is_over || report.errors != 0 {
+    if report.is_over() || report.errors() != 0 {
         return refused(report);
     }
-    let Some(story) = story_of(alloc, serial, main.place, &names, output.code)? else {
-        report.fatal(file, FIRST_LINE, Message::StoryTooLong)?;
+    let Some(story) = story_of(alloc, serial, main, &names, output.code)? else {
+        report.fatal(at, &Message::StoryTooLong(MOST_BYTES as u32))?;
         return refused(report);
     };
     report.close()?;
     Ok(Translation {
-        messages: report.lines,
+        messages: report.into_lines(),
         story: Some(story),
         status: Status::Success,
     })
@@ -166,31 +171,31 @@ fn story_of(
     alloc: Global,
     serial: &[u8],
     main: usize,
-    names: &Names,
+    names: &Symbols<Place>,
     code: Code,
 ) -> Result<Option<Vec<u8>>, AllocError>
-    ensures long { IfOk result (λ o. is_none o ≡ is_too_long main (places (name_list names.now)) code.finished) }
+    ensures long { IfOk result (λ o. is_none o ≡ is_too_long main (places names.now.names) code.finished) }
     ensures bytes { IfOk result (λ o. IfSome o (λ v.
-        v.items ≡ story serial.now main (places (name_list names.now)) code.finished)) }
+        v.items ≡ story serial.now main (places names.now.names) code.finished)) }
 {
-    let addresses = names.packed_addresses(alloc)?;
+    let addresses = packed_addresses(alloc, names)?;
     let routines = code.fill(addresses.as_slice());
     story(alloc, serial, main, routines.as_slice())
 }
 
 /// The outcome of a compilation with an error or a fatal one.
-fn refused(mut report: Report) -> Result<Translation, AllocError>
-    ensures { IfOk result (λ t. seen t ≡ refused (reported report)) }
+fn refused(mut report: Messages) -> Result<Translation, AllocError>
+    ensures { IfOk result (λ t. seen t ≡ refused report) }
 {
     report.close()?;
     Ok(Translation {
-        messages: report.lines,
+        messages: report.into_lines(),
         story: None,
         status: Status::Errors,
     })
 }
 
-/// Compiles a source of this name: its messages, and its story where it has no error. The serial
+/// Compiles the first of these files: its messages, and its story where it has no error. The serial
 /// number has six digits. The lexer has read nothing yet; its source is the one that was opened last and is not closed,
 /// and it is read to its end, or to a fatal message.
 ///
@@ -198,17 +203,17 @@ fn refused(mut report: Report) -> Result<Translation, AllocError>
 /// refused.
 pub fn translate<F: Files>(
     alloc: Global,
-    file: &[u8],
+    names: &Stack,
     lexer: Lexer,
     files: &mut F,
     serial: &[u8],
 ) -> Result<Translation, LexFault>
     requires is_open { 0 < F.depth files.old }
-    requires front { lexer ≡ at_front charset.Latin1 most_quoted lexer.file }
+    requires front { lexer ≡ at_front charset.Latin1 most_quoted 0 }
 
     // What comes of the bytes that were given, whatever follows them.
     ensures read { IfOk result (λ t. HasRead (F.is_honest files.old) (F.sources files.old)
-        (F.openings files.old) (F.openings files.new) serial.now file.now (seen t)) }
+        (F.openings files.old) (F.openings files.new) serial.now names.now.names (seen t)) }
 
     // A refusal has its cause.
     ensures cause { IsErrOf result LexFault.Read → Rose (F.faults files.old) (F.faults files.new)
@@ -219,18 +224,22 @@ pub fn translate<F: Files>(
     ensures sources { F.sources files.new ≡ F.sources files.old }
     ensures honesty { F.is_honest files.new ≡ F.is_honest files.old }
 {
-    let mut session = Session::new(alloc, file, lexer);
+    let mut session = Session::new(alloc, names, lexer);
     session.read(files)?;
     let progress = session.progress;
-    let translation = finish(alloc, file, serial, progress.work)?;
+    let translation = finish(alloc, names, serial, progress.work)?;
     Ok(translation)
 }
 
-/// What comes of a source that is not there.
+/// What comes of a source of this name that is not there.
 pub fn no_file(alloc: Global, file: &[u8]) -> Result<Translation, AllocError>
     ensures { IfOk result (λ t. seen t ≡ missing file.now) }
 {
-    let mut report = Report::new(alloc);
-    report.fatal(file, FIRST_LINE, Message::NoFile)?;
+    let mut report = Messages::new(alloc);
+    let at = Location {
+        file,
+        line: FIRST_LINE.line,
+    };
+    report.fatal(at, &Message::NoSource(file))?;
     refused(report)
 }

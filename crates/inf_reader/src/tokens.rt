@@ -1,13 +1,14 @@
 ghost use Rattle.std.specs.Prelude.{◌≡◌, IfOk};
 ghost use Rattle.inf_reader.specs.Tests.{is_operand, complaint_of, message_of, read_of, atom_of};
 ghost use Rattle.inf_unit.specs.Tokens.{spelled};
-ghost use Rattle.inf_symbol.specs.Reports.{meant};
+ghost use Rattle.inf_report.specs.Meant.{meant};
 
 use inf_grammar::{Token as Seen, atom_of};
+use inf_report::messages::Message;
 use inf_scanner::{BadToken, TokenKind};
-use inf_symbol::messages::Message;
-use inf_symbol::names::is_condition_word;
+use inf_settings::setting::Setting;
 use inf_text::{CharSet, Mode, Text, TextFault, read_text};
+use inf_unit::keywords::is_condition_word;
 use inf_unit::tokens::{Spelled, told};
 use std::alloc::{AllocError, Global};
 
@@ -29,7 +30,7 @@ fn message_of(bad: BadToken) -> Message<'static>
         BadToken::LongName => Message::LongName,
         BadToken::UnknownEscape => Message::UnknownEscape,
         BadToken::NoZscii => Message::NoZscii,
-        BadToken::TooLong => Message::TextExceeded,
+        BadToken::TooLong => Message::Exceeded(Setting::QuotedText),
     }
 }
 

@@ -1,6 +1,6 @@
 -- What the code's messages stand for.
 use Rattle.inf_report.specs.OwnWords.{Words}
-use Rattle.inf_report.specs.Messages.{Location, Told, Bytes, Text, End, Message, Syntax, IllegalCharacter, UnclosedQuote, NumberOutOfRange, UnknownEscape, LongName, NoZscii, Declared, SystemName, WrongKind, Undeclared, UsedBefore, NotConstant, ConstantOutOfRange, TooManyArguments, WrongOpcode, LabelMissing, LabelTwice, NothingToLeave, BranchTooFar, TooMany, MisplacedSwitches, WrongAbbreviation, WrongVerb, NoMain, MisplacedDefault, ErrorText, LoneConditional, UnusedLocal, WarningText, Exceeded, NoInclude, TooManyFiles, FatalText, TooManyErrors, ReadableTooLong, StoryTooLong, NoSource, DeepNesting}
+use Rattle.inf_report.specs.Messages.{Location, Told, Bytes, Quote, Text, End, Message, Syntax, IllegalCharacter, UnclosedQuote, NumberOutOfRange, UnknownEscape, LongName, NoZscii, Declared, SystemName, WrongKind, Undeclared, UsedBefore, NotConstant, ConstantOutOfRange, TooManyArguments, WrongOpcode, LabelMissing, LabelTwice, NothingToLeave, BranchTooFar, TooMany, MisplacedSwitches, WrongAbbreviation, WrongVerb, NoMain, MisplacedDefault, ErrorText, LoneConditional, UnusedLocal, WarningText, Exceeded, NoInclude, TooManyFiles, FatalText, TooManyErrors, ReadableTooLong, StoryTooLong, NoSource, DeepNesting}
 use Rattle.inf_report.specs.declared.messages.Location.{Location as CodeLocation}
 use Rattle.inf_report.specs.declared.messages.Told.{Told as CodeTold}
 use Rattle.inf_report.specs.declared.messages.Told.TheVariants as told
@@ -13,6 +13,7 @@ located at = record { file = at.file.now; line = at.line }
 
 abbrev pub named : CodeTold → Told
 named (told.Bytes bytes) = Bytes bytes.now
+named (told.Quote bytes) = Quote bytes.now
 named told.Text = Text
 named told.End = End
 

@@ -2,7 +2,6 @@
 use Rattle.std.specs.Prelude.{ℕ, List, ◌++◌, codes, decimal}
 use Rattle.inf_settings.specs.declared.setting.Setting.{Setting}
 use Rattle.inf_settings.specs.Settings.{name_of}
-use Rattle.inf_symbol.specs.Messages.{place, quoted}
 use Rattle.inf_report.specs.OwnWords.{Words, shown}
 use Rattle.inf_report.specs.declared.messages.Kind.{Kind}
 use Rattle.inf_report.specs.declared.messages.Kind.TheVariants as kind
@@ -14,9 +13,11 @@ pub record Location : Type 0 where
   pub file : List ℕ
   pub line : ℕ
 
--- A token as messages name it: by its bytes, but a text by that word, and the end of a file.
+-- A token as messages name it: by its bytes, which are those between its quotes where it has single ones; but a text by that word,
+-- and the end of a file.
 pub data Told : Type 0 where
   Bytes : (bytes : List ℕ) → Told
+  Quote : (bytes : List ℕ) → Told
   Text : Told
   End : Told
 
@@ -64,9 +65,18 @@ pub data Message : Type 0 where
   NoSource : (name : List ℕ) → Message
   DeepNesting : Message
 
+-- between double quotes
+abbrev pub quoted : List ℕ → List ℕ
+quoted bytes = codes "\"" ++ bytes ++ codes "\""
+
+-- a line of a file
+abbrev pub place : List ℕ → ℕ → List ℕ
+place file line = file ++ codes "(" ++ decimal line ++ codes ")"
+
 -- how a token is told
 abbrev pub told : Told → List ℕ
 told (Bytes bytes) = quoted bytes
+told (Quote bytes) = quoted (codes "'" ++ bytes ++ codes "'")
 told Text = codes "text"
 told End = codes "end of file"
 

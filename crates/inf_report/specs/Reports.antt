@@ -1,6 +1,5 @@
 -- The report of a compilation: the lines that it writes, and what it counts.
 use Rattle.std.specs.Prelude.{ℕ, ◌+◌, List, [], ◌++◌, codes, decimal, Bool, true, false, not, ◌||◌, ◌==◌, if◌then◌else◌}
-use Rattle.inf_symbol.specs.Messages.{closing, most_errors, one_warning_more}
 use Rattle.inf_report.specs.Messages.{Location, Message, TooManyErrors, line_of}
 use Rattle.inf_report.specs.OwnWords.{Words, shown}
 use Rattle.inf_report.specs.declared.messages.Kind.TheVariants as kind
@@ -16,6 +15,10 @@ pub record Counts : Type 0 where
 abbrev pub no_counts : Bool → Counts
 no_counts has_warnings = record { errors = 0; warnings = 0; is_over = false; has_warnings = has_warnings }
 
+-- the hundredth error is the last
+abbrev pub most_errors : ℕ
+most_errors = 100
+
 -- whether the next error is the last
 abbrev pub is_last : Counts → Bool
 is_last c = c.errors + 1 == most_errors
@@ -28,6 +31,13 @@ error_lines at unit m c =
 
 abbrev pub with_error : Counts → Counts
 with_error c = if c.is_over then c else record c { errors = c.errors + 1; is_over = is_last c }
+
+-- where the count of warnings stops
+abbrev pub most_warnings : ℕ
+most_warnings = 18446744073709551615
+
+abbrev pub one_warning_more : ℕ → ℕ
+one_warning_more n = if n == most_warnings then most_warnings else n + 1
 
 -- a warning: where none are wanted it is not counted
 abbrev pub warning_lines : Location → Message → Counts → List ℕ
@@ -50,6 +60,13 @@ plain_lines words c = if c.is_over then [] else shown words ++ codes "\n"
 -- a line of the statistics
 abbrev pub statistic_lines : List ℕ → ℕ → Counts → List ℕ
 statistic_lines word n c = if c.is_over then [] else word ++ codes ": " ++ decimal n ++ codes "\n"
+
+-- what the last line ends with: with an error no story is written
+abbrev pub ending : ℕ → List ℕ
+ending errors = if errors == 0 then codes "\n" else codes " (no output)\n"
+
+abbrev pub closing : ℕ → ℕ → List ℕ
+closing errors warnings = codes "Errors: " ++ decimal errors ++ codes ", warnings: " ++ decimal warnings ++ ending errors
 
 -- the last line
 abbrev pub closing_lines : Counts → List ℕ

@@ -1,7 +1,7 @@
 -- How the texts of messages are made of pieces.
 use Rattle.std.specs.Prelude.{ℕ, List, ◌++◌, codes, decimal}
-use Rattle.inf_symbol.specs.Messages.{place, quoted}
 use Rattle.inf_report.specs.Meant.{worded}
+use Rattle.inf_report.specs.Messages.{place, quoted}
 use Rattle.inf_report.specs.OwnWords.{shown}
 use Rattle.inf_report.specs.declared.wordings.Wording.{Wording}
 use Rattle.inf_report.specs.declared.wordings.Wording.TheVariants as wording

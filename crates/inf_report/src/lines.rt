@@ -1,9 +1,9 @@
 //! The lines of messages.
 ghost use Rattle.std.specs.Prelude.{◌≡◌, ◌++◌, codes};
-ghost use Rattle.inf_symbol.specs.Messages.{closing, ending, place};
 ghost use Rattle.inf_report.specs.Meant.{located, meant, worded};
-ghost use Rattle.inf_report.specs.Messages.{line_of, TooManyErrors};
+ghost use Rattle.inf_report.specs.Messages.{line_of, place, TooManyErrors};
 ghost use Rattle.inf_report.specs.OwnWords.{shown};
+ghost use Rattle.inf_report.specs.Reports.{closing, ending};
 ghost use Rattle.inf_report.specs.declared.messages.Kind.TheVariants.{Error, Fatal};
 ghost use Rattle.inf_report.specs.Wordings.{said};
 ghost use Rattle.inf_report.specs.Writing.{Writes};

@@ -30,6 +30,8 @@ pub struct Location<'a> {
 pub enum Told<'a> {
     /// By the bytes that the source has for it.
     Bytes(&'a [u8]),
+    /// By the bytes between its single quotes.
+    Quote(&'a [u8]),
     /// A text, whatever its bytes are.
     Text,
     /// The end of a file.

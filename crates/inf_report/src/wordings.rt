@@ -77,6 +77,12 @@ impl<'a> Wording<'a> {
                 third: bytes,
                 fourth: b"\"",
             },
+            Told::Quote(bytes) => Wording::Phrase {
+                first: before,
+                second: b"\"'",
+                third: bytes,
+                fourth: b"'\"",
+            },
             Told::Text => Wording::about(before, b"text", b""),
             Told::End => Wording::about(before, b"end of file", b""),
         }

@@ -36,8 +36,12 @@ fn tells_errors(rt: HostRuntime) -> Result<(), Fail> {
         file: b"lib/c.h",
         line: 4_294_967_295,
     };
-    let told: [(Message<'_>, &str); 20] = [
+    let told: [(Message<'_>, &str); 21] = [
         (Message::Syntax(Told::Bytes(b";")), "Syntax error at \";\""),
+        (
+            Message::Syntax(Told::Quote(b"x")),
+            "Syntax error at \"'x'\"",
+        ),
         (Message::Syntax(Told::Text), "Syntax error at text"),
         (Message::Syntax(Told::End), "Syntax error at end of file"),
         (

@@ -1,4 +1,3 @@
-pub mod NameLemmas
 pub mod TakenBytes
 pub mod LocalLemmas
 pub mod Places

@@ -12,7 +12,7 @@ has name l = str_eq_ignore_ascii_case l.name.items name
 
 -- a local that was named
 abbrev pub as_named : Local → Local
-as_named l = record { name = l.name; line = l.line; is_named = true }
+as_named l = record { name = l.name; place = l.place; is_named = true }
 
 pub local_of-found : (name : List ℕ) (ls : List Local) (d : Local) → position_or_len (has name) ls < length ls → local_of name (map local ls) ≡ Some (local (get_or ls (position_or_len (has name) ls) d))
 local_of-found name [] d lt = absurd (omega arith)

@@ -1,10 +1,5 @@
 pub mod Sinks
-pub mod Messages
+pub mod MemorySink
 pub mod Spellings
-pub mod Reports
-pub mod Reported
-pub mod Names
-pub mod NameMap
 pub mod Locals
 pub mod LocalList
-pub mod MemorySink

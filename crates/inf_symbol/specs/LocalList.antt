@@ -1,16 +1,20 @@
 -- What the code's locals stand for.
 use Rattle.std.specs.Prelude.{List, map, option_map}
-use Rattle.inf_symbol.specs.Locals.{Local, Headed}
+use Rattle.inf_symbol.specs.Spellings.{as_name}
+use Rattle.inf_symbol.specs.Locals.{Local, Repeated, Headed}
 use Rattle.inf_symbol.specs.declared.locals.Local.{Local as CodeLocal}
 use Rattle.inf_symbol.specs.declared.locals.Locals.{Locals}
+use Rattle.inf_symbol.specs.declared.locals.Repeated.{Repeated as CodeRepeated}
 use Rattle.inf_symbol.specs.declared.locals.Headed.{Headed as CodeHeaded}
-use Rattle.inf_symbol.specs.Reports.{blamed}
 
 abbrev pub local : CodeLocal → Local
-local l = record { name = l.name.items; line = l.line; is_named = l.is_named }
+local l = record { name = l.name.items; place = l.place; is_named = l.is_named }
 
 abbrev pub listed : Locals → List Local
 listed locals = map local locals.list.items
 
+abbrev pub repeated : CodeRepeated → Repeated
+repeated r = record { name = as_name r.name.now; first = r.first }
+
 abbrev pub headed : CodeHeaded → Headed
-headed h = record { locals = listed h.locals; repeated = option_map blamed h.repeated; are_too_many = h.are_too_many }
+headed h = record { locals = listed h.locals; repeated = option_map repeated h.repeated; are_too_many = h.are_too_many }

@@ -1,14 +1,13 @@
-ghost use Rattle.std.specs.Prelude.{◌≡◌, ◌≤◌, ◌<◌, [], OnOk, IfSome, length, option_map, position};
+//! The local variables of a routine.
+ghost use Rattle.std.specs.Prelude.{◌≡◌, ◌≤◌, ◌<◌, [], IfSome, length, option_map, position};
 ghost use Rattle.std.specs.Str.{str_eq_ignore_ascii_case};
 ghost use Rattle.arrayvec.specs.ArrayVec.{array_vec_len};
-ghost use Rattle.inf_symbol.specs.Locals.{number_of, local_of, with_named, with_local, with_all_unused, no_locals};
-ghost use Rattle.inf_symbol.specs.Reported.{reported};
+ghost use Rattle.inf_symbol.specs.Locals.{number_of, local_of, with_named, with_local, no_locals};
+ghost use Rattle.inf_symbol.specs.Spellings.{as_name};
 
-use crate::messages::{Blame, Message};
-use crate::report::Report;
-use crate::spellings::{Spelling, copy_of};
+use crate::spellings::{Name, Spelling, copy_of};
 use arrayvec::ArrayVec;
-use std::alloc::AllocError;
+use inf_scanner::Place;
 
 /// The most local variables that a routine has (Z-Machine Standard 1.1, section 5.2).
 pub const MOST_LOCALS: usize = 15;
@@ -21,12 +20,22 @@ fn is_same_name(name: &[u8], other: &[u8]) -> bool
 }
 
 /// A local variable, as the header of its routine spells it.
-#[derive(Debug, Default, Drop)]
+#[derive(Debug, Drop)]
 pub struct Local {
     pub name: Spelling,
-    pub line: u32,
+    pub place: Place,
     /// Whether a statement has named it.
     pub is_named: bool,
+}
+
+impl Default for Local {
+    fn default() -> Local {
+        Local {
+            name: ArrayVec::new(),
+            place: Place { file: 0, line: 0 },
+            is_named: false,
+        }
+    }
 }
 
 /// The local variables of a routine, in order.
@@ -35,12 +44,19 @@ pub struct Locals {
     pub list: ArrayVec<Local, MOST_LOCALS>,
 }
 
+/// A name that a header gives again, and where it stands first.
+#[derive(Clone, Copy, Debug)]
+pub struct Repeated<'t> {
+    pub name: &'t Name,
+    pub first: Place,
+}
+
 /// What a header says of local variables: the first 15 different ones, the first name that comes
 /// again, and whether there are more.
 #[derive(Drop)]
 pub struct Headed<'t> {
     pub locals: Locals,
-    pub repeated: Option<Blame<'t>>,
+    pub repeated: Option<Repeated<'t>>,
     pub are_too_many: bool,
 }
 
@@ -74,12 +90,12 @@ impl Locals {
             .position(|local| is_same_name(local.name.as_slice(), name))
     }
 
-    /// The line of the local of this name, in any case.
-    fn line(&self, name: &[u8]) -> Option<u32>
-        ensures { result ≡ option_map (λ l. l.line) (local_of name.now (listed self.now)) }
+    /// Where the local of this name, in any case, stands in the header.
+    fn first_place(&self, name: &[u8]) -> Option<Place>
+        ensures { result ≡ option_map (λ l. l.place) (local_of name.now (listed self.now)) }
     {
         let place = self.place(name)?;
-        Some(self.list[place].line)
+        Some(self.list[place].place)
     }
 
     /// The number of the local of this name, in any case, from 1 on (Z-Machine Standard 1.1,
@@ -99,19 +115,6 @@ impl Locals {
             self.list[place].is_named = true;
         }
     }
-
-    /// Warns, at a line, of each local that no statement named.
-    pub fn tell_unused(&self, file: &[u8], line: u32, report: &mut Report) -> Result<(), AllocError>
-        ensures { OnOk result (reported report.new
-            ≡ with_all_unused file.now line (listed self.now) (reported report.old)) }
-    {
-        for local in self.list.as_slice() {
-            if !local.is_named {
-                report.warning(file, line, Message::UnusedLocal(local.name.as_slice()))?;
-            }
-        }
-        Ok(())
-    }
 }
 
 impl<'t> Headed<'t> {
@@ -128,21 +131,18 @@ impl<'t> Headed<'t> {
         }
     }
 
-    /// One name more behind the routine's name, with its line.
-    pub fn add(&mut self, name: &'t Spelling, line: u32)
-        ensures { headed self.new ≡ with_local (record { bytes = name.now.items; line = line }) (headed self.old) }
+    /// One name more behind the routine's name.
+    pub fn add(&mut self, name: &'t Name)
+        ensures { headed self.new ≡ with_local (as_name name.now) (headed self.old) }
     {
-        if let Some(first) = self.locals.line(name.as_slice()) {
-            let blame = Blame {
-                line,
-                message: Message::Declared(name.as_slice(), first),
-            };
-            self.repeated = Some(self.repeated.unwrap_or(blame));
+        if let Some(first) = self.locals.first_place(name.bytes()) {
+            let again = Repeated { name, first };
+            self.repeated = Some(self.repeated.unwrap_or(again));
             return;
         }
         let local = Local {
-            name: copy_of(name),
-            line,
+            name: copy_of(&name.spelling),
+            place: name.place,
             is_named: false,
         };
         if self.locals.list.try_push(local).is_err() {

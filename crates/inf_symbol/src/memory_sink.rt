@@ -36,6 +36,13 @@ impl MemorySink {
     {
         &self.bytes
     }
+
+    /// The same bytes, which it gives away.
+    pub fn into_bytes(self) -> Vec<u8>
+        ensures { result.items ≡ self.bytes }
+    {
+        self.bytes
+    }
 }
 
 impl Sink for MemorySink {

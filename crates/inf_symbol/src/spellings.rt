@@ -3,6 +3,7 @@ ghost use Rattle.std.specs.Prelude.{◌≡◌, ◌≤◌, length};
 ghost use Rattle.inf_symbol.specs.Spellings.{as_name};
 
 use arrayvec::ArrayVec;
+use inf_scanner::Place;
 
 /// The most bytes that a name has.
 pub const MOST_NAME_BYTES: usize = 32;
@@ -11,7 +12,7 @@ pub const MOST_NAME_BYTES: usize = 32;
 pub type Spelling = ArrayVec<u8, MOST_NAME_BYTES>;
 
 /// The same bytes.
-pub fn copy_of(spelling: &Spelling) -> Spelling
+pub(crate) fn copy_of(spelling: &Spelling) -> Spelling
     ensures { result.items ≡ spelling.now.items }
 {
     let mut copy = ArrayVec::new();
@@ -19,27 +20,28 @@ pub fn copy_of(spelling: &Spelling) -> Spelling
     copy
 }
 
-/// A name as a source spells it, and its line.
+/// A name as a source spells it, and its place.
 #[derive(Debug, Drop)]
 pub struct Name {
     pub spelling: Spelling,
-    pub line: u32,
+    pub place: Place,
 }
 
 impl Name {
     /// A name of at most 32 bytes.
-    pub fn new(bytes: &[u8], line: u32) -> Name
+    pub fn new(bytes: &[u8], place: Place) -> Name
         requires { length bytes.now ≤ 32 }
-        ensures { as_name result ≡ record { bytes = bytes.now; line = line } }
+        ensures { as_name result ≡ record { bytes = bytes.now; place = place } }
     {
         let mut spelling = ArrayVec::new();
         let _fits = spelling.try_extend_from_slice(bytes);
-        Name { spelling, line }
+        Name { spelling, place }
     }
 
-    /// Its bytes.
+    /// Its bytes, at most 32.
     pub fn bytes(&self) -> &[u8]
-        ensures { result.now ≡ (as_name self.now).bytes }
+        ensures value { result.now ≡ (as_name self.now).bytes }
+        ensures few { length result.now ≤ 32 }
     {
         self.spelling.as_slice()
     }

@@ -1,23 +1,26 @@
 -- What the actions of the grammar do. While a unit is read they gather its parts, and at its end it acts, as a whole.
-use Rattle.std.specs.Prelude.{ℕ, List, [], ◌∷◌, ◌++◌, length, Bool, false, if◌then◌else◌, Option, Some, None, is_some}
+use Rattle.std.specs.Prelude.{ℕ, List, [], ◌∷◌, ◌++◌, length, Bool, false, if◌then◌else◌, Option, Some, None, is_some, option_map}
 use Rattle.inf_characters.specs.declared.texts.TextItem.{TextItem}
+use Rattle.inf_scanner.specs.declared.tokens.Place.{Place}
 use Rattle.inf_opcode.specs.declared.opcodes.Opcode.TheVariants as opcode
 use Rattle.inf_opcode.specs.declared.instructions.Operand.{Operand}
 use Rattle.inf_opcode.specs.Instructions.{Parts, bare}
 use Rattle.inf_assembler.specs.declared.routines.RoutineKind.TheVariants as routine_kind
-use Rattle.inf_assembler.specs.declared.routines.Setting.{Setting}
-use Rattle.inf_assembler.specs.declared.routines.Setting.TheVariants as setting
+use Rattle.inf_assembler.specs.declared.routines.Setting.{Setting as CodeSetting}
 use Rattle.inf_assembler.specs.Routines.{fresh}
+use Rattle.inf_settings.specs.declared.setting.Setting.{Setting}
+use Rattle.inf_names.specs.Symbols.{Table, declare_fault}
+use Rattle.inf_report.specs.Messages.{UnusedLocal}
 use Rattle.inf_symbol.specs.Spellings.{Name}
-use Rattle.inf_symbol.specs.Messages.{Message, Blame, Reported, LabelsExceeded, CodeExceeded, RefsExceeded, nothing_reported, with_error, with_fault, with_fatal}
-use Rattle.inf_symbol.specs.Names.{Named, folded}
-use Rattle.inf_symbol.specs.Locals.{Local, Headed, with_all_named, with_locals, no_locals, with_all_unused}
+use Rattle.inf_symbol.specs.Locals.{Local, Headed, with_all_named, with_locals, no_locals}
 use Rattle.inf_layout.specs.declared.code.CodeLimits.{CodeLimits}
 use Rattle.inf_layout.specs.Code.{Routines, no_routines, size, with_item, with_closed, with_none_open, full_opened, full_with, full_closed}
 use Rattle.inf_grammar.specs.declared.actions.Action.{Action}
 use Rattle.inf_grammar.specs.declared.actions.Action.TheVariants as action
+use Rattle.inf_unit.specs.Messages.{FileNames, Blame, Reported, location, nothing_reported, setting_of, with_error, with_fault, with_full, with_warning}
+use Rattle.inf_unit.specs.Names.{no_symbols}
 use Rattle.inf_unit.specs.Statements.{Unit}
-use Rattle.inf_unit.specs.Units.{name_fault, with_name, header_fault, operand_fault, call_fault, with_operands, printing, calling, returning}
+use Rattle.inf_unit.specs.Units.{name_fault, name_full, with_name, header_fault, operand_fault, call_fault, with_operands, printing, calling, returning}
 use Rattle.inf_unit.specs.declared.unit.Head.{Head}
 use Rattle.inf_unit.specs.declared.unit.Head.TheVariants as head
 use Rattle.inf_unit.specs.declared.unit.Statement.{Statement}
@@ -51,12 +54,12 @@ no_output = record { code = no_routines default_limits; is_lost = false }
 pub record Work : Type 0 where
   pub gathered : Gathered
   pub locals : List Local
-  pub names : List Named
+  pub names : Table Place
   pub output : Output
   pub report : Reported
 
 abbrev pub no_work : Work
-no_work = record { gathered = nothing_gathered; locals = []; names = []; output = no_output; report = nothing_reported }
+no_work = record { gathered = nothing_gathered; locals = []; names = no_symbols; output = no_output; report = nothing_reported }
 
 -- The parts of a unit
 
@@ -75,14 +78,14 @@ with_text None g = g
 -- What comes of a growth: the output, and the setting that is full, if it does not grow for that.
 pub record Grown : Type 0 where
   pub output : Output
-  pub full : Option Setting
+  pub full : Option CodeSetting
 
 -- it becomes the first where no setting is full, else the second
-abbrev pub grown : Option Setting → Output → Output → Grown
+abbrev pub grown : Option CodeSetting → Output → Output → Grown
 grown full new kept = record { output = if is_some full then kept else new; full = full }
 
 -- one growth behind another, if that comes to something
-abbrev pub behind_by : Option Setting → (Output → Grown) → Grown → Grown
+abbrev pub behind_by : Option CodeSetting → (Output → Grown) → Grown → Grown
 behind_by None next g = next g.output
 behind_by (Some setting) next g = g
 
@@ -112,92 +115,103 @@ abbrev pub printed : List (List TextItem) → Output → Grown
 printed [] o = record { output = o; full = None }
 printed (text ∷ texts) o = behind (printed texts) (emitted (printing text) o)
 
--- A setting that a unit would pass ends the compilation. It is told at this line, behind the messages of the unit.
-abbrev pub exceeded : Setting → Message
-exceeded setting.Labels = LabelsExceeded
-exceeded setting.Code = CodeExceeded
-exceeded setting.Refs = RefsExceeded
-
-abbrev pub with_full : List ℕ → ℕ → Option Setting → Reported → Reported
-with_full file line None r = r
-with_full file line (Some s) r = with_fatal file line (exceeded s) r
-
-abbrev pub checked : List ℕ → ℕ → Grown → Work → Work
-checked file line g w = record w { output = g.output; report = with_full file line g.full w.report }
+-- what comes of a growth for a unit that begins at a place: a setting that it would pass is told
+abbrev pub checked : FileNames → Place → Grown → Work → Work
+checked files unit g w = record w { output = g.output; report = with_full files unit (option_map setting_of g.full) w.report }
 
 -- A routine
 
--- A header, which begins on this line, opens a routine with its locals. With an error it still declares its name, where that
+-- the first setting that is full, of two
+abbrev pub first_full : Option Setting → Option Setting → Option Setting
+first_full (Some s) later = Some s
+first_full None later = later
+
+-- A header, which begins at a place, opens a routine with its locals. With an error it still declares its name, where that
 -- is free, and its locals. Z-Machine Standard 1.1, section 5.2.
-abbrev pub header_with : List ℕ → ℕ → Name → List ℕ → Headed → Work → Work
-header_with file line name key h w =
-    let of_name = name_fault key name w.names in
-    let fault = header_fault line of_name h in
-    checked file line (opened (length h.locals) (is_some fault) w.output) (record w {
-      names = with_name key name (size w.output.code.finished) of_name w.names;
+abbrev pub header_with : FileNames → Place → Name → Headed → Work → Work
+header_with files unit name h w =
+    let refused = declare_fault name.bytes w.names in
+    let fault = header_fault files unit (name_fault files name refused) h in
+    let g = opened (length h.locals) (is_some fault) w.output in
+    record w {
+      names = with_name name (size w.output.code.finished) refused w.names;
       locals = h.locals;
-      report = with_fault file line fault w.report;
-    })
+      output = g.output;
+      report = with_full files unit (first_full (name_full refused) (option_map setting_of g.full)) (with_fault files unit fault w.report);
+    }
 
 -- behind its bracket a header has the name of its routine and the locals
-abbrev pub header : List ℕ → Option Head → List Name → Work → Work
-header file (Some (head.Header line)) (name ∷ locals) w =
-    header_with file line name (folded name.bytes) (with_locals locals no_locals) w
-header file _ names w = w
+abbrev pub header : FileNames → Option Head → List Name → Work → Work
+header files (Some (head.Header unit)) (name ∷ locals) w = header_with files unit name (with_locals locals no_locals) w
+header files _ names w = w
 
--- The end of a routine, on this line: its unused locals are told.
-abbrev pub close : List ℕ → ℕ → Work → Work
-close file line w = checked file line (closed w.output) (record w { report = with_all_unused file line w.locals w.report })
+-- a warning, at a place, for each local that no statement named
+abbrev pub with_unused : FileNames → Place → Local → Reported → Reported
+with_unused files place l r = if l.is_named then r else with_warning (location files place) (UnusedLocal l.name) r
 
--- Statements, which begin on this line
+abbrev pub with_all_unused : FileNames → Place → List Local → Reported → Reported
+with_all_unused files place [] r = r
+with_all_unused files place (l ∷ locals) r = with_all_unused files place locals (with_unused files place l r)
 
-abbrev pub with_instruction : List ℕ → ℕ → Parts → Work → Work
-with_instruction file line item w = checked file line (emitted item w.output) w
+-- The end of a routine, at a place: its unused locals are told.
+abbrev pub close : FileNames → Place → Work → Work
+close files place w = checked files place (closed w.output) (record w { report = with_all_unused files place w.locals w.report })
+
+-- Statements, which begin at a place
+
+abbrev pub with_instruction : FileNames → Place → Parts → Work → Work
+with_instruction files unit item w = checked files unit (emitted item w.output) w
+
+-- the operands make an instruction, unless the names would pass a setting
+abbrev pub with_operands_by : FileNames → Place → Parts → Option Setting → Work → Work
+with_operands_by files unit item (Some s) w = record w { report = with_full files unit (Some s) w.report }
+with_operands_by files unit item None w = with_instruction files unit item w
 
 -- A unit names some names: a local is named then, also where the unit has an error. Without one the names are used, and the
 -- operands make an instruction.
-abbrev pub instructed : List ℕ → ℕ → (List Operand → Parts) → List Name → Option Blame → Work → Work
-instructed file line instruction names (Some b) w = record w {
+abbrev pub instructed : FileNames → Place → (List Operand → Parts) → List Name → Option Blame → Work → Work
+instructed files unit instruction names (Some b) w = record w {
   locals = with_all_named names w.locals;
-  report = with_error file b.line line b.message w.report;
+  report = with_error (location files b.place) (location files unit) b.message w.report;
 }
-instructed file line instruction names None w =
-    let o = with_operands w.locals names (record { names = w.names; operands = [] }) in
-    with_instruction file line (instruction o.operands) (record w { locals = with_all_named names w.locals; names = o.names })
+instructed files unit instruction names None w =
+    let o = with_operands w.locals names (record { names = w.names; operands = []; full = None }) in
+    with_operands_by files unit (instruction o.operands) o.full
+    (record w { locals = with_all_named names w.locals; names = o.names })
 
 -- the operands of a call are what is called and its arguments
-abbrev pub call : List ℕ → ℕ → List Name → Work → Work
-call file line [] w = w
-call file line (called ∷ arguments) w = instructed file line calling (called ∷ arguments) (call_fault line w.locals called arguments) w
+abbrev pub call : FileNames → Place → List Name → Work → Work
+call files unit [] w = w
+call files unit (called ∷ arguments) w = instructed files unit calling (called ∷ arguments) (call_fault unit w.locals called arguments) w
 
-abbrev pub return_of : List ℕ → ℕ → List Name → Work → Work
-return_of file line [] w = with_instruction file line (bare opcode.Rtrue) w
-return_of file line (name ∷ more) w = instructed file line returning (name ∷ []) (operand_fault w.locals name) w
+abbrev pub return_of : FileNames → Place → List Name → Work → Work
+return_of files unit [] w = with_instruction files unit (bare opcode.Rtrue) w
+return_of files unit (name ∷ more) w = instructed files unit returning (name ∷ []) (operand_fault w.locals name) w
 
-abbrev pub finish : Statement → List ℕ → ℕ → Work → Work
-finish statement.Print file line w = checked file line (printed w.gathered.texts w.output) w
-finish statement.Return file line w = return_of file line w.gathered.operands w
-finish statement.NewLine file line w = with_instruction file line (bare opcode.NewLine) w
-finish statement.Quit file line w = with_instruction file line (bare opcode.Quit) w
-finish statement.ReturnTrue file line w = with_instruction file line (bare opcode.Rtrue) w
-finish statement.ReturnFalse file line w = with_instruction file line (bare opcode.Rfalse) w
-finish statement.Call file line w = call file line w.gathered.operands w
+abbrev pub finish : Statement → FileNames → Place → Work → Work
+finish statement.Print files unit w = checked files unit (printed w.gathered.texts w.output) w
+finish statement.Return files unit w = return_of files unit w.gathered.operands w
+finish statement.NewLine files unit w = with_instruction files unit (bare opcode.NewLine) w
+finish statement.Quit files unit w = with_instruction files unit (bare opcode.Quit) w
+finish statement.ReturnTrue files unit w = with_instruction files unit (bare opcode.Rtrue) w
+finish statement.ReturnFalse files unit w = with_instruction files unit (bare opcode.Rfalse) w
+finish statement.Call files unit w = call files unit w.gathered.operands w
 
 -- a statement that began so ends
-abbrev pub statement_end : List ℕ → Option Head → Work → Work
-statement_end file (Some (head.Statement s line)) w = finish s file line w
-statement_end file _ w = w
+abbrev pub statement_end : FileNames → Option Head → Work → Work
+statement_end files (Some (head.Statement s unit)) w = finish s files unit w
+statement_end files _ w = w
 
--- What an action does, where this is the unit at hand and the next token stands on this line.
-abbrev pub act : List ℕ → Unit → ℕ → Action → Work → Work
-act file unit line action.Begin w = record w { gathered = nothing_gathered }
-act file unit line action.Name w = record w { gathered = with_operand w.gathered.named w.gathered }
-act file unit line action.PrintText w = record w { gathered = with_text w.gathered.read w.gathered }
-act file unit line action.EndLocals w = header file unit.head unit.names w
-act file unit line action.EndStatement w = statement_end file unit.head w
-act file unit line action.EndRoutine w = close file line w
-act file unit line _ w = w
+-- What an action does, where this is the unit at hand and the next token stands at a place.
+abbrev pub act : FileNames → Unit → Place → Action → Work → Work
+act files unit place action.Begin w = record w { gathered = nothing_gathered }
+act files unit place action.Name w = record w { gathered = with_operand w.gathered.named w.gathered }
+act files unit place action.PrintText w = record w { gathered = with_text w.gathered.read w.gathered }
+act files unit place action.EndLocals w = header files unit.head unit.names w
+act files unit place action.EndStatement w = statement_end files unit.head w
+act files unit place action.EndRoutine w = close files place w
+act files unit place _ w = w
 
-abbrev pub acted : List ℕ → Unit → ℕ → List Action → Work → Work
-acted file unit line [] w = w
-acted file unit line (a ∷ actions) w = acted file unit line actions (act file unit line a w)
+abbrev pub acted : FileNames → Unit → Place → List Action → Work → Work
+acted files unit place [] w = w
+acted files unit place (a ∷ actions) w = acted files unit place actions (act files unit place a w)

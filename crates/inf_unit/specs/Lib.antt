@@ -1,5 +1,9 @@
+pub mod Messages
+pub mod Blames
 pub mod Tokens
+pub mod Keywords
 pub mod Statements
+pub mod Names
 pub mod Units
 pub mod Actions
 pub mod Works

@@ -1,6 +1,7 @@
 -- The unit at hand, and what a statement is.
 use Rattle.std.specs.Prelude.{ℕ, List, [], ◌∷◌, ◌++◌, codes, Bool, true, false, ◌||◌, if◌then◌else◌, Option, Some, None}
 use Rattle.inf_scanner.specs.declared.tokens.Mark.TheVariants as mark
+use Rattle.inf_scanner.specs.declared.tokens.Place.{Place}
 use Rattle.inf_scanner.specs.declared.tokens.TokenKind.{TokenKind}
 use Rattle.inf_scanner.specs.declared.tokens.TokenKind.TheVariants as kind
 use Rattle.inf_symbol.specs.Spellings.{Name}
@@ -36,15 +37,15 @@ statement_of t =
 
 -- how a unit begins that has this token first
 abbrev pub head_of : Spelled → Head
-head_of t = if is_mark mark.OpenBracket t.kind then head.Header t.line else head.Statement (statement_of t) t.line
+head_of t = if is_mark mark.OpenBracket t.kind then head.Header t.place else head.Statement (statement_of t) t.place
 
 -- the name that a token is, if it is one
-abbrev pub name_of_kind : TokenKind → List ℕ → ℕ → Option Name
-name_of_kind kind.Name bytes line = Some (record { bytes = bytes; line = line })
-name_of_kind _ bytes line = None
+abbrev pub name_of_kind : TokenKind → List ℕ → Place → Option Name
+name_of_kind kind.Name bytes place = Some (record { bytes = bytes; place = place })
+name_of_kind _ bytes place = None
 
 abbrev pub name_of : Spelled → Option Name
-name_of t = name_of_kind t.kind t.bytes t.line
+name_of t = name_of_kind t.kind t.bytes t.place
 
 -- one name more, if there is one
 abbrev pub with_name : Option Name → List Name → List Name
@@ -52,8 +53,8 @@ with_name None names = names
 with_name (Some n) names = names ++ n ∷ []
 
 abbrev pub names_behind : Head → Spelled → List Name → List Name
-names_behind (head.Header line) t names = with_name (name_of t) names
-names_behind (head.Statement s line) t names = names
+names_behind (head.Header place) t names = with_name (name_of t) names
+names_behind (head.Statement s place) t names = names
 
 -- a unit that began so, behind a token that does not end it
 abbrev pub grown : Option Head → Spelled → Unit → Unit

@@ -5,17 +5,18 @@ use Rattle.inf_grammar.specs.Atoms.{mark_atom}
 use Rattle.inf_scanner.specs.declared.tokens.Mark.{Mark}
 use Rattle.inf_scanner.specs.declared.tokens.TokenKind.{TokenKind}
 use Rattle.inf_scanner.specs.declared.tokens.TokenKind.TheVariants as kind
-use Rattle.inf_symbol.specs.Messages.{Told, Bytes, Quote, Text, End}
+use Rattle.inf_scanner.specs.declared.tokens.Place.{Place}
+use Rattle.inf_report.specs.Messages.{Told, Bytes, Quote, Text, End}
 use Rattle.inf_unit.specs.declared.tokens.Spelled as code
 
--- A token: what it is, its bytes (of a text or quote those between its quotes), and the line of its first byte.
+-- A token: what it is, its bytes (of a text or quote those between its quotes), and the place of its first byte.
 pub record Spelled : Type 0 where
   pub kind : TokenKind
   pub bytes : List ℕ
-  pub line : ℕ
+  pub place : Place
 
 abbrev pub spelled : code.Spelled → Spelled
-spelled t = record { kind = t.kind; bytes = t.bytes.now; line = t.line }
+spelled t = record { kind = t.kind; bytes = t.bytes.now; place = t.place }
 
 -- this mark
 abbrev pub is_mark : Mark → TokenKind → Bool

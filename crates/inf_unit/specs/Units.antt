@@ -1,5 +1,5 @@
 -- What is wrong with a unit, and the instructions that it gives.
-use Rattle.std.specs.Prelude.{ℕ, List, [], ◌∷◌, ◌++◌, length, nat_le, nat_lt, if◌then◌else◌, Option, Some, None}
+use Rattle.std.specs.Prelude.{ℕ, List, [], ◌∷◌, ◌++◌, length, nat_le, nat_lt, Bool, false, if◌then◌else◌, Option, Some, None, is_some, unwrap_or}
 use Rattle.inf_text.specs.Packing.{packed}
 use Rattle.inf_characters.specs.declared.texts.TextItem.{TextItem}
 use Rattle.inf_opcode.specs.declared.opcodes.Opcode.{Opcode}
@@ -8,38 +8,58 @@ use Rattle.inf_opcode.specs.declared.instructions.Operand.{Operand}
 use Rattle.inf_opcode.specs.declared.instructions.Operand.TheVariants as operand
 use Rattle.inf_area.specs.declared.references.ReferenceKind.TheVariants as reference
 use Rattle.inf_opcode.specs.Instructions.{Parts, bare}
+use Rattle.inf_scanner.specs.declared.tokens.Place.{Place}
+use Rattle.inf_settings.specs.declared.setting.Setting.{Setting}
+use Rattle.inf_settings.specs.declared.setting.Setting.TheVariants as setting
+use Rattle.inf_names.specs.SystemNames.{system_meaning}
+use Rattle.inf_names.specs.Symbols.{Table, with_declared, with_used, number_of as symbol_number, refer_fault}
+use Rattle.inf_names.specs.declared.meanings.Meaning.TheVariants as meaning
+use Rattle.inf_names.specs.declared.symbols.DeclareFault.{DeclareFault}
+use Rattle.inf_names.specs.declared.symbols.DeclareFault.TheVariants as declaring
+use Rattle.inf_names.specs.declared.symbols.ReferFault.{ReferFault}
+use Rattle.inf_report.specs.Messages.{Bytes, Declared, SystemName, WrongKind, TooManyArguments, TooMany}
+use Rattle.inf_report.specs.declared.messages.Countable.TheVariants as countable
 use Rattle.inf_symbol.specs.Spellings.{Name}
-use Rattle.inf_symbol.specs.Messages.{Bytes, Blame, Declared, SystemName, WrongKind, TooManyArguments, TooManyLocals}
-use Rattle.inf_symbol.specs.Names.{Named, folded, is_system_name, declaration_of, with_declared, with_used, index_of}
-use Rattle.inf_symbol.specs.Locals.{Local, Headed, number_of}
-use Rattle.inf_symbol.specs.declared.names.Declaration.{Declaration}
+use Rattle.inf_symbol.specs.Locals.{Local, Headed, Repeated, number_of}
+use Rattle.inf_unit.specs.Messages.{FileNames, Blame, location}
 
 -- The header of a routine
 
--- a name that was declared before
-abbrev pub declared_fault : Name → Option Declaration → Option Blame
-declared_fault name None = None
-declared_fault name (Some d) = Some (record { line = name.line; message = Declared name.bytes d.line })
+-- a name that was declared at a place before
+abbrev pub again : FileNames → Name → Place → Blame
+again files n first = record { place = n.place; message = Declared n.bytes (location files first) }
 
--- what is wrong with declaring a name: one that the language has, and the first declaration, stay as they are
-abbrev pub name_fault : List ℕ → Name → List Named → Option Blame
-name_fault key name names =
-    if is_system_name name.bytes then Some (record { line = name.line; message = SystemName name.bytes })
-    else declared_fault name (declaration_of key names)
+-- What is wrong with declaring a name, by what the names refuse: one that the language has, and the first declaration, stay as they
+-- are. That there are too many names is no error of the unit.
+abbrev pub name_fault : FileNames → Name → Option (DeclareFault Place) → Option Blame
+name_fault files n (Some (declaring.Present None)) = Some (record { place = n.place; message = SystemName n.bytes })
+name_fault files n (Some (declaring.Present (Some first))) = Some (again files n first)
+name_fault files n _ = None
 
--- the names after one is declared at a place, if nothing is wrong with it
-abbrev pub with_name : List ℕ → Name → ℕ → Option Blame → List Named → List Named
-with_name key name place None names = with_declared key (record { line = name.line; place = place }) names
-with_name key name place (Some b) names = names
+-- the setting that another name would pass
+abbrev pub name_full : Option (DeclareFault Place) → Option Setting
+name_full (Some declaring.Full) = Some setting.Symbols
+name_full _ = None
+
+-- the names after one is declared, if nothing is wrong with it: it is the routine at a place in the code
+abbrev pub with_name : Name → ℕ → Option (DeclareFault Place) → Table Place → Table Place
+with_name n at None names = with_declared n.bytes n.place (meaning.Routine at) names
+with_name n at (Some fault) names = names
 
 abbrev pub first_fault : Option Blame → Option Blame → Option Blame
 first_fault (Some b) later = Some b
 first_fault None later = later
 
+-- a local that is named again
+abbrev pub local_fault : FileNames → Option Repeated → Option Blame
+local_fault files None = None
+local_fault files (Some r) = Some (again files r.name r.first)
+
 -- The first error of a header by its place: too many locals, which stands at its bracket, its name, a local named again.
-abbrev pub header_fault : ℕ → Option Blame → Headed → Option Blame
-header_fault unit_line of_name h =
-    if h.are_too_many then Some (record { line = unit_line; message = TooManyLocals }) else first_fault of_name h.repeated
+abbrev pub header_fault : FileNames → Place → Option Blame → Headed → Option Blame
+header_fault files unit of_name h =
+    if h.are_too_many then Some (record { place = unit; message = TooMany countable.Locals })
+    else first_fault of_name (local_fault files h.repeated)
 
 -- A print
 
@@ -62,11 +82,15 @@ calling operands = record (bare (call_opcode (length operands))) { operands = op
 abbrev pub returning : List Operand → Parts
 returning operands = record (bare opcode.Ret) { operands = operands }
 
+-- whether the language has a name from the start
+abbrev pub is_system_name : List ℕ → Bool
+is_system_name name = is_some (system_meaning false name)
+
 -- what is wrong with a name as an operand: it is a system name, and no local hides it
 abbrev pub operand_fault_by : Option ℕ → Name → Option Blame
 operand_fault_by (Some number) n = None
 operand_fault_by None n =
-    if is_system_name n.bytes then Some (record { line = n.line; message = WrongKind (Bytes n.bytes) }) else None
+    if is_system_name n.bytes then Some (record { place = n.place; message = WrongKind (Bytes n.bytes) }) else None
 
 abbrev pub operand_fault : List Local → Name → Option Blame
 operand_fault locals n = operand_fault_by (number_of n.bytes locals) n
@@ -81,31 +105,38 @@ abbrev pub most_arguments : ℕ
 most_arguments = 7
 
 -- The first error of a call by its place: what is called, too many arguments, which stands there too, and an argument.
-abbrev pub arguments_fault : ℕ → List Local → List Name → Option Blame
-arguments_fault unit_line locals arguments =
-    if nat_lt most_arguments (length arguments) then Some (record { line = unit_line; message = TooManyArguments })
+abbrev pub arguments_fault : Place → List Local → List Name → Option Blame
+arguments_fault unit locals arguments =
+    if nat_lt most_arguments (length arguments) then Some (record { place = unit; message = TooManyArguments })
     else operands_fault locals arguments
 
-abbrev pub call_fault : ℕ → List Local → Name → List Name → Option Blame
-call_fault unit_line locals called arguments =
-    first_fault (operand_fault locals called) (arguments_fault unit_line locals arguments)
+abbrev pub call_fault : Place → List Local → Name → List Name → Option Blame
+call_fault unit locals called arguments =
+    first_fault (operand_fault locals called) (arguments_fault unit locals arguments)
 
--- Operands that names gave so far, and the names of the source then.
+-- Operands that names gave so far, the names of the source then, and the setting that one name more would pass, if any.
 pub record Operands : Type 0 where
-  pub names : List Named
+  pub names : Table Place
   pub operands : List Operand
+  pub full : Option Setting
 
--- a local is a variable; every other name is used, and is a reference to its routine
-abbrev pub with_operand_by : Option ℕ → Name → List ℕ → Operands → Operands
-with_operand_by (Some number) n key o = record o { operands = o.operands ++ operand.Variable number ∷ [] }
-with_operand_by None n key o = record {
-  names = with_used key n.bytes n.line o.names;
-  operands = o.operands ++ operand.Later (record { kind = reference.PackedAddress; number = index_of key o.names }) ∷ [];
+-- a name is used, and is a reference to its routine
+abbrev pub used : Option ReferFault → Name → Operands → Operands
+used (Some fault) n o = record o { full = Some setting.Symbols }
+used None n o = record o {
+  names = with_used n.bytes n.place o.names;
+  operands = o.operands ++ operand.Later (record { kind = reference.PackedAddress; number = unwrap_or (symbol_number n.bytes o.names) 0 }) ∷ [];
 }
 
-abbrev pub with_operand : List Local → Name → Operands → Operands
-with_operand locals n o = with_operand_by (number_of n.bytes locals) n (folded n.bytes) o
+-- a local is a variable, every other name is used
+abbrev pub with_operand_by : Option ℕ → Name → Operands → Operands
+with_operand_by (Some number) n o = record o { operands = o.operands ++ operand.Variable number ∷ [] }
+with_operand_by None n o = used (refer_fault n.bytes o.names) n o
 
+abbrev pub with_operand : List Local → Name → Operands → Operands
+with_operand locals n o = with_operand_by (number_of n.bytes locals) n o
+
+-- up to the first name that is too many
 abbrev pub with_operands : List Local → List Name → Operands → Operands
 with_operands locals [] o = o
-with_operands locals (n ∷ names) o = with_operands locals names (with_operand locals n o)
+with_operands locals (n ∷ names) o = if is_some o.full then o else with_operands locals names (with_operand locals n o)

@@ -1,8 +1,6 @@
 -- What the parts of the code's work stand for.
 use Rattle.std.specs.Prelude.{map, option_map}
 use Rattle.inf_symbol.specs.Spellings.{as_name}
-use Rattle.inf_symbol.specs.Reported.{reported}
-use Rattle.inf_symbol.specs.NameMap.{named}
 use Rattle.inf_symbol.specs.LocalList.{listed}
 use Rattle.inf_unit.specs.Statements.{Unit}
 use Rattle.inf_unit.specs.Actions.{Gathered, Output, Work}
@@ -24,7 +22,7 @@ abbrev pub work : CodeWork → Work
 work w = record {
   gathered = gathered w.gathered;
   locals = listed w.locals;
-  names = named w.names;
+  names = w.names;
   output = output w.output;
-  report = reported w.report;
+  report = w.report;
 }

@@ -2,6 +2,9 @@
 #![tactic(auto)]
 
 mod instructions;
+pub mod keywords;
+pub mod messages;
+pub mod names;
 mod operands;
 pub mod output;
 pub mod tokens;

@@ -1,23 +1,33 @@
-ghost use Rattle.std.specs.Prelude.{◌≡◌, ◌≤◌, List, [], ◌∷◌, ◌++◌, IfOk, IsTrue, length, map, option_map};
+ghost use Rattle.std.specs.Prelude.{◌≡◌, ◌≤◌, List, ◌∷◌, ◌++◌, [], IfOk, IsTrue, MatchResult, None, Some, length, map, option_map};
 ghost use Rattle.inf_opcode.specs.declared.instructions.Operand.{Operand as AsmOperand};
 ghost use Rattle.inf_opcode.specs.Instructions.{has_no_offset};
-ghost use Rattle.inf_unit.specs.Units.{operand_fault, operands_fault, call_fault, with_operands, with_operand, Operands};
-ghost use Rattle.inf_symbol.specs.Spellings.{as_name};
-ghost use Rattle.inf_symbol.specs.Reports.{blamed};
-ghost use Rattle.inf_symbol.specs.NameMap.{named};
 ghost use Rattle.inf_symbol.specs.LocalList.{listed};
+ghost use Rattle.inf_symbol.specs.Spellings.{as_name};
+ghost use Rattle.inf_unit.specs.Blames.{blamed};
+ghost use Rattle.inf_unit.specs.Units.{Operands, call_fault, is_system_name, operand_fault, operands_fault, with_operand, with_operands};
 
+use crate::messages::Blame;
 use arrayvec::ArrayVec;
 use inf_area::{Reference, ReferenceKind};
+use inf_lexer::Place;
+use inf_names::symbols::{ReferFault, Symbols};
+use inf_names::system_names::system_meaning;
 use inf_opcode::{MOST_OPERANDS, Operand};
+use inf_report::messages::{Message, Told};
+use inf_settings::setting::Setting;
 use inf_symbol::locals::Locals;
-use inf_symbol::messages::{Blame, Message, Told};
-use inf_symbol::names::{Names, folded, is_system_name};
 use inf_symbol::spellings::Name;
-use std::alloc::{AllocError, Global};
+use std::alloc::AllocError;
 
 /// The most arguments of a call.
 const MOST_ARGUMENTS: usize = 7;
+
+/// Whether the language has a name from the start.
+fn is_system_name(name: &[u8]) -> bool
+    ensures { result ≡ is_system_name name.now }
+{
+    system_meaning(name, false).is_some()
+}
 
 /// What is wrong with a name as an operand: it is a system name, and no local hides it.
 pub fn operand_fault<'t>(locals: &Locals, name: &'t Name) -> Option<Blame<'t>>
@@ -25,7 +35,7 @@ pub fn operand_fault<'t>(locals: &Locals, name: &'t Name) -> Option<Blame<'t>>
 {
     if locals.number(name.bytes()).is_none() && is_system_name(name.bytes()) {
         Some(Blame {
-            line: name.line,
+            place: name.place,
             message: Message::WrongKind(Told::Bytes(name.bytes())),
         })
     } else {
@@ -45,73 +55,76 @@ fn operands_fault<'t>(locals: &Locals, names: &'t [Name]) -> Option<Blame<'t>>
     None
 }
 
-/// The first error of a call, in a unit that begins at a line, by its place: what is called, too
+/// The first error of a call, in a unit that begins at a place, by its place: what is called, too
 /// many arguments, which stands there too, and an argument.
 pub fn call_fault<'t>(
-    unit_line: u32,
+    unit: Place,
     locals: &Locals,
     called: &'t Name,
     arguments: &'t [Name],
 ) -> Option<Blame<'t>>
     ensures { option_map blamed result
-        ≡ call_fault unit_line (listed locals.now) (as_name called.now) (map as_name arguments.now) }
+        ≡ call_fault unit (listed locals.now) (as_name called.now) (map as_name arguments.now) }
 {
     if let Some(blame) = operand_fault(locals, called) {
         return Some(blame);
     }
     if arguments.len() > MOST_ARGUMENTS {
         return Some(Blame {
-            line: unit_line,
+            place: unit,
             message: Message::TooManyArguments,
         });
     }
     operands_fault(locals, arguments)
 }
 
-/// The operands that at most eight names are: a local is a variable, every other name is used and
-/// is a reference to its routine. None is an offset to a label.
-#[tactic(auto, using(crate::proofs::Emitting::no_offset_more))]
-pub fn operands_of(
-    alloc: Global,
+/// Puts the operands that at most eight names are behind none: a local is a variable, every other name is used and
+/// is a reference to its routine. None is an offset to a label. It ends before a name that is one too many, and answers the
+/// setting that this would pass.
+pub fn add_operands(
     locals: &Locals,
-    known: &mut Names,
+    known: &mut Symbols<Place>,
     names: &[Name],
-) -> Result<ArrayVec<Operand, MOST_OPERANDS>, AllocError>
-    requires { length names.now ≤ 8 }
-    ensures value { let before : Operands = record { names = named known.old; operands = [] } in
-        IfOk result (λ operands. record { names = named known.new; operands = operands.items }
+    operands: &mut ArrayVec<Operand, MOST_OPERANDS>,
+) -> Result<Option<Setting>, AllocError>
+    requires few { length names.now ≤ 8 }
+    requires none { operands.old.items ≡ [] }
+    ensures value { let before : Operands = record { names = known.old; operands = []; full = None } in
+        IfOk result (λ full. record { names = known.new; operands = operands.new.items; full = full }
         ≡ with_operands (listed locals.now) (map as_name names.now) before) }
-    ensures count { IfOk result (λ operands. length operands.items ≡ length names.now) }
-    ensures plain { IfOk result (λ operands. IsTrue (has_no_offset operands.items)) }
+    ensures count { IfOk result (λ full. full ≡ None → length operands.new.items ≡ length names.now) }
+    ensures plain { IfOk result (λ _. IsTrue (has_no_offset operands.new.items)) }
 {
-    let mut operands = ArrayVec::new();
     for name in names {
-        let operand = operand_of(alloc, locals, known, name)?;
-        operands.push(operand);
+        match operand_of(locals, known, name) {
+            Ok(operand) => operands.push(operand),
+            Err(ReferFault::Full) => return Ok(Some(Setting::Symbols)),
+            Err(ReferFault::Memory) => return Err(AllocError),
+        }
     }
-    Ok(operands)
+    Ok(None)
 }
 
-/// The operand that a name is.
+/// The operand that a name is, unless it is one too many.
 fn operand_of(
-    alloc: Global,
     locals: &Locals,
-    known: &mut Names,
+    known: &mut Symbols<Place>,
     name: &Name,
-) -> Result<Operand, AllocError>
-    ensures value { (operands : List AsmOperand) → IfOk result (λ operand.
-        record { names = named known.new; operands = operands ++ operand ∷ [] }
-        ≡ with_operand (listed locals.now) (as_name name.now)
-        (record { names = named known.old; operands = operands })) }
+) -> Result<Operand, ReferFault>
+    ensures value { (before : List AsmOperand) →
+        let o : Operands = record { names = known.old; operands = before; full = None } in MatchResult result
+        (λ operand. with_operand (listed locals.now) (as_name name.now) o
+        ≡ record { names = known.new; operands = before ++ operand ∷ []; full = None })
+        (λ fault. fault ≡ ReferFault.Full → with_operand (listed locals.now) (as_name name.now) o
+        ≡ record { names = known.new; operands = before; full = Some Setting.Symbols }) }
     ensures plain { IfOk result (λ operand. IsTrue (has_no_offset (operand ∷ []))) }
 {
     if let Some(number) = locals.number(name.bytes()) {
         return Ok(Operand::Variable(number));
     }
-    let key = folded(alloc, name.bytes())?;
-    let number = known.refer(key, &name.spelling, name.line)?;
+    let number = known.refer(name.bytes(), name.place)?;
     Ok(Operand::Later(Reference {
         kind: ReferenceKind::PackedAddress,
-        number,
+        number: number.unwrap_or(0),
     }))
 }

@@ -1,18 +1,18 @@
 //! A token, as units see it, and tests of one.
 ghost use Rattle.std.specs.Prelude.{◌≡◌};
-ghost use Rattle.inf_symbol.specs.Reports.{named};
+ghost use Rattle.inf_report.specs.Meant.{named};
 ghost use Rattle.inf_unit.specs.Tokens.{is_end, is_mark, is_word, spelled, told};
 
-use inf_scanner::{Mark, TokenKind};
-use inf_symbol::messages::Told;
+use inf_report::messages::Told;
+use inf_scanner::{Mark, Place, TokenKind};
 
-/// A token of a source: what it is, its bytes (of a text or quote those between its quotes), and the line of its first
-/// byte, counted from 1.
+/// A token of a source: what it is, its bytes (of a text or quote those between its quotes), and the place of its first
+/// byte.
 #[derive(Clone, Copy)]
 pub struct Spelled<'a> {
     pub kind: TokenKind,
     pub bytes: &'a [u8],
-    pub line: u32,
+    pub place: Place,
 }
 
 /// Whether a token of this kind is this mark.

@@ -6,7 +6,7 @@ ghost use Rattle.inf_unit.specs.Works.{unit};
 ghost use Rattle.inf_symbol.specs.Spellings.{as_name};
 
 use crate::tokens::{Spelled, is_mark, is_word};
-use inf_scanner::{Mark, TokenKind};
+use inf_scanner::{Mark, Place, TokenKind};
 use inf_symbol::spellings::Name;
 use std::alloc::{AllocError, Global};
 
@@ -26,10 +26,10 @@ pub enum Statement {
 /// How a unit begins.
 #[derive(Clone, Copy, Debug, PartialEq, Eq)]
 pub enum Head {
-    /// With the bracket of a routine, on this line.
-    Header(u32),
-    /// As this statement, on this line.
-    Statement(Statement, u32),
+    /// With the bracket of a routine, at this place.
+    Header(Place),
+    /// As this statement, at this place.
+    Statement(Statement, Place),
 }
 
 /// What is known of the unit at hand.
@@ -71,9 +71,9 @@ fn head_of(token: &Spelled<'_>) -> Head
     ensures { result ≡ head_of (spelled token.now) }
 {
     if is_mark(token.kind, Mark::OpenBracket) {
-        Head::Header(token.line)
+        Head::Header(token.place)
     } else {
-        Head::Statement(statement_of(token), token.line)
+        Head::Statement(statement_of(token), token.place)
     }
 }
 
@@ -83,7 +83,7 @@ pub fn name_of(token: &Spelled<'_>) -> Option<Name>
     ensures { option_map as_name result ≡ name_of (spelled token.now) }
 {
     match token.kind {
-        TokenKind::Name => Some(Name::new(token.bytes, token.line)),
+        TokenKind::Name => Some(Name::new(token.bytes, token.place)),
         _ => None,
     }
 }

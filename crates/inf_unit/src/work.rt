@@ -1,26 +1,32 @@
 //! What the actions of the grammar do: they gather the parts of a unit, which acts at its end.
-ghost use Rattle.std.specs.Prelude.{◌≡◌, IfNone, None, OnOk, map, option_map};
+ghost use Rattle.std.specs.Prelude.{◌≡◌, IfOk, OnOk, map, option_map};
 ghost use Rattle.inf_symbol.specs.Spellings.{as_name};
+ghost use Rattle.inf_symbol.specs.LocalList.{headed as as_headed, listed, repeated as repeated_of};
+ghost use Rattle.inf_symbol.specs.Locals.{no_locals, with_all_named, with_locals};
 ghost use Rattle.inf_opcode.specs.Cells.{label_count};
 ghost use Rattle.inf_opcode.specs.Instructions.{IsProper, bare, instruction_cells};
-ghost use Rattle.inf_symbol.specs.Reports.{blamed, meant};
-ghost use Rattle.inf_symbol.specs.LocalList.{headed as as_headed, listed};
-ghost use Rattle.inf_symbol.specs.Locals.{no_locals, with_all_named, with_locals};
-ghost use Rattle.inf_symbol.specs.NameMap.{named as name_list};
-ghost use Rattle.inf_unit.specs.Actions.{exceeded};
-ghost use Rattle.inf_unit.specs.Units.{header_fault};
+ghost use Rattle.inf_names.specs.Symbols.{declare_fault};
+ghost use Rattle.inf_unit.specs.Actions.{with_all_unused};
+ghost use Rattle.inf_unit.specs.Blames.{blamed};
+ghost use Rattle.inf_unit.specs.Messages.{setting_of, with_full};
+ghost use Rattle.inf_unit.specs.Units.{again, header_fault, local_fault, name_fault, name_full, with_name};
 
 use crate::instructions::{calling, returning};
-use crate::operands::{call_fault, operand_fault, operands_of};
+use crate::messages::{Blame, Messages, location, setting_of};
+use crate::names::no_symbols;
+use crate::operands::{add_operands, call_fault, operand_fault};
 use crate::output::Output;
 use crate::unit::{Head, Statement, Unit};
-use inf_assembler::Setting;
+use arrayvec::ArrayVec;
+use inf_assembler::Setting as CodeSetting;
 use inf_grammar::Action;
+use inf_lexer::{Place, Stack};
+use inf_names::meanings::Meaning;
+use inf_names::symbols::{DeclareFault, Symbols};
 use inf_opcode::Opcode;
-use inf_symbol::locals::{Headed, Locals};
-use inf_symbol::messages::{Blame, Message};
-use inf_symbol::names::{Declaration, Names, folded, is_system_name};
-use inf_symbol::report::Report;
+use inf_report::messages::{Countable, Message};
+use inf_settings::setting::Setting;
+use inf_symbol::locals::{Headed, Locals, Repeated};
 use inf_symbol::spellings::Name;
 use inf_text::Text;
 use std::alloc::{AllocError, Global};
@@ -92,16 +98,14 @@ pub struct Work {
     gathered: Gathered,
     /// The locals of the routine that was opened last.
     locals: Locals,
-    pub names: Names,
+    pub names: Symbols<Place>,
     pub output: Output,
-    pub report: Report,
+    pub report: Messages,
 }
 
 impl Work {
-    ghost use Rattle.inf_symbol.specs.Names.{declaration_of, folded};
-    ghost use Rattle.inf_unit.specs.Actions.{no_work, header, header_with, close, statement_end, call, return_of, with_instruction, with_full, checked, printed, act, acted};
+    ghost use Rattle.inf_unit.specs.Actions.{no_work, header, header_with, close, statement_end, call, return_of, with_instruction, checked, printed, act, acted};
     ghost use Rattle.inf_unit.specs.Works.{gathered, unit, work};
-    ghost use Rattle.inf_unit.specs.Units.{name_fault};
 
     /// Before the first unit. It takes no memory until something is read.
     pub fn new(alloc: Global) -> Work
@@ -111,9 +115,9 @@ impl Work {
             alloc,
             gathered: Gathered::new(alloc),
             locals: Locals::new(),
-            names: Names::new(alloc),
+            names: no_symbols(alloc),
             output: Output::new(alloc),
-            report: Report::new(alloc),
+            report: Messages::new(alloc),
         }
     }
 
@@ -126,18 +130,19 @@ impl Work {
         self.gathered.read = text;
     }
 
-    /// Carries out some actions, before a token on this line.
+    /// Carries out some actions, before a token at a place.
     pub fn act_all(
         &mut self,
-        file: &[u8],
+        files: &Stack,
         at_hand: &Unit,
-        line: u32,
+        place: Place,
         actions: &[Action],
     ) -> Result<(), AllocError>
-        ensures { OnOk result (work self.new ≡ acted file.now (unit at_hand.now) line actions.now (work self.old)) }
+        ensures { OnOk result (work self.new
+            ≡ acted files.now.names (unit at_hand.now) place actions.now (work self.old)) }
     {
         for action in actions {
-            self.act(file, at_hand, line, *action)?;
+            self.act(files, at_hand, place, *action)?;
         }
         Ok(())
     }
@@ -145,12 +150,12 @@ impl Work {
     /// Carries out an action.
     fn act(
         &mut self,
-        file: &[u8],
+        files: &Stack,
         at_hand: &Unit,
-        line: u32,
+        place: Place,
         action: Action,
     ) -> Result<(), AllocError>
-        ensures { OnOk result (work self.new ≡ act file.now (unit at_hand.now) line action (work self.old)) }
+        ensures { OnOk result (work self.new ≡ act files.now.names (unit at_hand.now) place action (work self.old)) }
     {
         match action {
             Action::Begin => {
@@ -159,172 +164,161 @@ impl Work {
             }
             Action::Name => self.gathered.add_operand(),
             Action::PrintText => self.gathered.add_text(),
-            Action::EndLocals => self.header(file, at_hand.head, at_hand.names.as_slice()),
-            Action::EndStatement => self.end_statement(file, at_hand.head),
-            Action::EndRoutine => self.close(file, line),
+            Action::EndLocals => self.header(files, at_hand.head, at_hand.names.as_slice()),
+            Action::EndStatement => self.end_statement(files, at_hand.head),
+            Action::EndRoutine => self.close(files, place),
             _ => Ok(()),
         }
     }
 
     /// The header of a routine, which ends here.
-    fn header(&mut self, file: &[u8], head: Option<Head>, names: &[Name]) -> Result<(), AllocError>
-        ensures { OnOk result (work self.new ≡ header file.now head (map as_name names.now) (work self.old)) }
+    fn header(
+        &mut self,
+        files: &Stack,
+        head: Option<Head>,
+        names: &[Name],
+    ) -> Result<(), AllocError>
+        ensures { OnOk result (work self.new ≡ header files.now.names head (map as_name names.now) (work self.old)) }
     {
-        let Some(Head::Header(line)) = head else {
+        let Some(Head::Header(unit)) = head else {
             return Ok(());
         };
         let Some((name, locals)) = names.split_first() else {
             return Ok(());
         };
         let headed = headed_of(locals);
-        self.open(file, line, name, headed)
+        self.open(files, unit, name, headed)
     }
 
-    /// Opens the routine of a header that begins on a line. Its code begins with the number of its
+    /// Opens the routine of a header that begins at a place. Its code begins with the number of its
     /// locals (Z-Machine Standard 1.1, section 5.2).
     fn open(
         &mut self,
-        file: &[u8],
-        line: u32,
+        files: &Stack,
+        unit: Place,
         name: &Name,
         headed: Headed<'_>,
     ) -> Result<(), AllocError>
-        ensures { let key = folded (as_name name.now).bytes in
-            OnOk result (work self.new ≡ header_with file.now line
-            (as_name name.now) key (as_headed headed.entry) (work self.old)) }
+        ensures { OnOk result (work self.new
+            ≡ header_with files.now.names unit (as_name name.now) (as_headed headed.entry) (work self.old)) }
     {
-        let key = folded(self.alloc, name.bytes())?;
-        let of_name = self.name_fault(key.as_slice(), name);
-        let fault = header_fault(line, of_name, &headed);
-        if of_name.is_none() {
-            let declaration = Declaration {
-                line: name.line,
-                place: self.output.code.len(),
-            };
-            self.names.declare(key, declaration)?;
-        }
+        let refused = declare(&mut self.names, name, self.output.code.len())?;
+        let of_name = name_fault(files, name, refused);
+        let fault = header_fault(files, unit, of_name, &headed);
         let full = self
             .output
             .open(self.alloc, headed.locals.count(), fault.is_some())?;
         self.locals = headed.locals;
-        self.report.fault(file, line, fault)?;
-        self.check(file, line, full)
+        self.report.fault(files, unit, fault)?;
+        let first = name_full(refused).or(full.map(setting_of));
+        self.report.full(files, unit, first)
     }
 
-    /// What is wrong with declaring a name, given without case too.
-    fn name_fault<'t>(&self, key: &[u8], name: &'t Name) -> Option<Blame<'t>>
-        ensures fault { option_map blamed result
-            ≡ name_fault key.now (as_name name.now) (name_list self.now.names) }
-        ensures undeclared { IfNone result (declaration_of key.now (name_list self.now.names) ≡ None) }
+    /// Ends the open routine at a place: tells its unused locals, and finishes its code.
+    fn close(&mut self, files: &Stack, place: Place) -> Result<(), AllocError>
+        ensures { OnOk result (work self.new ≡ close files.now.names place (work self.old)) }
     {
-        if is_system_name(name.bytes()) {
-            return Some(Blame {
-                line: name.line,
-                message: Message::SystemName(name.bytes()),
-            });
-        }
-        let first = self.names.find(key)?;
-        Some(Blame {
-            line: name.line,
-            message: Message::Declared(name.bytes(), first.line),
-        })
-    }
-
-    /// Ends the open routine at a line: tells its unused locals, and finishes its code.
-    fn close(&mut self, file: &[u8], line: u32) -> Result<(), AllocError>
-        ensures { OnOk result (work self.new ≡ close file.now line (work self.old)) }
-    {
-        self.locals.tell_unused(file, line, &mut self.report)?;
+        tell_unused(&self.locals, files, place, &mut self.report)?;
         let full = self.output.close()?;
-        self.check(file, line, full)
+        self.check(files, place, full)
     }
 
     /// A statement ends that began so.
-    fn end_statement(&mut self, file: &[u8], head: Option<Head>) -> Result<(), AllocError>
-        ensures { OnOk result (work self.new ≡ statement_end file.now head (work self.old)) }
+    fn end_statement(&mut self, files: &Stack, head: Option<Head>) -> Result<(), AllocError>
+        ensures { OnOk result (work self.new ≡ statement_end files.now.names head (work self.old)) }
     {
-        let Some(Head::Statement(statement, line)) = head else {
+        let Some(Head::Statement(statement, unit)) = head else {
             return Ok(());
         };
         match statement {
-            Statement::Print => self.print(file, line),
-            Statement::Return => self.end_return(file, line),
-            Statement::NewLine => self.emit_bare(file, line, Opcode::NewLine),
-            Statement::Quit => self.emit_bare(file, line, Opcode::Quit),
-            Statement::ReturnTrue => self.emit_bare(file, line, Opcode::Rtrue),
-            Statement::ReturnFalse => self.emit_bare(file, line, Opcode::Rfalse),
-            Statement::Call => self.call(file, line),
+            Statement::Print => self.print(files, unit),
+            Statement::Return => self.end_return(files, unit),
+            Statement::NewLine => self.emit_bare(files, unit, Opcode::NewLine),
+            Statement::Quit => self.emit_bare(files, unit, Opcode::Quit),
+            Statement::ReturnTrue => self.emit_bare(files, unit, Opcode::Rtrue),
+            Statement::ReturnFalse => self.emit_bare(files, unit, Opcode::Rfalse),
+            Statement::Call => self.call(files, unit),
         }
     }
 
-    /// Ends the compilation where a unit would pass a setting, which is told at a line.
-    fn check(&mut self, file: &[u8], line: u32, full: Option<Setting>) -> Result<(), AllocError>
-        ensures { let before = work self.old in
-            OnOk result (work self.new ≡ record before { report = with_full file.now line full before.report }) }
+    /// Ends the compilation where a unit that begins at a place would pass a setting of the code.
+    fn check(
+        &mut self,
+        files: &Stack,
+        unit: Place,
+        full: Option<CodeSetting>,
+    ) -> Result<(), AllocError>
+        ensures { let before = work self.old in OnOk result (work self.new
+            ≡ record before { report = with_full files.now.names unit (option_map setting_of full) before.report }) }
     {
-        match full {
-            Some(setting) => self.report.fatal(file, line, exceeded(setting)),
-            None => Ok(()),
-        }
+        self.report.full(files, unit, full.map(setting_of))
     }
 
     /// The instruction of an opcode alone, which has no branch or jump.
-    fn emit_bare(&mut self, file: &[u8], line: u32, opcode: Opcode) -> Result<(), AllocError>
+    fn emit_bare(&mut self, files: &Stack, unit: Place, opcode: Opcode) -> Result<(), AllocError>
         requires proper { IsProper (bare opcode) }
         requires straight { label_count (instruction_cells (bare opcode)) ≡ 0 }
-        ensures { OnOk result (work self.new ≡ with_instruction file.now line (bare opcode) (work self.old)) }
+        ensures { OnOk result (work self.new ≡ with_instruction files.now.names unit (bare opcode) (work self.old)) }
     {
         let full = self.output.emit_bare(opcode)?;
-        self.check(file, line, full)
+        self.check(files, unit, full)
     }
 
     /// Prints the texts of the unit.
-    fn print(&mut self, file: &[u8], line: u32) -> Result<(), AllocError>
-        ensures { let before = work self.old in
-            OnOk result (work self.new ≡ checked file.now line (printed before.gathered.texts before.output) before) }
+    fn print(&mut self, files: &Stack, unit: Place) -> Result<(), AllocError>
+        ensures { let before = work self.old in OnOk result (work self.new
+            ≡ checked files.now.names unit (printed before.gathered.texts before.output) before) }
     {
         let texts = self.gathered.texts.as_slice();
         let full = self.output.print_all(self.alloc, texts)?;
-        self.check(file, line, full)
+        self.check(files, unit, full)
     }
 
     /// Calls the first operand of the unit with the others.
-    fn call(&mut self, file: &[u8], line: u32) -> Result<(), AllocError>
+    fn call(&mut self, files: &Stack, unit: Place) -> Result<(), AllocError>
         ensures { let names = (gathered self.old.gathered).operands in
-            OnOk result (work self.new ≡ call file.now line names (work self.old)) }
+            OnOk result (work self.new ≡ call files.now.names unit names (work self.old)) }
     {
         let names = self.gathered.operands.as_slice();
         let Some((called, arguments)) = names.split_first() else {
             return Ok(());
         };
-        if let Some(blame) = call_fault(line, &self.locals, called, arguments) {
+        if let Some(blame) = call_fault(unit, &self.locals, called, arguments) {
             name_all(&mut self.locals, names);
-            return self.report.error(file, blame.line, line, blame.message);
+            return self.report.fault(files, unit, Some(blame));
         }
-        let operands = operands_of(self.alloc, &self.locals, &mut self.names, names)?;
+        let mut operands = ArrayVec::new();
+        let full = add_operands(&self.locals, &mut self.names, names, &mut operands)?;
         name_all(&mut self.locals, names);
+        if full.is_some() {
+            return self.report.full(files, unit, full);
+        }
         let full = self.output.emit(&calling(operands.as_slice()))?;
-        self.check(file, line, full)
+        self.check(files, unit, full)
     }
 
     /// Returns true, or the operand of the unit.
-    fn end_return(&mut self, file: &[u8], line: u32) -> Result<(), AllocError>
+    fn end_return(&mut self, files: &Stack, unit: Place) -> Result<(), AllocError>
         ensures { let names = (gathered self.old.gathered).operands in
-            OnOk result (work self.new ≡ return_of file.now line names (work self.old)) }
+            OnOk result (work self.new ≡ return_of files.now.names unit names (work self.old)) }
     {
         let operands = self.gathered.operands.as_slice();
         let Some((name, _)) = operands.split_first() else {
-            return self.emit_bare(file, line, Opcode::Rtrue);
+            return self.emit_bare(files, unit, Opcode::Rtrue);
         };
         let names = &operands[..1];
         if let Some(blame) = operand_fault(&self.locals, name) {
             name_all(&mut self.locals, names);
-            return self.report.error(file, blame.line, line, blame.message);
+            return self.report.fault(files, unit, Some(blame));
         }
-        let operands = operands_of(self.alloc, &self.locals, &mut self.names, names)?;
+        let mut operands = ArrayVec::new();
+        let full = add_operands(&self.locals, &mut self.names, names, &mut operands)?;
         name_all(&mut self.locals, names);
+        if full.is_some() {
+            return self.report.full(files, unit, full);
+        }
         let full = self.output.emit(&returning(operands.as_slice()))?;
-        self.check(file, line, full)
+        self.check(files, unit, full)
     }
 }
 
@@ -334,7 +328,7 @@ fn headed_of(names: &[Name]) -> Headed<'_>
 {
     let mut headed = Headed::new();
     for name in names {
-        headed.add(&name.spelling, name.line);
+        headed.add(name);
     }
     headed
 }
@@ -348,28 +342,104 @@ fn name_all(locals: &mut Locals, names: &[Name])
     }
 }
 
-/// What is told of a setting that is full.
-fn exceeded(setting: Setting) -> Message<'static>
-    ensures { meant result ≡ exceeded setting }
+/// Warns, at a place, of each local that no statement named.
+fn tell_unused(
+    locals: &Locals,
+    files: &Stack,
+    place: Place,
+    report: &mut Messages,
+) -> Result<(), AllocError>
+    ensures { OnOk result (report.new ≡ with_all_unused files.now.names place (listed locals.now) report.old) }
 {
-    match setting {
-        Setting::Labels => Message::LabelsExceeded,
-        Setting::Code => Message::CodeExceeded,
-        Setting::Refs => Message::RefsExceeded,
+    for local in locals.list.as_slice() {
+        if !local.is_named {
+            report.warning(
+                location(files, place),
+                &Message::UnusedLocal(local.name.as_slice()),
+            )?;
+        }
     }
+    Ok(())
+}
+
+/// Declares a name as the routine at a place in the code, unless something is wrong with it, which is answered.
+fn declare(
+    names: &mut Symbols<Place>,
+    name: &Name,
+    at: usize,
+) -> Result<Option<DeclareFault<Place>>, AllocError>
+    ensures { let fault = declare_fault (as_name name.now).bytes names.old in IfOk result (λ refused.
+        (refused ≡ fault) × (names.new ≡ with_name (as_name name.now) at fault names.old)) }
+{
+    match names.declare(name.bytes(), name.place, Meaning::Routine(at)) {
+        Ok(_) => Ok(None),
+        Err(DeclareFault::Memory) => Err(AllocError),
+        Err(fault) => Ok(Some(fault)),
+    }
+}
+
+/// A name that was declared at a place before.
+fn again<'a>(files: &'a Stack, name: &'a Name, first: Place) -> Blame<'a>
+    ensures { blamed result ≡ again files.now.names (as_name name.now) first }
+{
+    Blame {
+        place: name.place,
+        message: Message::Declared(name.bytes(), location(files, first)),
+    }
+}
+
+/// What is wrong with declaring a name, by what the names refuse. That there are too many is no error of the unit.
+fn name_fault<'a>(
+    files: &'a Stack,
+    name: &'a Name,
+    refused: Option<DeclareFault<Place>>,
+) -> Option<Blame<'a>>
+    ensures { option_map blamed result ≡ name_fault files.now.names (as_name name.now) refused }
+{
+    match refused? {
+        DeclareFault::Present(None) => Some(Blame {
+            place: name.place,
+            message: Message::SystemName(name.bytes()),
+        }),
+        DeclareFault::Present(Some(first)) => Some(again(files, name, first)),
+        DeclareFault::Full | DeclareFault::Memory => None,
+    }
+}
+
+/// The setting that another name would pass.
+fn name_full(refused: Option<DeclareFault<Place>>) -> Option<Setting>
+    ensures { result ≡ name_full refused }
+{
+    match refused {
+        Some(DeclareFault::Full) => Some(Setting::Symbols),
+        _ => None,
+    }
+}
+
+/// A local that is named again.
+fn local_fault<'a>(files: &'a Stack, repeated: Option<Repeated<'a>>) -> Option<Blame<'a>>
+    ensures { option_map blamed result ≡ local_fault files.now.names (option_map repeated_of repeated.entry) }
+{
+    let repeated = repeated?;
+    Some(again(files, repeated.name, repeated.first))
 }
 
 /// The first error of a header by its place: too many locals, which stands at its bracket, its
 /// name, a local named again.
-fn header_fault<'a>(line: u32, of_name: Option<Blame<'a>>, headed: &Headed<'a>) -> Option<Blame<'a>>
+fn header_fault<'a>(
+    files: &'a Stack,
+    unit: Place,
+    of_name: Option<Blame<'a>>,
+    headed: &Headed<'a>,
+) -> Option<Blame<'a>>
     ensures { option_map blamed result
-        ≡ header_fault line (option_map blamed of_name.entry) (as_headed headed.entry.now) }
+        ≡ header_fault files.now.names unit (option_map blamed of_name.entry) (as_headed headed.entry.now) }
 {
     if headed.are_too_many {
         return Some(Blame {
-            line,
-            message: Message::TooManyLocals,
+            place: unit,
+            message: Message::TooMany(Countable::Locals),
         });
     }
-    of_name.or(headed.repeated)
+    of_name.or(local_fault(files, headed.repeated))
 }

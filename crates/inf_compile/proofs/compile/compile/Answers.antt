@@ -1,4 +1,4 @@
-use Rattle.std.proofs.Common.{sym, ◌∙◌}
+use Rattle.std.proofs.Common.{sym}
 use Rattle.inf_reader.specs.Translations.{seen}
 use Rattle.inf_compile.proofs.Endings.{none_taken}
 use Rattle.inf_compile.proofs.compile.compile.Goals as goal

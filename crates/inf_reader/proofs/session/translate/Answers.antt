@@ -1,5 +1,6 @@
-use Rattle.std.proofs.Common.{◌≡◌, ℕ, List, inl, inr, [], length, Err, ap, subst, ◌∙◌, arith}
+use Rattle.std.proofs.Common.{◌≡◌, inl, inr, [], length, Err, ap, subst, ◌∙◌, arith}
 use Rattle.std.proofs.lemmas.Result.{err_from_is_err_and}
+use Rattle.inf_lexer.specs.Names.{Nest}
 use Rattle.inf_lexer.specs.Readers.{Reader}
 use Rattle.inf_lexer.specs.Unread.{Heard, View}
 use Rattle.inf_lexer.specs.declared.faults.LexFault.{LexFault}
@@ -28,9 +29,9 @@ returns-clause-read g c =
     let session = c.new-session.result in
     let front = c.new-session.ensures.window ∙ ap (λ (r : Reader). r.window) c.requires.front in
     has_read (files.is_honest c.args.files.now) (files.sources c.args.files.now) (files.openings c.args.files.now) (files.openings c.read.new.files)
-    c.args.serial.now c.args.file.now _ session.lexer.window c.read.new.self.lexer.window c.read.new.self.lexer (standing session.progress) (standing c.read.new.self.progress) (state session)
+    c.args.serial.now c.args.names.now.names _ session.lexer.window c.read.new.self.lexer.window c.read.new.self.lexer (standing session.progress) (standing c.read.new.self.progress) (state session)
     front c.new-session.ensures.state (ap (λ (s : State). s.reading.mode) (c.new-session.ensures.state []))
-    (subst (λ (f : List ℕ). Heard State (files.is_honest c.args.files.now) (files.sources c.args.files.now) (files.openings c.args.files.now) (files.openings c.read.new.files)
-    session.lexer.window c.read.new.self.lexer.window (state c.read.new.self) (λ rest. run f (turns_of rest) (state session rest))) c.new-session.ensures.file c.in_ok-read.ensures.heard)
+    (subst (λ (f : Nest). Heard State (files.is_honest c.args.files.now) (files.sources c.args.files.now) (files.openings c.args.files.now) (files.openings c.read.new.files)
+    session.lexer.window c.read.new.self.lexer.window (state c.read.new.self) (λ rest. run f.names (turns_of rest) (state session rest))) c.new-session.ensures.names c.in_ok-read.ensures.heard)
     c.in_ok-read.ensures.stops c.in_ok-read.ensures.end
     (c.in_ok-read.ensures.window (omega (arith, ap (λ (v : View). length v.left) front))) c.in_ok-read.ensures.few c.in_ok-translation.ensures

@@ -1,5 +1,5 @@
 use Rattle.std.proofs.Common.{◌≡◌, ◌++◌, codes, decimal, ◌∙◌}
-use Rattle.inf_symbol.specs.Messages.{ending}
+use Rattle.inf_report.specs.Reports.{ending}
 use Rattle.inf_report.proofs.Writings.{goes_on, stops}
 use Rattle.inf_report.proofs.lines.write_closing.Goals as goal
 

@@ -1,7 +1,6 @@
 use Rattle.std.proofs.Common.{◌++◌, codes}
-use Rattle.inf_symbol.specs.Messages.{place}
 use Rattle.inf_report.specs.Meant.{meant}
-use Rattle.inf_report.specs.Messages.{severity, text}
+use Rattle.inf_report.specs.Messages.{place, severity, text}
 use Rattle.inf_report.proofs.Writings.{both_whole, failed, goes_on, stops, with_more}
 use Rattle.inf_report.proofs.lines.write_line.Goals as goal
 

@@ -12,10 +12,10 @@ loop-self-init g c =
     let self = c.args.self.now in
     let openings = files.openings c.args.files.now in
     record {
-      led = led_none self.file.now (files.is_honest c.args.files.now) (files.sources c.args.files.now) openings self.lexer.window self.lexer (standing self.progress);
+      led = led_none self.names.now.names (files.is_honest c.args.files.now) (files.sources c.args.files.now) openings self.lexer.window self.lexer (standing self.progress);
       stops = λ e. inl e;
       ready = c.requires.ready;
-      file = refl;
+      names = refl;
       end = λ honest ends. ends;
       window = λ few. few;
       few = c.requires.few;
@@ -35,20 +35,20 @@ loop-self-preserved g c =
     let first = c.args.self.now in
     let self = c.loop-self.self in
     let going : has_ended_at (standing self.progress) ≡ false = sym c.has_ended.ensures ∙ c.loop-self-test.true in
-    let final : List ℕ → State = λ rest. run first.file.now (turns_of rest) (state first rest) in
+    let final : List ℕ → State = λ rest. run first.names.now.names (turns_of rest) (state first rest) in
     let honest = files.is_honest c.args.files.now in
     let sources = files.sources c.args.files.now in
-    let led = led_turn first.file.now honest (files.is_honest c.loop-self.files) sources (files.sources c.loop-self.files)
+    let led = led_turn first.names.now.names honest (files.is_honest c.loop-self.files) sources (files.sources c.loop-self.files)
     (files.openings c.args.files.now) (files.openings c.loop-self.files) (files.openings c.turn.new.files)
     first.lexer.window self.lexer.window c.turn.new.self.lexer.window self.lexer (standing self.progress) (state c.turn.new.self) final
     inv.honesty inv.sources going inv.led
     (subst (λ f. Heard State (files.is_honest c.loop-self.files) (files.sources c.loop-self.files) (files.openings c.loop-self.files) (files.openings c.turn.new.files)
-    self.lexer.window c.turn.new.self.lexer.window (state c.turn.new.self) (λ rest. turn f.now (state self rest))) inv.file took.heard) in
+    self.lexer.window c.turn.new.self.lexer.window (state c.turn.new.self) (λ rest. turn f.now.names (state self rest))) inv.names took.heard) in
     record {
       led = led;
       stops = stops_then (standing first.progress) (standing self.progress) (standing c.turn.new.self.progress) c.turn.new.self.lexer.window going took.stops;
       ready = took.ready;
-      file = c.turn.ensures.file ∙ inv.file;
+      names = c.turn.ensures.names ∙ inv.names;
       end = ends_on honest (files.is_honest c.loop-self.files) sources (files.sources c.loop-self.files) (files.openings c.args.files.now) (files.openings c.loop-self.files) (files.openings c.turn.new.files)
           first.lexer.window self.lexer.window c.turn.new.self.lexer.window inv.end inv.honesty inv.sources took.end;
       window = λ few. took.window;
@@ -76,5 +76,5 @@ returns-clause-heard g c =
     let first = c.args.self.now in
     let self = c.loop-self.self in
     let over : has_ended_at (standing self.progress) ≡ true = sym c.has_ended.ensures ∙ c.loop-self-test.false in
-    led_heard first.file.now (files.is_honest c.args.files.now) (files.sources c.args.files.now) (files.openings c.args.files.now) (files.openings c.loop-self.files)
-    first.lexer.window self.lexer.window self.lexer (standing self.progress) (λ rest. run first.file.now (turns_of rest) (state first rest)) over c.loop-self.invariant.led
+    led_heard first.names.now.names (files.is_honest c.args.files.now) (files.sources c.args.files.now) (files.openings c.args.files.now) (files.openings c.loop-self.files)
+    first.lexer.window self.lexer.window self.lexer (standing self.progress) (λ rest. run first.names.now.names (turns_of rest) (state first rest)) over c.loop-self.invariant.led

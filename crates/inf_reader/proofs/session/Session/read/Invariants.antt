@@ -1,4 +1,4 @@
-use Rattle.std.proofs.Common.{◌≡◌, ◌⊎◌, ℕ, ◌+◌, ◌-◌, ◌<◌, ◌≤◌, List, length, cond, min, suc, IsTrue}
+use Rattle.std.proofs.Common.{◌≡◌, ◌+◌, ◌-◌, ◌≤◌, length, cond, min, suc, IsTrue}
 use Rattle.inf_token.specs.Files.{last_count}
 use Rattle.inf_lexer.specs.Unread.{Along, Ends}
 use Rattle.inf_reader.specs.Reading.{has_ended_at, run, turns_of}
@@ -13,11 +13,11 @@ invariant-loop-self g l =
     let sources = files.sources l.fn.files in
     let honest = files.is_honest l.fn.files in
     record {
-      led : Led l.fn.self.file.now honest sources (files.openings l.fn.files) (files.openings l.files) l.fn.self.lexer.window l.self.lexer.window
-          (state l.self) (λ rest. run l.fn.self.file.now (turns_of rest) (state l.fn.self rest));
+      led : Led l.fn.self.names.now.names honest sources (files.openings l.fn.files) (files.openings l.files) l.fn.self.lexer.window l.self.lexer.window
+          (state l.self) (λ rest. run l.fn.self.names.now.names (turns_of rest) (state l.fn.self rest));
       stops : Stops (standing l.fn.self.progress) (standing l.self.progress) l.self.lexer.window;
       ready : IsReady l.self.lexer;
-      file : l.self.file ≡ l.fn.self.file;
+      names : l.self.names ≡ l.fn.self.names;
       end : IsTrue honest → Ends sources (files.openings l.fn.files) l.fn.self.lexer.window → Ends sources (files.openings l.files) l.self.lexer.window;
       window : length l.fn.self.lexer.window.left ≤ 4096 → length l.self.lexer.window.left ≤ 4096;
       few : l.self.lexer.window.given ≤ 16777216;

@@ -6,4 +6,4 @@ use Rattle.inf_unit.proofs.work.Work.act_all.Given as goal
 -- the actions that are left lead from here to where all lead
 abbrev pub invariant-loop-action : goal.invariant-loop-action
 invariant-loop-action l =
-    acted l.file (unit l.at_hand) l.line (drop l.action-index l.actions) (work l.self) ≡ acted l.file (unit l.at_hand) l.line l.actions (work l.fn.self)
+    acted l.files.names (unit l.at_hand) l.place (drop l.action-index l.actions) (work l.self) ≡ acted l.files.names (unit l.at_hand) l.place l.actions (work l.fn.self)

@@ -1,0 +1,60 @@
+-- The messages of a compilation so far, and where they stand.
+use Rattle.std.specs.Prelude.{ℕ, List, [], ◌++◌, true, Option, Some, None, slice_get, unwrap_or}
+use Rattle.inf_scanner.specs.declared.tokens.Place.{Place}
+use Rattle.inf_assembler.specs.declared.routines.Setting.{Setting as CodeSetting}
+use Rattle.inf_assembler.specs.declared.routines.Setting.TheVariants as code_setting
+use Rattle.inf_settings.specs.declared.setting.Setting.{Setting}
+use Rattle.inf_settings.specs.declared.setting.Setting.TheVariants as setting
+use Rattle.inf_report.specs.Messages.{Location, Message, Exceeded}
+use Rattle.inf_report.specs.Reports.{Counts, no_counts, error_lines, warning_lines, fatal_lines, closing_lines, with_error as error_counted, with_warning as warning_counted, with_fatal as fatal_counted}
+
+-- the names of the files, as they were opened, by their numbers
+abbrev pub FileNames : Type 0
+FileNames = List (List ℕ)
+
+-- the line that a place is
+abbrev pub location : FileNames → Place → Location
+location files p = record { file = unwrap_or (slice_get files p.file) []; line = p.line }
+
+-- A message at a place.
+pub record Blame : Type 0 where
+  pub place : Place
+  pub message : Message
+
+-- The lines so far, and what was counted of them.
+pub record Reported : Type 0 where
+  pub lines : List ℕ
+  pub counts : Counts
+
+abbrev pub nothing_reported : Reported
+nothing_reported = record { lines = []; counts = no_counts true }
+
+-- an error at a place, of a unit that begins at another or the same
+abbrev pub with_error : Location → Location → Message → Reported → Reported
+with_error at unit m r = record { lines = r.lines ++ error_lines at unit m r.counts; counts = error_counted r.counts }
+
+abbrev pub with_warning : Location → Message → Reported → Reported
+with_warning at m r = record { lines = r.lines ++ warning_lines at m r.counts; counts = warning_counted r.counts }
+
+abbrev pub with_fatal : Location → Message → Reported → Reported
+with_fatal at m r = record { lines = r.lines ++ fatal_lines at m r.counts; counts = fatal_counted r.counts }
+
+-- the last line
+abbrev pub with_closing : Reported → Reported
+with_closing r = record r { lines = r.lines ++ closing_lines r.counts }
+
+-- the report after the unit that begins at a place had this error, if any
+abbrev pub with_fault : FileNames → Place → Option Blame → Reported → Reported
+with_fault files unit None r = r
+with_fault files unit (Some b) r = with_error (location files b.place) (location files unit) b.message r
+
+-- the setting that bounds what code has
+abbrev pub setting_of : CodeSetting → Setting
+setting_of code_setting.Labels = setting.Labels
+setting_of code_setting.Code = setting.Code
+setting_of code_setting.Refs = setting.References
+
+-- A setting that a unit would pass ends the compilation. It is told where the unit begins, behind the messages of the unit.
+abbrev pub with_full : FileNames → Place → Option Setting → Reported → Reported
+with_full files unit None r = r
+with_full files unit (Some s) r = with_fatal (location files unit) (Exceeded s) r

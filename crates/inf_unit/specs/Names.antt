@@ -1,0 +1,61 @@
+-- The names of a source, and the routines that they are.
+use Rattle.std.specs.Prelude.{ℕ, List, [], ◌∷◌, map, codes, false, Option, Some, None}
+use Rattle.inf_scanner.specs.declared.tokens.Place.{Place}
+use Rattle.inf_names.specs.Symbols.{Table, Named, Standing, IsDeclared, IsUsed, no_names, found_in}
+use Rattle.inf_names.specs.declared.meanings.Meaning.{Meaning}
+use Rattle.inf_names.specs.declared.meanings.Meaning.TheVariants as meaning
+use Rattle.inf_names.specs.declared.symbols.Found.{Found}
+use Rattle.inf_names.specs.declared.symbols.Found.TheVariants as found
+use Rattle.inf_report.specs.Messages.{Undeclared}
+use Rattle.inf_unit.specs.Messages.{FileNames, Reported, location, with_error}
+
+-- how many names there may be
+abbrev pub most_names : ℕ
+most_names = 10000
+
+abbrev pub no_symbols : Table Place
+no_symbols = no_names most_names false
+
+-- The place of a routine among the routines of the source, in bytes. Another name has none; it is an error, and no story comes
+-- of it.
+abbrev pub place_of : Meaning → ℕ
+place_of (meaning.Routine place) = place
+place_of _ = 0
+
+abbrev pub place_in : Standing Place → ℕ
+place_in (IsDeclared number m place) = place_of m
+place_in (IsUsed spelling place) = 0
+
+-- of what is known of the name of a number, if there is one
+abbrev pub place_among : Option (Standing Place) → ℕ
+place_among None = 0
+place_among (Some s) = place_in s
+
+-- the places of the routines of all names
+abbrev pub places : List (Named Place) → List ℕ
+places names = map (λ n. place_in n.standing) names
+
+-- the routine with which a story begins
+abbrev pub main_name : List ℕ
+main_name = codes "main"
+
+abbrev pub routine_of : Meaning → Option ℕ
+routine_of (meaning.Routine place) = Some place
+routine_of _ = None
+
+abbrev pub routine_in : Found Place → Option ℕ
+routine_in (found.Declared m place) = routine_of m
+routine_in _ = None
+
+-- its place
+abbrev pub main_of : Table Place → Option ℕ
+main_of names = routine_in (found_in main_name names)
+
+-- Each name that was used and never declared is an error where it was first used.
+abbrev pub with_undeclared : FileNames → Standing Place → Reported → Reported
+with_undeclared files (IsDeclared number m place) r = r
+with_undeclared files (IsUsed spelling place) r = with_error (location files place) (location files place) (Undeclared spelling) r
+
+abbrev pub with_all_undeclared : FileNames → List (Named Place) → Reported → Reported
+with_all_undeclared files [] r = r
+with_all_undeclared files (n ∷ names) r = with_all_undeclared files names (with_undeclared files n.standing r)

@@ -1,0 +1,174 @@
+//! The messages of a compilation so far, and where they stand.
+ghost use Rattle.std.specs.Prelude.{◌≡◌, IsOk, OnOk, option_map};
+ghost use Rattle.inf_report.specs.Meant.{located, meant};
+ghost use Rattle.inf_unit.specs.Blames.{blamed};
+ghost use Rattle.inf_unit.specs.Messages.{location, nothing_reported, setting_of, with_closing, with_error, with_fatal, with_fault, with_full, with_warning};
+
+use inf_assembler::Setting as CodeSetting;
+use inf_lexer::{Place, Stack};
+use inf_report::messages::{Location, Message};
+use inf_report::report::{Report, ReportFault};
+use inf_settings::setting::Setting;
+use inf_symbol::memory_sink::MemorySink;
+use std::alloc::{AllocError, Global};
+use std::marker::Model;
+
+/// A message at a place.
+#[derive(Clone, Copy, Debug)]
+pub struct Blame<'a> {
+    pub place: Place,
+    pub message: Message<'a>,
+}
+
+/// The line that a place is, by the name under which its file was opened.
+pub fn location(files: &Stack, place: Place) -> Location<'_>
+    ensures { located result ≡ location files.now.names place }
+{
+    let file = match files.name(place.file) {
+        Some(name) => name.as_bytes(),
+        None => b"",
+    };
+    Location {
+        file,
+        line: place.line,
+    }
+}
+
+/// The setting that bounds what code has.
+pub fn setting_of(full: CodeSetting) -> Setting
+    ensures { result ≡ setting_of full }
+{
+    match full {
+        CodeSetting::Labels => Setting::Labels,
+        CodeSetting::Code => Setting::Code,
+        CodeSetting::Refs => Setting::References,
+    }
+}
+
+/// The lines of the messages so far, and what was counted of them.
+///
+/// Each call adds its line, or refuses where no memory was left: a part of the line may then stand there.
+#[derive(Drop)]
+pub struct Messages {
+    report: Report,
+    lines: MemorySink,
+}
+
+impl Model for Messages {
+    ghost use Rattle.inf_unit.specs.Messages.{Reported};
+
+    ghost Value = { Reported };
+
+    ghost view = { λ m. record { lines = m.lines.bytes; counts = m.report } };
+}
+
+impl Messages {
+    /// Nothing was told yet. It takes no memory until something is.
+    pub fn new(alloc: Global) -> Messages
+        ensures { result ≡ nothing_reported }
+    {
+        Messages {
+            report: Report::new(true),
+            lines: MemorySink::new(alloc),
+        }
+    }
+
+    /// How many errors were told.
+    pub fn errors(&self) -> u32
+        ensures { result ≡ self.now.counts.errors }
+    {
+        self.report.errors()
+    }
+
+    /// Whether a fatal error has ended all.
+    pub fn is_over(&self) -> bool
+        ensures { result ≡ self.now.counts.is_over }
+    {
+        self.report.is_over()
+    }
+
+    /// An error at a line, of a unit that begins at another or the same. The hundredth is followed by a fatal error where the
+    /// unit begins. Nothing follows a fatal one.
+    pub fn error(
+        &mut self,
+        at: Location<'_>,
+        unit: Location<'_>,
+        message: &Message<'_>,
+    ) -> Result<(), AllocError>
+        ensures { OnOk result (self.new ≡ with_error (located at.entry) (located unit.entry) (meant message.now) self.old) }
+    {
+        written(self.report.error(&mut self.lines, at, unit, message))
+    }
+
+    /// The error that a unit had which begins at a place, if any.
+    pub fn fault(
+        &mut self,
+        files: &Stack,
+        unit: Place,
+        fault: Option<Blame<'_>>,
+    ) -> Result<(), AllocError>
+        ensures { OnOk result (self.new ≡ with_fault files.now.names unit (option_map blamed fault.entry) self.old) }
+    {
+        match fault {
+            Some(blame) => self.error(
+                location(files, blame.place),
+                location(files, unit),
+                &blame.message,
+            ),
+            None => Ok(()),
+        }
+    }
+
+    /// A warning at a line, unless a fatal error came before.
+    pub fn warning(&mut self, at: Location<'_>, message: &Message<'_>) -> Result<(), AllocError>
+        ensures { OnOk result (self.new ≡ with_warning (located at.entry) (meant message.now) self.old) }
+    {
+        written(self.report.warning(&mut self.lines, at, message))
+    }
+
+    /// A fatal error at a line, unless one came before.
+    pub fn fatal(&mut self, at: Location<'_>, message: &Message<'_>) -> Result<(), AllocError>
+        ensures { OnOk result (self.new ≡ with_fatal (located at.entry) (meant message.now) self.old) }
+    {
+        written(self.report.fatal(&mut self.lines, at, message))
+    }
+
+    /// Ends the compilation where a unit that begins at a place would pass a setting.
+    pub fn full(
+        &mut self,
+        files: &Stack,
+        unit: Place,
+        full: Option<Setting>,
+    ) -> Result<(), AllocError>
+        ensures { OnOk result (self.new ≡ with_full files.now.names unit full self.old) }
+    {
+        match full {
+            Some(setting) => self.fatal(location(files, unit), &Message::Exceeded(setting)),
+            None => Ok(()),
+        }
+    }
+
+    /// The last line, unless a fatal error came before.
+    pub fn close(&mut self) -> Result<(), AllocError>
+        ensures { OnOk result (self.new ≡ with_closing self.old) }
+    {
+        written(self.report.close(&mut self.lines))
+    }
+
+    /// The lines, which it gives away.
+    pub fn into_lines(self) -> Vec<u8>
+        ensures { result.items ≡ self.lines }
+    {
+        self.lines.into_bytes()
+    }
+}
+
+/// A sink in memory fails only where no memory was left.
+fn written(told: Result<(), ReportFault>) -> Result<(), AllocError>
+    ensures { OnOk result (IsOk told) }
+{
+    match told {
+        Ok(()) => Ok(()),
+        Err(ReportFault::Write) => Err(AllocError),
+    }
+}

@@ -1,0 +1,81 @@
+//! The names of a source, and the routines that they are.
+ghost use Rattle.std.specs.Prelude.{◌≡◌, IfOk, OnOk, map};
+ghost use Rattle.inf_layout.specs.Addresses.{packed_address};
+ghost use Rattle.inf_names.specs.Symbols.{meaning_in, standing_at};
+ghost use Rattle.inf_unit.specs.Names.{main_of, no_symbols, place_among, places, routine_of, with_all_undeclared};
+
+use crate::messages::{Messages, location};
+use inf_layout::addresses::packed_address;
+use inf_lexer::{Place, Stack};
+use inf_names::meanings::Meaning;
+use inf_names::symbols::{Found, Symbols};
+use inf_report::messages::Message;
+use std::alloc::{AllocError, Global};
+
+/// How many names there may be. No word changes it yet.
+const MOST_NAMES: u32 = 10_000;
+
+/// No names. It takes no memory until the first one comes.
+pub fn no_symbols(alloc: Global) -> Symbols<Place>
+    ensures { result ≡ no_symbols }
+{
+    Symbols::new(alloc, MOST_NAMES, false)
+}
+
+/// The place of the routine with which a story begins, among the routines of the source.
+pub fn main_of(names: &Symbols<Place>) -> Option<usize>
+    ensures { result ≡ main_of names.now }
+{
+    match names.look(b"main") {
+        Found::Declared(meaning, _) => routine_of(meaning),
+        Found::System(_) | Found::Used | Found::Unknown => None,
+    }
+}
+
+/// The place of a routine among the routines of the source, in bytes.
+fn routine_of(meaning: Meaning) -> Option<usize>
+    ensures { result ≡ routine_of meaning }
+{
+    match meaning {
+        Meaning::Routine(place) => Some(place),
+        _ => None,
+    }
+}
+
+/// Tells each name that was used and never declared, where it was first used.
+pub fn tell_undeclared(
+    names: &Symbols<Place>,
+    files: &Stack,
+    messages: &mut Messages,
+) -> Result<(), AllocError>
+    ensures { OnOk result (messages.new ≡ with_all_undeclared files.now.names names.now.names messages.old) }
+{
+    for number in 0..names.len() {
+        if let Some((spelling, place)) = names.use_at(number) {
+            let at = location(files, place);
+            messages.error(at, at, &Message::Undeclared(spelling))?;
+        }
+    }
+    Ok(())
+}
+
+/// The packed addresses of the routines of all names, by their numbers.
+pub fn packed_addresses(alloc: Global, names: &Symbols<Place>) -> Result<Vec<u16>, AllocError>
+    ensures { IfOk result (λ numbers. numbers.items ≡ map packed_address (places names.now.names)) }
+{
+    let mut addresses = Vec::with_capacity(alloc, names.len())?;
+    for number in 0..names.len() {
+        addresses.push(packed_address(place_at(names, number)))?;
+    }
+    Ok(addresses)
+}
+
+/// The place of the routine that the name of a number is; 0 where it is none.
+fn place_at(names: &Symbols<Place>, number: usize) -> usize
+    ensures { result ≡ place_among (standing_at number names.now.names) }
+{
+    match names.meaning_at(number) {
+        Some(meaning) => routine_of(meaning).unwrap_or(0),
+        None => 0,
+    }
+}
