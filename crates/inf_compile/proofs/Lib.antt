@@ -1,4 +1,2 @@
 pub mod Reading
 pub mod Endings
-pub mod WordSteps
-pub mod Stems

@@ -1,6 +1,6 @@
 -- What comes of a source that was opened, read and closed.
 use Rattle.std.proofs.Common.{◌≡◌, inl, inr, ℕ, suc, zero, ◌-◌, ◌<◌, ◌≤◌, List, [], ◌∷◌, ◌++◌, length, drop, get_or, cond, Bool, true, false, IsTrue, Option, Some, None, is_some, unwrap_or, refl, sym, ap, subst, ◌∙◌, arith, length-append}
-use Rattle.std.specs.Prelude.{slice_get, codes, Result, Ok, Err, IfOk}
+use Rattle.std.specs.Prelude.{slice_get, Result, Ok, Err, IfOk}
 use Rattle.std.proofs.Math.Seq.{get_or-append_seam}
 use Rattle.inf_token.specs.Files.{Closes, Opening, Openings, Rose, Sources, opened}
 use Rattle.inf_lexer.specs.Entering.{Enters, first_there, with_opened}
@@ -15,19 +15,6 @@ use Rattle.inf_reader.specs.Sessions.{HasRead, IsTooMuch}
 use Rattle.inf_reader.specs.Translations.{seen}
 use Rattle.inf_reader.specs.declared.outcome.Translation.{Translation}
 use Rattle.inf_compile.specs.Compiling.{Comes, GaveTooMuch, IsRead, IsSource, IsTooLong, with_openings}
-use Rattle.inf_compile.specs.Words.{source_name, stem}
-
--- the name of a source has bytes
-abbrev name_by : Option (List ℕ) → List ℕ → List ℕ
-name_by o word = elim o [ Some front ↦ word | None ↦ word ++ codes ".inf" ]
-
-some_of : (o : Option (List ℕ)) (b : ℕ) (bs : List ℕ) → 0 < length (name_by o (b ∷ bs))
-some_of (Some front) b bs = omega arith
-some_of None b bs = omega arith
-
-pub source_name_some : (word : List ℕ) → 0 < length (source_name word)
-source_name_some [] = omega arith
-source_name_some (b ∷ bs) = some_of (stem (b ∷ bs)) b bs
 
 -- Lists that differ in their last element alone
 

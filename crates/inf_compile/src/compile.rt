@@ -4,15 +4,15 @@ ghost use Rattle.inf_symbol.specs.Sinks.{Takes};
 ghost use Rattle.inf_compile.specs.Compiling.{IsTooLong, GaveTooMuch, Comes, Compiles, IsSource, Delivers, DeliversPart, IfRead, IfMessages, IfStory, UnlessStory, IsDelivery};
 ghost use Rattle.inf_reader.specs.Translations.{seen};
 ghost use Rattle.inf_reader.specs.Outcome.{outcome};
-ghost use Rattle.inf_compile.specs.Words.{source_name};
+ghost use Rattle.inf_words.specs.FileNames.{source_name};
 
-use crate::command_line::{Options, source_name};
 use inf_lexer::{EnterFault, LexFault, Stack};
 use inf_reader::outcome::{Status, Translation};
 use inf_reader::session::{MOST_QUOTED, no_file, translate};
 use inf_symbol::sinks::{Sink, write_whole};
 use inf_text::CharSet;
 use inf_token::files::Files;
+use inf_words::command_line::{Options, source_name};
 use std::alloc::{AllocError, AllocFailed, Global};
 use thiserror::Error;
 

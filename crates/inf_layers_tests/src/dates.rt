@@ -1,4 +1,4 @@
-use inf_compile::dates::serial;
+use inf_words::dates::serial;
 use jiff::civil::Date;
 use std::test::Fail;
 

@@ -1,10 +1,10 @@
 #![tactic(auto)]
 
-use inf_compile::command_line::{self, CommandLine, Options, WordFault};
 use inf_compile::compile::{self, Fault};
-use inf_compile::dates;
 use inf_disk::disk::{DiskFiles, OutputSink, StoryPlace, StorySink, Trouble};
 use inf_reader::outcome::Status;
+use inf_words::command_line::{self, CommandLine, Options, WordFault};
+use inf_words::dates;
 use jiff::Timestamp;
 use jiff::tz::Offset;
 use std::alloc::AllocError;

@@ -1,11 +1,11 @@
 use crate::devices::{Narrow, folder};
-use inf_compile::command_line::CommandLine;
 use inf_compile::compile::{Fault, compile};
 use inf_reader::outcome::Status;
 use inf_symbol::memory_sink::MemorySink;
 use inf_symbol::sinks::Sink;
 use inf_token::files::Files;
 use inf_token::memory_files::MemoryFiles;
+use inf_words::command_line::CommandLine;
 use std::alloc::Global;
 use std::collections::BTreeMap;
 use std::process::Abort;

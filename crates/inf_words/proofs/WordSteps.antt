@@ -1,7 +1,7 @@
 -- One word more of a command's words.
 use Rattle.std.proofs.Common.{◌≡◌, ℕ, suc, ◌+◌, ◌<◌, List, map, drop, get_or, length, Ok, Err, Bor, add-one, drop-cons, ap}
-use Rattle.inf_compile.specs.Words.{TakenWords, take_word, read_from, and_then}
-use Rattle.inf_compile.specs.declared.command_line.WordFault.{WordFault}
+use Rattle.inf_words.specs.Words.{TakenWords, and_then, read_from, take_word}
+use Rattle.inf_words.specs.declared.command_line.WordFault.{WordFault}
 
 -- a word that was taken leaves the words behind it
 pub read_from-taken : (words : List (Bor (List ℕ))) (i : ℕ) (d : Bor (List ℕ)) (taken next : TakenWords) → i < length words

@@ -1,12 +1,13 @@
 -- The stem of a name, from where its last `.` stands.
-use Rattle.std.proofs.Common.{◌≡◌, ◌≢◌, ℕ, zero, suc, ◌<◌, ◌==◌, List, [], ◌∷◌, ◌++◌, length, get_or, Bool, true, false, Some, None, drop, arith, lit<, ap, refl, sym, ◌∙◌}
+use Rattle.std.proofs.Common.{◌≡◌, ◌≢◌, ℕ, zero, suc, ◌<◌, ◌==◌, List, [], ◌∷◌, ◌++◌, length, get_or, Bool, true, false, Option, Some, None, drop, arith, lit<, ap, refl, sym, ◌∙◌}
 use Rattle.std.proofs.lemmas.List.{take-append-drop}
 use Rattle.std.specs.Str.Pattern.{FindsChar, RFindsChar, HasMatch, SplitsAroundMatch}
 use Rattle.std.specs.Str.{NoCharPasses}
 use Rattle.std.specs.Bool.{MatchBool}
+use Rattle.std.specs.Prelude.{codes}
 use Rattle.std.proofs.Math.Bool.{or-true, true-or}
 use Rattle.std.proofs.lemmas.Str.Pattern.{NoCharPasses-char, drop_at_char, contains_char}
-use Rattle.inf_compile.specs.Words.{stem, stem_after, has_slash}
+use Rattle.inf_words.specs.FileNames.{source_name, stem, stem_after, has_slash}
 
 -- a byte that is no `.` begins no extension
 stem_after-other : (b : ℕ) (slash : Bool) → b ≢ 46 → stem_after b slash None ≡ None
@@ -84,3 +85,15 @@ has_slash-found bs r cases = decided r (contains_char 47 bs r cases (lit< tt))
     decided : (r : Bool) → (r ≡ true → (k : ℕ) × (k < length bs) × (get_or bs k 0 ≡ 47)) × ((k : ℕ) → k < length bs → get_or bs k 0 ≡ 47 → r ≡ true) → has_slash bs ≡ r
     decided true (found, all) = let f = found refl in has_slash-at bs f.0 f.1 f.2
     decided false (found, all) = has_slash-nowhere bs (λ k lt at. let e : false ≡ true = all k lt at in cc)
+
+-- the name of a source has bytes
+abbrev name_by : Option (List ℕ) → List ℕ → List ℕ
+name_by o word = elim o [ Some front ↦ word | None ↦ word ++ codes ".inf" ]
+
+some_of : (o : Option (List ℕ)) (b : ℕ) (bs : List ℕ) → 0 < length (name_by o (b ∷ bs))
+some_of (Some front) b bs = omega arith
+some_of None b bs = omega arith
+
+pub source_name_some : (word : List ℕ) → 0 < length (source_name word)
+source_name_some [] = omega arith
+source_name_some (b ∷ bs) = some_of (stem (b ∷ bs)) b bs

@@ -1,6 +1,6 @@
 use Rattle.std.proofs.Common.{sym, ◌∙◌}
-use Rattle.inf_compile.proofs.Stems.{stem-split, stem-split_slash, stem-undivided, has_slash-found}
-use Rattle.inf_compile.proofs.command_line.stem_of.Goals as goal
+use Rattle.inf_words.proofs.Stems.{stem-split, stem-split_slash, stem-undivided, has_slash-found}
+use Rattle.inf_words.proofs.command_line.stem_of.Goals as goal
 
 pub returns-in_err-front : goal.returns-in_err-front
 returns-in_err-front c = rw c.from_residual.ensures (sym (stem-undivided c.args.name.now c.in_err-front.ensures.cases))

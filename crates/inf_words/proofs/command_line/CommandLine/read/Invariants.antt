@@ -1,6 +1,6 @@
 use Rattle.std.proofs.Common.{◌≡◌, map, drop}
-use Rattle.inf_compile.specs.Words.{read_from, read_words}
-use Rattle.inf_compile.proofs.command_line.CommandLine.read.Given as goal
+use Rattle.inf_words.specs.Words.{read_from, read_words}
+use Rattle.inf_words.proofs.command_line.CommandLine.read.Given as goal
 
 -- the words that are left, read after those that were taken, are all of them read
 abbrev pub invariant-loop-place : goal.invariant-loop-place

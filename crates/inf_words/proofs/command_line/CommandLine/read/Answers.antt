@@ -1,7 +1,7 @@
 use Rattle.std.proofs.Common.{sym, ◌∙◌}
 use Rattle.std.proofs.lemmas.Result.{err_from_is_err_and}
-use Rattle.inf_compile.proofs.WordSteps.{read_from-taken, read_from-refused}
-use Rattle.inf_compile.proofs.command_line.CommandLine.read.Goals as goal
+use Rattle.inf_words.proofs.WordSteps.{read_from-taken, read_from-refused}
+use Rattle.inf_words.proofs.command_line.CommandLine.read.Goals as goal
 
 pub loop-place-preserved : goal.loop-place-preserved
 loop-place-preserved c =

@@ -1,5 +1,5 @@
 ghost use Rattle.std.specs.Prelude.{◌≡◌, ◌<◌, ◌+◌, ◌/◌, ◌%◌};
-ghost use Rattle.inf_compile.specs.Dates.{serial_of, two_digits};
+ghost use Rattle.inf_words.specs.Dates.{serial_of, two_digits};
 
 use jiff::civil::Date;
 

@@ -1,0 +1,4 @@
+pub mod WordSteps
+pub mod Pairs
+pub mod Stems
+pub mod Cutting

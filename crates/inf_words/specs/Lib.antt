@@ -1,0 +1,4 @@
+pub mod Words
+pub mod FileNames
+pub mod Directories
+pub mod Dates

@@ -1,0 +1,154 @@
+//! The words of a command, and the names of the files that they give.
+ghost use Rattle.std.specs.Prelude.{◌≡◌, ◌<◌, IfOk, length, map};
+ghost use Rattle.std.specs.Option.{option_copied};
+ghost use Rattle.std.specs.String.{string_bytes};
+ghost use Rattle.inf_words.specs.Words.{read_words};
+ghost use Rattle.inf_words.specs.Directories.{directories_of};
+ghost use Rattle.inf_words.specs.FileNames.{stem, source_name, story_name};
+
+use crate::directories::parts_of;
+use crate::taken::Taken;
+use inf_characters::CharSet;
+use inf_settings::settings::Settings;
+use std::alloc::{AllocError, Global};
+use std::marker::Model;
+use thiserror::Error;
+
+/// Why a word of a command was refused. A place counts the words from 0.
+#[derive(Clone, Copy, Debug, PartialEq, Eq, Error)]
+pub enum WordFault {
+    /// The word at this place begins with `-`, and has no letter behind it or one that is unknown.
+    #[error("word {0} is unknown")]
+    Unknown(usize),
+    /// The word at this place begins with `$`, and does not set a setting to a number that it can have.
+    #[error("word {0} is no fit setting")]
+    BadSetting(usize),
+    /// No word names a source.
+    #[error("no source")]
+    NoSource,
+    /// The word at this place stands behind a source and a story.
+    #[error("word {0} is one too many")]
+    TooMany(usize),
+}
+
+/// What the words of a command choose: the word for the source, the word for the story where there
+/// is one, the settings, the character set, and what a word `+..` says behind its sign.
+#[derive(Debug, Drop)]
+pub struct Options<'a> {
+    pub(crate) source: &'a str,
+    pub(crate) story: Option<&'a str>,
+    pub(crate) settings: Settings,
+    pub(crate) set: CharSet,
+    pub(crate) path: Option<&'a str>,
+}
+
+impl<'a> Model for Options<'a> {
+    ghost use Rattle.std.specs.Option.{option_copied};
+    ghost use Rattle.inf_words.specs.Words.{Choice};
+
+    ghost Value = { Choice };
+
+    ghost view = { λ o. record {
+      source = o.source.now;
+      story = option_copied o.story;
+      settings = o.settings;
+      set = o.set;
+      path = option_copied o.path;
+    } };
+}
+
+impl<'a> Options<'a> {
+    /// The number of each setting: the one of the last word that sets it, else its default.
+    pub fn settings(&self) -> &Settings
+        ensures { result.now ≡ self.now.settings }
+    {
+        &self.settings
+    }
+
+    /// The character set of the source: ISO Latin-1 where no word chooses.
+    pub fn set(&self) -> CharSet
+        ensures { result ≡ self.now.set }
+    {
+        self.set
+    }
+
+    /// The directories in which included files are looked for, in their order: none where no word
+    /// gives them. An empty one stands for a file's name itself.
+    ///
+    /// The only error is that no memory was left.
+    pub fn directories(&self, alloc: Global) -> Result<Vec<&'a str>, AllocError>
+        ensures { IfOk result (λ directories. map (λ d. d.now) directories.items ≡ directories_of self.now.path) }
+    {
+        match self.path {
+            Some(path) => parts_of(alloc, path),
+            None => Ok(Vec::new(alloc)),
+        }
+    }
+}
+
+/// The words of a command.
+pub struct CommandLine;
+
+impl CommandLine {
+    /// Reads the words from left to right; a later word on the same matter wins.
+    ///
+    /// `-` is followed by letters: `C0` is ASCII, and `C1` is ISO Latin-1, which holds where no word
+    /// chooses. `$NAME=n` sets a setting to a decimal number. `+a,b` gives the directories of
+    /// included files. Of the other words the first names the source, the second the story.
+    ///
+    /// The first word that is refused decides. `Unknown` is a bare `-` or an unknown letter behind
+    /// it; `BadSetting` another word with `$`, an unknown setting, or a number that is not 1 to
+    /// 1,048,576; `TooMany` a third name. `NoSource` comes where no word is refused and none names a
+    /// source.
+    pub fn read<'a>(words: &[&'a str]) -> Result<Options<'a>, WordFault>
+        ensures { result ≡ read_words (map (λ w. w.now) words.now) }
+    {
+        let mut taken = Taken::none();
+        for (place, word) in words.iter().enumerate() {
+            taken = taken.and(place, word)?;
+        }
+        taken.finish()
+    }
+}
+
+/// What stands before the last `.` of a name, where its last part, behind the last `/`, has one.
+fn stem_of(name: &str) -> Option<&str>
+    ensures { option_copied result ≡ stem name.now }
+{
+    let (front, extension) = name.rsplit_once('.')?;
+    if extension.contains('/') {
+        return None;
+    }
+    Some(front)
+}
+
+/// The name of the source's file: the word, with `.inf` where its last part has no extension.
+///
+/// The only error is that no memory was left.
+#[tactic(auto, using(crate::proofs::Stems::source_name_some))]
+pub fn source_name(alloc: Global, options: &Options<'_>) -> Result<String, AllocError>
+    ensures bytes { IfOk result (λ s. string_bytes s ≡ source_name options.now.source) }
+    ensures some { IfOk result (λ s. 0 < length (string_bytes s)) }
+{
+    let mut name = String::from_str(alloc, options.source)?;
+    if stem_of(options.source).is_none() {
+        name.push_str(".inf")?;
+    }
+    Ok(name)
+}
+
+/// The name of the story's file: its word, or else the source's word with `.z5` in place of the
+/// extension of its last part.
+///
+/// The only error is that no memory was left.
+pub fn story_name(alloc: Global, options: &Options<'_>) -> Result<String, AllocError>
+    ensures { IfOk result (λ s. string_bytes s ≡ story_name options.now) }
+{
+    if let Some(word) = options.story {
+        return String::from_str(alloc, word);
+    }
+    let front = stem_of(options.source).unwrap_or(options.source);
+    let mut name = String::from_str(alloc, front)?;
+    name.push_str(".z5")?;
+    Ok(name)
+}

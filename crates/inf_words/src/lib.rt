@@ -1,0 +1,8 @@
+//! The words of a command: what they choose, the names of the files, and the date of a story.
+#![tactic(auto)]
+
+pub mod command_line;
+pub mod dates;
+mod directories;
+mod letters;
+mod taken;

@@ -1,0 +1,114 @@
+//! The words of a command one by one.
+ghost use Rattle.std.specs.Prelude.{◌≡◌};
+ghost use Rattle.std.specs.Option.{option_copied};
+ghost use Rattle.inf_settings.specs.Words.{assignment_of};
+ghost use Rattle.inf_words.specs.Words.{chosen_set, choice_of, no_words, take_name, take_setting, take_word, with_set};
+
+use crate::command_line::{Options, WordFault};
+use crate::letters::chosen_set;
+use inf_characters::CharSet;
+use inf_settings::settings::Settings;
+use inf_settings::words::Assignment;
+use std::marker::Model;
+
+/// What the words chose so far.
+#[derive(Drop)]
+pub(crate) struct Taken<'a> {
+    source: Option<&'a str>,
+    story: Option<&'a str>,
+    settings: Settings,
+    set: CharSet,
+    path: Option<&'a str>,
+}
+
+impl<'a> Model for Taken<'a> {
+    ghost use Rattle.std.specs.Option.{option_copied};
+    ghost use Rattle.inf_words.specs.Words.{TakenWords};
+
+    ghost Value = { TakenWords };
+
+    ghost view = { λ t. record {
+      source = option_copied t.source;
+      story = option_copied t.story;
+      settings = t.settings;
+      set = t.set;
+      path = option_copied t.path;
+    } };
+}
+
+impl<'a> Taken<'a> {
+    pub(crate) fn none() -> Taken<'a>
+        ensures { result ≡ no_words }
+    {
+        Taken {
+            source: None,
+            story: None,
+            settings: Settings::new(),
+            set: CharSet::Latin1,
+            path: None,
+        }
+    }
+
+    /// Takes one more word, at its place.
+    pub(crate) fn and(self, place: usize, word: &'a str) -> Result<Taken<'a>, WordFault>
+        ensures { result ≡ take_word self.entry place word.now }
+    {
+        match word.as_bytes() {
+            [b'-', letters @ ..] => self.with_letters(place, letters),
+            [b'$', ..] => self.with_setting(place, word.as_bytes()),
+            [b'+', ..] => Ok(self.with_path(&word[1..])),
+            _ => self.with_name(place, word),
+        }
+    }
+
+    fn with_letters(mut self, place: usize, letters: &[u8]) -> Result<Taken<'a>, WordFault>
+        ensures { result ≡ with_set self.entry place (chosen_set self.entry.set letters.now) }
+    {
+        self.set = chosen_set(self.set, letters).ok_or(WordFault::Unknown(place))?;
+        Ok(self)
+    }
+
+    fn with_setting(mut self, place: usize, word: &[u8]) -> Result<Taken<'a>, WordFault>
+        ensures { result ≡ take_setting self.entry place (assignment_of word.now) }
+    {
+        let Some(assignment) = Assignment::of(word) else {
+            return Err(WordFault::BadSetting(place));
+        };
+        match self.settings.set(assignment.name, assignment.number) {
+            Ok(()) => Ok(self),
+            Err(_) => Err(WordFault::BadSetting(place)),
+        }
+    }
+
+    fn with_path(mut self, path: &'a str) -> Taken<'a>
+        ensures { result ≡ record self.entry { path = Some path.now } }
+    {
+        self.path = Some(path);
+        self
+    }
+
+    fn with_name(mut self, place: usize, word: &'a str) -> Result<Taken<'a>, WordFault>
+        ensures { result ≡ take_name self.entry.source self.entry.story self.entry place word.now }
+    {
+        match (self.source, self.story) {
+            (None, _) => self.source = Some(word),
+            (_, None) => self.story = Some(word),
+            _ => return Err(WordFault::TooMany(place)),
+        }
+        Ok(self)
+    }
+
+    /// What is chosen at the end of the words.
+    pub(crate) fn finish(self) -> Result<Options<'a>, WordFault>
+        ensures { result ≡ choice_of self.entry.source self.entry }
+    {
+        let source = self.source.ok_or(WordFault::NoSource)?;
+        Ok(Options {
+            source,
+            story: self.story,
+            settings: self.settings,
+            set: self.set,
+            path: self.path,
+        })
+    }
+}
