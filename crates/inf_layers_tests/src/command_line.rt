@@ -88,7 +88,11 @@ fn the_last_number_of_a_setting_is_chosen(rt: HostRuntime) -> Result<(), Fail> {
         (&["$MAX_SYMBOLS=1", "t"], Setting::Symbols, 1),
         (&["t", "$MAX_SYMBOLS=1048576"], Setting::Symbols, 1_048_576),
         (&["t", "$MAX_SYMBOLS=0000000000000007"], Setting::Symbols, 7),
-        (&["$MAX_SYMBOLS=1", "$MAX_SYMBOLS=2", "t"], Setting::Symbols, 2),
+        (
+            &["$MAX_SYMBOLS=1", "$MAX_SYMBOLS=2", "t"],
+            Setting::Symbols,
+            2,
+        ),
         (&["$MAX_SYMBOLS=1", "t", "$MAX_CODE=2"], Setting::Symbols, 1),
         (&["$MAX_SYMBOLS=1", "t", "$MAX_CODE=2"], Setting::Code, 2),
     ];
