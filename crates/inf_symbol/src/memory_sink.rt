@@ -37,6 +37,13 @@ impl MemorySink {
         &self.bytes
     }
 
+    /// Forgets its bytes.
+    pub fn clear(&mut self)
+        ensures { self.new ≡ record self.old { bytes = [] } }
+    {
+        self.bytes.clear();
+    }
+
     /// The same bytes, which it gives away.
     pub fn into_bytes(self) -> Vec<u8>
         ensures { result.items ≡ self.bytes }
