@@ -1,5 +1,6 @@
 -- What the actions of the grammar do. While a unit is read they gather its parts, and at its end it acts, as a whole.
 use Rattle.std.specs.Prelude.{ℕ, List, [], ◌∷◌, ◌++◌, length, Bool, false, if◌then◌else◌, Option, Some, None, is_some, option_map}
+use Rattle.inf_characters.specs.declared.characters.CharSet.TheVariants as set
 use Rattle.inf_characters.specs.declared.texts.TextItem.{TextItem}
 use Rattle.inf_scanner.specs.declared.tokens.Place.{Place}
 use Rattle.inf_opcode.specs.declared.opcodes.Opcode.TheVariants as opcode
@@ -11,13 +12,17 @@ use Rattle.inf_assembler.specs.Routines.{fresh}
 use Rattle.inf_settings.specs.declared.setting.Setting.{Setting}
 use Rattle.inf_names.specs.Symbols.{Table, declare_fault}
 use Rattle.inf_report.specs.Messages.{UnusedLocal}
+use Rattle.inf_report.specs.OwnWords.{Words}
 use Rattle.inf_symbol.specs.Spellings.{Name}
 use Rattle.inf_symbol.specs.Locals.{Local, Headed, with_all_named, with_locals, no_locals}
 use Rattle.inf_layout.specs.declared.code.CodeLimits.{CodeLimits}
 use Rattle.inf_layout.specs.Code.{Routines, no_routines, size, with_item, with_closed, with_none_open, full_opened, full_with, full_closed}
 use Rattle.inf_grammar.specs.declared.actions.Action.{Action}
 use Rattle.inf_grammar.specs.declared.actions.Action.TheVariants as action
-use Rattle.inf_unit.specs.Messages.{FileNames, Blame, Reported, location, nothing_reported, setting_of, with_error, with_fault, with_full, with_warning}
+use Rattle.inf_unit.specs.Directives.{Asked, Nothing, Include, End, SystemFile, weight_of}
+use Rattle.inf_unit.specs.declared.directives.Directive.{Directive}
+use Rattle.inf_unit.specs.declared.directives.Directive.TheVariants as directive
+use Rattle.inf_unit.specs.Messages.{FileNames, Blame, Reported, location, nothing_reported, setting_of, with_error, with_fault, with_full, with_warning, with_words}
 use Rattle.inf_unit.specs.Names.{no_symbols}
 use Rattle.inf_unit.specs.Statements.{Unit}
 use Rattle.inf_unit.specs.Units.{name_fault, name_full, with_name, header_fault, operand_fault, call_fault, with_operands, printing, calling, returning}
@@ -27,15 +32,16 @@ use Rattle.inf_unit.specs.declared.unit.Statement.{Statement}
 use Rattle.inf_unit.specs.declared.unit.Statement.TheVariants as statement
 
 -- What the unit at hand gathered: its operands, its texts, and its last token: the name, if it is one, and the characters, if it
--- is a text.
+-- is a text; of a text of a directive the bytes between its quotes.
 pub record Gathered : Type 0 where
   pub operands : List Name
   pub texts : List (List TextItem)
   pub named : Option Name
   pub read : Option (List TextItem)
+  pub quoted : List ℕ
 
 abbrev pub nothing_gathered : Gathered
-nothing_gathered = record { operands = []; texts = []; named = None; read = None }
+nothing_gathered = record { operands = []; texts = []; named = None; read = None; quoted = [] }
 
 -- The finished routines and the open one, if any, and whether the header of the one opened last had an error.
 pub record Output : Type 0 where
@@ -49,17 +55,18 @@ default_limits = record { labels = 1000; code = 262144; refs = 50000 }
 abbrev pub no_output : Output
 no_output = record { code = no_routines default_limits; is_lost = false }
 
--- What was compiled so far: the parts of the unit at hand, the locals of the open routine, the names of the source, the code, and
--- the messages.
+-- What was compiled so far: the parts of the unit at hand, the locals of the open routine, the names of the source, the code, the
+-- messages, and what a directive asks of the reading.
 pub record Work : Type 0 where
   pub gathered : Gathered
   pub locals : List Local
   pub names : Table Place
   pub output : Output
   pub report : Reported
+  pub asked : Asked
 
 abbrev pub no_work : Work
-no_work = record { gathered = nothing_gathered; locals = []; names = no_symbols; output = no_output; report = nothing_reported }
+no_work = record { gathered = nothing_gathered; locals = []; names = no_symbols; output = no_output; report = nothing_reported; asked = Nothing }
 
 -- The parts of a unit
 
@@ -202,12 +209,30 @@ abbrev pub statement_end : FileNames → Option Head → Work → Work
 statement_end files (Some (head.Statement s unit)) w = finish s files unit w
 statement_end files _ w = w
 
+-- Directives, which begin at a place
+
+-- the text of the unit, whose character set is ISO Latin-1
+abbrev pub words_of : Gathered → Words
+words_of g = record { bytes = g.quoted; set = set.Latin1 }
+
+abbrev pub carried_out : Directive → FileNames → Place → List Name → Work → Work
+carried_out directive.Include files unit names w = record w { gathered = record w.gathered { quoted = [] }; asked = Include w.gathered.quoted unit }
+carried_out directive.Message files unit names w = record w { report = with_words (location files unit) (weight_of names) (words_of w.gathered) w.report }
+carried_out directive.End files unit names w = record w { asked = End }
+carried_out directive.SystemFile files unit names w = record w { asked = SystemFile }
+
+-- a directive ends that began so, with these names
+abbrev pub directive_end : FileNames → Option Head → List Name → Work → Work
+directive_end files (Some (head.Directive d unit)) names w = carried_out d files unit names w
+directive_end files _ names w = w
+
 -- What an action does, where this is the unit at hand and the next token stands at a place.
 abbrev pub act : FileNames → Unit → Place → Action → Work → Work
 act files unit place action.Begin w = record w { gathered = nothing_gathered }
 act files unit place action.Name w = record w { gathered = with_operand w.gathered.named w.gathered }
 act files unit place action.PrintText w = record w { gathered = with_text w.gathered.read w.gathered }
 act files unit place action.EndLocals w = header files unit.head unit.names w
+act files unit place action.EndDirective w = directive_end files unit.head unit.names w
 act files unit place action.EndStatement w = statement_end files unit.head w
 act files unit place action.EndRoutine w = close files place w
 act files unit place _ w = w

@@ -2,6 +2,7 @@ pub mod Messages
 pub mod Blames
 pub mod Tokens
 pub mod Keywords
+pub mod Directives
 pub mod Statements
 pub mod Names
 pub mod Units

@@ -5,8 +5,11 @@ use Rattle.inf_assembler.specs.declared.routines.Setting.{Setting as CodeSetting
 use Rattle.inf_assembler.specs.declared.routines.Setting.TheVariants as code_setting
 use Rattle.inf_settings.specs.declared.setting.Setting.{Setting}
 use Rattle.inf_settings.specs.declared.setting.Setting.TheVariants as setting
-use Rattle.inf_report.specs.Messages.{Location, Message, Exceeded}
-use Rattle.inf_report.specs.Reports.{Counts, no_counts, error_lines, warning_lines, fatal_lines, closing_lines, with_error as error_counted, with_warning as warning_counted, with_fatal as fatal_counted}
+use Rattle.inf_report.specs.Messages.{Location, Message, ErrorText, WarningText, Exceeded, FatalText}
+use Rattle.inf_report.specs.OwnWords.{Words}
+use Rattle.inf_report.specs.declared.messages.Kind.{Kind}
+use Rattle.inf_report.specs.declared.messages.Kind.TheVariants as weight
+use Rattle.inf_report.specs.Reports.{Counts, no_counts, error_lines, warning_lines, fatal_lines, plain_lines, closing_lines, with_error as error_counted, with_warning as warning_counted, with_fatal as fatal_counted}
 
 -- the names of the files, as they were opened, by their numbers
 abbrev pub FileNames : Type 0
@@ -38,6 +41,21 @@ with_warning at m r = record { lines = r.lines ++ warning_lines at m r.counts; c
 
 abbrev pub with_fatal : Location → Message → Reported → Reported
 with_fatal at m r = record { lines = r.lines ++ fatal_lines at m r.counts; counts = fatal_counted r.counts }
+
+-- a line of the source's own words alone
+abbrev pub with_plain : Words → Reported → Reported
+with_plain words r = record r { lines = r.lines ++ plain_lines words r.counts }
+
+-- a message in the source's own words, of a weight or none, of a unit that begins at a line
+abbrev pub with_words : Location → Option Kind → Words → Reported → Reported
+with_words at None words r = with_plain words r
+with_words at (Some weight.Error) words r = with_error at at (ErrorText words) r
+with_words at (Some weight.Warning) words r = with_warning at (WarningText words) r
+with_words at (Some weight.Fatal) words r = with_fatal at (FatalText words) r
+
+-- the lines were written
+abbrev pub flushed : Reported → Reported
+flushed r = record r { lines = [] }
 
 -- the last line
 abbrev pub with_closing : Reported → Reported

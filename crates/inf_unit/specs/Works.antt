@@ -2,6 +2,7 @@
 use Rattle.std.specs.Prelude.{map, option_map}
 use Rattle.inf_symbol.specs.Spellings.{as_name}
 use Rattle.inf_symbol.specs.LocalList.{listed}
+use Rattle.inf_unit.specs.Directives.{asked}
 use Rattle.inf_unit.specs.Statements.{Unit}
 use Rattle.inf_unit.specs.Actions.{Gathered, Output, Work}
 use Rattle.inf_unit.specs.declared.unit.Unit.{Unit as CodeUnit}
@@ -10,10 +11,10 @@ use Rattle.inf_unit.specs.declared.work.Work.{Work as CodeWork}
 use Rattle.inf_unit.specs.declared.output.Output.{Output as CodeOutput}
 
 abbrev pub unit : CodeUnit → Unit
-unit u = record { head = u.head; names = map as_name u.names.items; has_more = u.has_more; is_closed = u.is_closed }
+unit u = record { is_outer = u.is_outer; sign = u.sign; head = u.head; names = map as_name u.names.items; has_more = u.has_more; is_closed = u.is_closed }
 
 abbrev pub gathered : CodeGathered → Gathered
-gathered g = record { operands = map as_name g.operands.items; texts = g.texts.items; named = option_map as_name g.named; read = g.read }
+gathered g = record { operands = map as_name g.operands.items; texts = g.texts.items; named = option_map as_name g.named; read = g.read; quoted = g.quoted.items }
 
 abbrev pub output : CodeOutput → Output
 output o = record { code = o.code; is_lost = o.is_lost }
@@ -25,4 +26,5 @@ work w = record {
   names = w.names;
   output = output w.output;
   report = w.report;
+  asked = asked w.asked;
 }

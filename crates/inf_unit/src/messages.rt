@@ -1,15 +1,18 @@
 //! The messages of a compilation so far, and where they stand.
-ghost use Rattle.std.specs.Prelude.{◌≡◌, IsOk, OnOk, option_map};
-ghost use Rattle.inf_report.specs.Meant.{located, meant};
+ghost use Rattle.std.specs.Prelude.{◌≡◌, IsOk, OnErr, OnOk, option_map};
+ghost use Rattle.inf_report.specs.Meant.{located, meant, worded};
+ghost use Rattle.inf_report.specs.Writing.{Writes};
 ghost use Rattle.inf_unit.specs.Blames.{blamed};
-ghost use Rattle.inf_unit.specs.Messages.{location, nothing_reported, setting_of, with_closing, with_error, with_fatal, with_fault, with_full, with_warning};
+ghost use Rattle.inf_unit.specs.Messages.{flushed, location, nothing_reported, setting_of, with_closing, with_error, with_fatal, with_fault, with_full, with_plain, with_warning, with_words};
 
 use inf_assembler::Setting as CodeSetting;
 use inf_lexer::{Place, Stack};
-use inf_report::messages::{Location, Message};
+use inf_report::messages::{Kind, Location, Message};
+use inf_report::own_words::OwnWords;
 use inf_report::report::{Report, ReportFault};
 use inf_settings::setting::Setting;
 use inf_symbol::memory_sink::MemorySink;
+use inf_symbol::sinks::{Sink, write_whole};
 use std::alloc::{AllocError, Global};
 use std::marker::Model;
 
@@ -133,6 +136,31 @@ impl Messages {
         written(self.report.fatal(&mut self.lines, at, message))
     }
 
+    /// A line of the source's own words alone, unless a fatal error came before.
+    pub fn plain(&mut self, words: OwnWords<'_>) -> Result<(), AllocError>
+        ensures { OnOk result (self.new ≡ with_plain (worded words.entry) self.old) }
+    {
+        written(self.report.plain(&mut self.lines, words))
+    }
+
+    /// A message in the source's own words, of a unit that begins at a line: an error, a warning or
+    /// a fatal error, or without a weight a plain line.
+    pub fn words(
+        &mut self,
+        at: Location<'_>,
+        weight: Option<Kind>,
+        words: OwnWords<'_>,
+    ) -> Result<(), AllocError>
+        ensures { OnOk result (self.new ≡ with_words (located at.entry) weight (worded words.entry) self.old) }
+    {
+        match weight {
+            None => self.plain(words),
+            Some(Kind::Error) => self.error(at, at, &Message::ErrorText(words)),
+            Some(Kind::Warning) => self.warning(at, &Message::WarningText(words)),
+            Some(Kind::Fatal) => self.fatal(at, &Message::FatalText(words)),
+        }
+    }
+
     /// Ends the compilation where a unit that begins at a place would pass a setting.
     pub fn full(
         &mut self,
@@ -155,11 +183,34 @@ impl Messages {
         written(self.report.close(&mut self.lines))
     }
 
+    /// Writes the lines to a sink, each once; then there are none.
+    ///
+    /// The only error is that the sink failed: it took a front of them that is not all.
+    pub fn flush<M: Sink>(&mut self, to: &mut M) -> Result<(), ReportFault>
+        ensures writes { Writes (M.taken to.old) (M.taken to.new) (M.failures to.old) (M.failures to.new) self.old.lines result }
+        ensures none { OnOk result (self.new ≡ flushed self.old) }
+        ensures err { OnErr result (self.new ≡ self.old) }
+    {
+        write_lines(to, self.lines.bytes())?;
+        self.lines.clear();
+        Ok(())
+    }
+
     /// The lines, which it gives away.
     pub fn into_lines(self) -> Vec<u8>
         ensures { result.items ≡ self.lines }
     {
         self.lines.into_bytes()
+    }
+}
+
+/// Writes all of some lines.
+fn write_lines<M: Sink>(to: &mut M, lines: &[u8]) -> Result<(), ReportFault>
+    ensures { Writes (M.taken to.old) (M.taken to.new) (M.failures to.old) (M.failures to.new) lines.now result }
+{
+    match write_whole(to, lines) {
+        Ok(()) => Ok(()),
+        Err(_count) => Err(ReportFault::Write),
     }
 }
 

@@ -1,5 +1,5 @@
 //! What the actions of the grammar do: they gather the parts of a unit, which acts at its end.
-ghost use Rattle.std.specs.Prelude.{◌≡◌, IfOk, OnOk, map, option_map};
+ghost use Rattle.std.specs.Prelude.{◌≡◌, [], IfOk, OnOk, None, map, option_map};
 ghost use Rattle.inf_symbol.specs.Spellings.{as_name};
 ghost use Rattle.inf_symbol.specs.LocalList.{headed as as_headed, listed, repeated as repeated_of};
 ghost use Rattle.inf_symbol.specs.Locals.{no_locals, with_all_named, with_locals};
@@ -8,9 +8,10 @@ ghost use Rattle.inf_opcode.specs.Instructions.{IsProper, bare, instruction_cell
 ghost use Rattle.inf_names.specs.Symbols.{declare_fault};
 ghost use Rattle.inf_unit.specs.Actions.{with_all_unused};
 ghost use Rattle.inf_unit.specs.Blames.{blamed};
-ghost use Rattle.inf_unit.specs.Messages.{setting_of, with_full};
+ghost use Rattle.inf_unit.specs.Messages.{location, setting_of, with_full, with_words};
 ghost use Rattle.inf_unit.specs.Units.{again, header_fault, local_fault, name_fault, name_full, with_name};
 
+use crate::directives::{Asked, Directive, weight_of};
 use crate::instructions::{calling, returning};
 use crate::messages::{Blame, Messages, location, setting_of};
 use crate::names::no_symbols;
@@ -25,11 +26,13 @@ use inf_names::meanings::Meaning;
 use inf_names::symbols::{DeclareFault, Symbols};
 use inf_opcode::Opcode;
 use inf_report::messages::{Countable, Message};
+use inf_report::own_words::OwnWords;
 use inf_settings::setting::Setting;
 use inf_symbol::locals::{Headed, Locals, Repeated};
 use inf_symbol::spellings::Name;
-use inf_text::Text;
+use inf_text::{CharSet, Text};
 use std::alloc::{AllocError, Global};
+use std::mem;
 
 /// The parts of the unit at hand.
 #[derive(Drop)]
@@ -40,6 +43,8 @@ pub struct Gathered {
     named: Option<Name>,
     /// The characters of the last token, if it is a text.
     read: Option<Text>,
+    /// The bytes between the quotes of the last text, where it is one of a directive.
+    quoted: Vec<u8>,
 }
 
 impl Gathered {
@@ -55,6 +60,7 @@ impl Gathered {
             texts: Vec::new(alloc),
             named: None,
             read: None,
+            quoted: Vec::new(alloc),
         }
     }
 
@@ -66,6 +72,7 @@ impl Gathered {
         self.texts.clear();
         self.named = None;
         self.read = None;
+        self.quoted.clear();
     }
 
     /// The last token is an operand.
@@ -101,10 +108,13 @@ pub struct Work {
     pub names: Symbols<Place>,
     pub output: Output,
     pub report: Messages,
+    /// What the directive that was finished last asks of the reading.
+    asked: Asked,
 }
 
 impl Work {
-    ghost use Rattle.inf_unit.specs.Actions.{no_work, header, header_with, close, statement_end, call, return_of, with_instruction, checked, printed, act, acted};
+    ghost use Rattle.inf_unit.specs.Actions.{no_work, directive_end, words_of, header, header_with, close, statement_end, call, return_of, with_instruction, checked, printed, act, acted};
+    ghost use Rattle.inf_unit.specs.Directives.{Nothing, Include, asked, weight_of};
     ghost use Rattle.inf_unit.specs.Works.{gathered, unit, work};
 
     /// Before the first unit. It takes no memory until something is read.
@@ -118,6 +128,7 @@ impl Work {
             names: no_symbols(alloc),
             output: Output::new(alloc),
             report: Messages::new(alloc),
+            asked: Asked::Nothing,
         }
     }
 
@@ -128,6 +139,24 @@ impl Work {
     {
         self.gathered.named = named;
         self.gathered.read = text;
+    }
+
+    /// A text of a directive was taken, which has these bytes between its quotes.
+    pub fn gather_quoted(&mut self, bytes: &[u8]) -> Result<(), AllocError>
+        ensures { let before = work self.old in OnOk result (work self.new
+            ≡ record before { gathered = record before.gathered { named = None; read = None; quoted = bytes.now } }) }
+    {
+        self.gather(None, None);
+        self.gathered.quoted.clear();
+        self.gathered.quoted.extend_from_slice(bytes)
+    }
+
+    /// Takes away what a directive asks of the reading, which is then nothing.
+    pub fn take_asked(&mut self) -> Asked
+        ensures asked { asked result ≡ (work self.old).asked }
+        ensures nothing { work self.new ≡ record (work self.old) { asked = Nothing } }
+    {
+        mem::replace(&mut self.asked, Asked::Nothing)
     }
 
     /// Carries out some actions, before a token at a place.
@@ -165,6 +194,11 @@ impl Work {
             Action::Name => self.gathered.add_operand(),
             Action::PrintText => self.gathered.add_text(),
             Action::EndLocals => self.header(files, at_hand.head, at_hand.names.as_slice()),
+            Action::EndDirective => self.end_directive(
+                files,
+                at_hand.head,
+                at_hand.names.as_slice(),
+            ),
             Action::EndStatement => self.end_statement(files, at_hand.head),
             Action::EndRoutine => self.close(files, place),
             _ => Ok(()),
@@ -239,6 +273,52 @@ impl Work {
             Statement::ReturnFalse => self.emit_bare(files, unit, Opcode::Rfalse),
             Statement::Call => self.call(files, unit),
         }
+    }
+
+    /// A directive ends that began so, with these names.
+    fn end_directive(
+        &mut self,
+        files: &Stack,
+        head: Option<Head>,
+        names: &[Name],
+    ) -> Result<(), AllocError>
+        ensures { OnOk result (work self.new
+            ≡ directive_end files.now.names head (map as_name names.now) (work self.old)) }
+    {
+        let Some(Head::Directive(directive, unit)) = head else {
+            return Ok(());
+        };
+        match directive {
+            Directive::Include => self.asked = self.inclusion(unit),
+            Directive::Message => return self.message(files, unit, names),
+            Directive::End => self.asked = Asked::End,
+            Directive::SystemFile => self.asked = Asked::SystemFile,
+        }
+        Ok(())
+    }
+
+    /// That the file is read whose name is the text of the unit, which is given away.
+    fn inclusion(&mut self, unit: Place) -> Asked
+        ensures asked { asked result ≡ Include (gathered self.old.gathered).quoted unit }
+        ensures work { let before = work self.old in
+            work self.new ≡ record before { gathered = record before.gathered { quoted = [] } } }
+    {
+        let text = mem::replace(&mut self.gathered.quoted, Vec::new(self.alloc));
+        Asked::Include { text, unit }
+    }
+
+    /// Tells the text of the unit, by the weight that its names say.
+    fn message(&mut self, files: &Stack, unit: Place, names: &[Name]) -> Result<(), AllocError>
+        ensures { let before = work self.old in OnOk result (work self.new ≡ record before {
+          report = with_words (location files.now.names unit) (weight_of (map as_name names.now)) (words_of before.gathered) before.report;
+        }) }
+    {
+        let words = OwnWords {
+            bytes: self.gathered.quoted.as_slice(),
+            set: CharSet::Latin1,
+        };
+        self.report
+            .words(location(files, unit), weight_of(names), words)
     }
 
     /// Ends the compilation where a unit that begins at a place would pass a setting of the code.

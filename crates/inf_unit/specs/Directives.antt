@@ -1,0 +1,45 @@
+-- The directives that are one unit, and what they ask of the reading.
+use Rattle.std.specs.Prelude.{ℕ, List, [], ◌∷◌, codes, if◌then◌else◌, Option, Some, None}
+use Rattle.std.specs.Str.{str_eq_ignore_ascii_case}
+use Rattle.inf_scanner.specs.declared.tokens.Place.{Place}
+use Rattle.inf_report.specs.declared.messages.Kind.{Kind}
+use Rattle.inf_report.specs.declared.messages.Kind.TheVariants as weight
+use Rattle.inf_symbol.specs.Spellings.{Name}
+use Rattle.inf_unit.specs.Tokens.{Spelled, is_word}
+use Rattle.inf_unit.specs.declared.directives.Directive.{Directive}
+use Rattle.inf_unit.specs.declared.directives.Directive.TheVariants as directive
+use Rattle.inf_unit.specs.declared.directives.Asked.{Asked as CodeAsked}
+use Rattle.inf_unit.specs.declared.directives.Asked.TheVariants as code
+
+-- What a finished directive asks of the reading: that the file of a name is read, for a directive that begins at a place; that
+-- reading ends; that the routines of the file at hand may be replaced.
+pub data Asked : Type 0 where
+  Nothing : Asked
+  Include : (text : List ℕ) (unit : Place) → Asked
+  End : Asked
+  SystemFile : Asked
+
+-- what the code's words stand for
+abbrev pub asked : CodeAsked → Asked
+asked code.Nothing = Nothing
+asked (code.Include text unit) = Include text.items unit
+asked code.End = End
+asked code.SystemFile = SystemFile
+
+-- what a directive is that begins with this token
+abbrev pub directive_of : Spelled → Directive
+directive_of t =
+    if is_word (codes "include") t then directive.Include else
+    if is_word (codes "message") t then directive.Message else
+    if is_word (codes "end") t then directive.End else directive.SystemFile
+
+-- the weight of a message, by the word behind `Message`
+abbrev pub weight_of_word : List ℕ → Kind
+weight_of_word word =
+    if str_eq_ignore_ascii_case word (codes "error") then weight.Error else
+    if str_eq_ignore_ascii_case word (codes "warning") then weight.Warning else weight.Fatal
+
+-- without one the message has none
+abbrev pub weight_of : List Name → Option Kind
+weight_of [] = None
+weight_of (n ∷ names) = Some (weight_of_word n.bytes)

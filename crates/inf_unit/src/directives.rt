@@ -1,0 +1,67 @@
+//! The directives that are one unit, and what they ask of the reading.
+ghost use Rattle.std.specs.Prelude.{◌≡◌, map};
+ghost use Rattle.inf_symbol.specs.Spellings.{as_name};
+ghost use Rattle.inf_unit.specs.Directives.{directive_of, weight_of, weight_of_word};
+ghost use Rattle.inf_unit.specs.Tokens.{spelled};
+
+use crate::tokens::{Spelled, is_word};
+use inf_report::messages::Kind;
+use inf_scanner::Place;
+use inf_symbol::spellings::Name;
+
+/// What a directive is, told by its word.
+#[derive(Clone, Copy, Debug, PartialEq, Eq)]
+pub enum Directive {
+    Include,
+    Message,
+    End,
+    SystemFile,
+}
+
+/// What a finished directive asks of the reading.
+#[derive(Debug, Drop)]
+pub enum Asked {
+    Nothing,
+    /// That a file is read, whose name stands in this text, for the directive that begins at this place.
+    Include { text: Vec<u8>, unit: Place },
+    /// That reading ends.
+    End,
+    /// That routines of the file at hand may be replaced.
+    SystemFile,
+}
+
+/// What a directive is that begins with a token.
+pub(crate) fn directive_of(token: &Spelled<'_>) -> Directive
+    ensures { result ≡ directive_of (spelled token.now) }
+{
+    if is_word(token, b"include") {
+        Directive::Include
+    } else if is_word(token, b"message") {
+        Directive::Message
+    } else if is_word(token, b"end") {
+        Directive::End
+    } else {
+        Directive::SystemFile
+    }
+}
+
+/// The weight of a message in the source's own words, by the names behind the directive's word:
+/// without one it is a plain line.
+pub(crate) fn weight_of(names: &[Name]) -> Option<Kind>
+    ensures { result ≡ weight_of (map as_name names.now) }
+{
+    let name = names.first()?;
+    Some(weight_of_word(name.bytes()))
+}
+
+fn weight_of_word(word: &[u8]) -> Kind
+    ensures { result ≡ weight_of_word word.now }
+{
+    if word.eq_ignore_ascii_case(b"error") {
+        Kind::Error
+    } else if word.eq_ignore_ascii_case(b"warning") {
+        Kind::Warning
+    } else {
+        Kind::Fatal
+    }
+}
