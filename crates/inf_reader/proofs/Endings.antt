@@ -1,13 +1,19 @@
--- An ending with an error has no story.
-use Rattle.std.proofs.Common.{◌≡◌, ℕ, List, [], ◌∷◌, Option, Some, None, refl}
-use Rattle.inf_layout.specs.Story.{is_too_long}
+-- What the ends of compilations come to: one with an error has no story.
+use Rattle.std.proofs.Common.{◌≡◌, ℕ, List, [], ◌∷◌, true, Option, Some, None, refl}
+use Rattle.inf_report.specs.Messages.{StoryTooLong}
+use Rattle.inf_layout.specs.Story.{is_too_long, most_bytes}
 use Rattle.inf_unit.specs.Actions.{Work}
 use Rattle.inf_unit.proofs.Cases.{of_both}
-use Rattle.inf_unit.specs.Messages.{FileNames, Reported}
+use Rattle.inf_unit.specs.Messages.{FileNames, Reported, with_fatal}
 use Rattle.inf_unit.specs.Names.{main_of, places, with_all_undeclared}
-use Rattle.inf_reader.specs.Outcome.{Ending, begun, is_clean, laid, outcome, refused}
+use Rattle.inf_reader.specs.Outcome.{Ending, begun, first_line, is_clean, laid, outcome, refused}
 use Rattle.inf_reader.specs.Reading.{compiled}
 use Rattle.inf_reader.specs.declared.outcome.Status.TheVariants as status
+
+-- a story that is too long is told
+pub laid_too_long : (serial : List ℕ) (files : FileNames) (main : ℕ) (w : Work) (r : Reported) → is_too_long main (places w.names.names) w.output.code.finished ≡ true
+    → laid serial files main w r ≡ refused (with_fatal (first_line files) (StoryTooLong most_bytes) r)
+laid_too_long serial files main w r long = rw long refl
 
 abbrev HasNone : Ending → Type 0
 HasNone e = e.status ≡ status.Errors → e.story ≡ None

@@ -1,7 +1,6 @@
 -- What is heard of a source, turn by turn.
 use Rattle.std.proofs.Common.{◌≡◌, ◌⊎◌, inl, inr, ℕ, ◌+◌, List, [], ◌∷◌, ◌++◌, length, ◌&&◌, ◌||◌, Bool, true, false, IsTrue, IsSome, refl, sym, ap, subst, ◌∙◌, arith, append_assoc, length-append}
 use Rattle.inf_characters.specs.declared.characters.CharSet.{CharSet}
-use Rattle.inf_characters.specs.declared.characters.CharSet.TheVariants as charset
 use Rattle.inf_scanner.specs.TokenLaws.{is_run}
 use Rattle.inf_scanner.specs.Tokens.{Read, next_token as scanned}
 use Rattle.inf_scanner.specs.declared.tokens.Place.{Place}
@@ -23,18 +22,18 @@ use Rattle.inf_unit.specs.Statements.{name_of_kind}
 use Rattle.inf_unit.specs.Tokens.{Spelled, is_end, is_mark}
 use Rattle.inf_unit.proofs.Cases.{of_both}
 use Rattle.inf_unit.specs.Messages.{FileNames}
-use Rattle.inf_reader.specs.Cursors.{most_quoted, read_token}
+use Rattle.inf_reader.specs.Cursors.{read_token}
 use Rattle.inf_reader.specs.Selection.{begins_piece, has_come}
 use Rattle.inf_reader.specs.Tests.{atom_of}
 use Rattle.inf_reader.specs.Reading.{Reading, Stand, State, bad, has_ended_at, is_mode_ended, judged, passed, passed_mark, piece_begun, read_at, run, skip_of, step, step_in, took, turn, turns_of}
-use Rattle.inf_reader.specs.Sessions.{IsReady, Moves, Stops, state_at}
+use Rattle.inf_reader.specs.Sessions.{Moves, Stops, state_at}
 use Rattle.inf_reader.specs.declared.mode.Mode.{Mode}
 use Rattle.inf_reader.specs.declared.mode.Mode.TheVariants as mode
 use Rattle.inf_reader.proofs.Turns.{LeadsTo, end_at, ended, leads_here, leads_on}
 
--- what a token does to what was read
-abbrev pub state_behind : FileNames → ℕ → Stand → Read → State
-state_behind files file p r = let t = read_token file r in record {
+-- what a token of a lexer's file does to what was read
+abbrev pub state_behind : FileNames → Lexing → Stand → Read → State
+state_behind files lexer p r = let t = read_token (state_at lexer p []).cursor r in record {
   cursor = t.1;
   reading = (step files t.0 p.reading p.work).reading;
   work = (step files t.0 p.reading p.work).work;
@@ -44,28 +43,30 @@ state_behind files file p r = let t = read_token file r in record {
 abbrev pub spelled_of : Token → Lexing → Spelled
 spelled_of token lexer = record { kind = token.kind; bytes = lexer.kept.bytes; place = token.place }
 
--- where that leads in a file of this number, by a token of a file of that number
-abbrev pub stood : FileNames → Stand → Token → Lexing → ℕ → ℕ → List ℕ → State
-stood files p token after at of rest =
+-- where that leads in a file of this number, character set and limit, by a token of a file of that number
+abbrev pub stood : FileNames → Stand → Token → Lexing → CharSet → ℕ → ℕ → ℕ → List ℕ → State
+stood files p token after set limit at of rest =
     let t : Spelled = record { kind = token.kind; bytes = after.kept.bytes; place = record { file = of; line = token.place.line } } in
     record {
-      cursor = record { rest = rest; lines = after.lines; file = at };
+      cursor = record { rest = rest; lines = after.lines; file = at; set = set; limit = limit };
       reading = (step files t p.reading p.work).reading;
       work = (step files t p.reading p.work).work;
     }
 
 -- A token that is heard makes a turn.
-pub heard_turn : (h : Bool) (s : Sources) (old new : Openings) (files : FileNames) (token : Token) (before after : Lexing) (p q : Stand) → IsReady before
+pub heard_turn : (h : Bool) (s : Sources) (old new : Openings) (files : FileNames) (token : Token) (before after : Lexing) (p q : Stand)
     → Heard Read h s old new before.window after.window (read_out token after) (scanned before.set before.limit before.lines)
-    → q ≡ step files (spelled_of token after) p.reading p.work → token.place.file ≡ before.file → after.file ≡ before.file
+    → q ≡ step files (spelled_of token after) p.reading p.work → token.place.file ≡ before.file
+    → (after.set ≡ before.set) × (after.limit ≡ before.limit) × (after.file ≡ before.file)
     → Heard State h s old new before.window after.window (state_at after q) (λ rest. turn files (state_at before p rest))
-heard_turn h s old new files token before after p q ready heard taken of_file same =
-    let Of : CharSet → ℕ → Type 0 = λ set limit. Heard Read h s old new before.window after.window (read_out token after) (scanned set limit before.lines) in
-    let ours : Of charset.Latin1 most_quoted =
-    subst (λ (limit : ℕ). Of charset.Latin1 limit) ready.limit (subst (λ (set : CharSet). Of set before.limit) ready.set heard) in
-    let made = heard_as Read State (state_behind files before.file p) h s old new before.window after.window (read_out token after) (scanned charset.Latin1 most_quoted before.lines) ours in
-    let At : ℕ → ℕ → Type 0 = λ at of. Heard State h s old new before.window after.window (λ rest. stood files p token after at of rest) (λ rest. turn files (state_at before p rest)) in
-    let moved : At after.file token.place.file = subst (At after.file) (sym of_file) (subst (λ (at : ℕ). At at before.file) (sym same) made) in
+heard_turn h s old new files token before after p q heard taken of_file same =
+    let made = heard_as Read State (state_behind files before p) h s old new before.window after.window (read_out token after) (scanned before.set before.limit before.lines) heard in
+    let At : CharSet → ℕ → ℕ → ℕ → Type 0 = λ set limit at of.
+    Heard State h s old new before.window after.window (λ rest. stood files p token after set limit at of rest) (λ rest. turn files (state_at before p rest)) in
+    let set_moved : At after.set before.limit before.file before.file = subst (λ (set : CharSet). At set before.limit before.file before.file) (sym same.0) made in
+    let limit_moved : At after.set after.limit before.file before.file = subst (λ (limit : ℕ). At after.set limit before.file before.file) (sym same.1) set_moved in
+    let file_moved : At after.set after.limit after.file before.file = subst (λ (at : ℕ). At after.set after.limit at before.file) (sym same.2) limit_moved in
+    let moved : At after.set after.limit after.file token.place.file = subst (At after.set after.limit after.file) (sym of_file) file_moved in
     subst (λ (x : Stand). Heard State h s old new before.window after.window (state_at after x) (λ rest. turn files (state_at before p rest))) (sym taken) moved
 
 -- a name has few bytes

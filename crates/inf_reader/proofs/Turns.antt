@@ -1,7 +1,6 @@
 -- Reading ends: each turn ends it or leaves less of the source, so enough turns read the whole.
 use Rattle.std.proofs.Common.{◌≡◌, ◌⊎◌, inl, inr, ℕ, suc, zero, ◌<◌, ◌≤◌, List, [], ◌∷◌, length, cond, ◌||◌, ◌&&◌, Bool, true, false, refl, sym, ap, ◌∙◌, arith}
 use Rattle.std.proofs.Math.Bool.{or-true, and-false}
-use Rattle.inf_characters.specs.declared.characters.CharSet.TheVariants as set
 use Rattle.inf_scanner.specs.declared.tokens.Place.{Place}
 use Rattle.inf_scanner.specs.declared.tokens.TokenKind.{TokenKind}
 use Rattle.inf_scanner.specs.declared.tokens.TokenKind.TheVariants as kind
@@ -14,7 +13,7 @@ use Rattle.inf_grammar.specs.declared.actions.Action.{Action}
 use Rattle.inf_machine.specs.declared.symbols.Symbol.{Symbol}
 use Rattle.inf_unit.specs.Actions.{Work}
 use Rattle.inf_unit.specs.Messages.{FileNames}
-use Rattle.inf_reader.specs.Cursors.{Cursor, most_quoted, next_token, read_token}
+use Rattle.inf_reader.specs.Cursors.{Cursor, next_token, read_token}
 use Rattle.inf_reader.specs.Selection.{has_come}
 use Rattle.inf_reader.specs.Reading.{Reading, State, Stand, bad, took, judged, read_at, step_in, step, taken_at, is_mode_ended, has_ended, turn, run}
 use Rattle.inf_reader.specs.declared.mode.Mode.{Mode}
@@ -25,8 +24,8 @@ use Rattle.inf_reader.proofs.Misfits.{end_fits_nothing}
 abbrev pub Moves : ℕ → Spelled × Cursor → Type 0
 Moves n t = (is_end t.0.kind ≡ true) ⊎ (length t.1.rest < n)
 
-moves_of : (file : ℕ) (bytes : List ℕ) (r : Read) → Takes bytes r → Moves (length bytes) (read_token file r)
-moves_of file bytes r takes = elim takes.one [
+moves_of : (c : Cursor) (r : Read) → Takes c.rest r → Moves (length c.rest) (read_token c r)
+moves_of c r takes = elim takes.one [
   | inl e ↦ inl (ap is_end e)
   | inr less ↦ inr less
 ]
@@ -36,7 +35,7 @@ moves_less m n t le (inl e) = inl e
 moves_less m n t le (inr h) = inr (omega arith)
 
 pub next_moves : (c : Cursor) → Moves (length c.rest) (next_token c)
-next_moves c = moves_of c.file c.rest (scanned set.Latin1 most_quoted c.lines c.rest) (tokens_take_bytes set.Latin1 most_quoted c.lines c.rest)
+next_moves c = moves_of c (scanned c.set c.limit c.lines c.rest) (tokens_take_bytes c.set c.limit c.lines c.rest)
 
 -- the token behind another
 pub next_moves_on : (n : ℕ) (c : Cursor) → length c.rest < n → Moves n (next_token c)

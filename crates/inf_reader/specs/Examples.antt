@@ -38,8 +38,8 @@ NameIsDeclaredTwice =
 -- lines that end with CR, LF, CR LF and CR
 abbrev pub LinesEndInThreeWays : Type 0
 LinesEndInThreeWays =
-    Refuses (Some (13 ∷ 10 ∷ 10 ∷ 13 ∷ codes ";"))
-    (codes "t.inf(4): Error: Syntax error at \";\"\nt.inf(1): Error: No routine \"Main\"\nErrors: 2, warnings: 0 (no output)\n")
+    Refuses (Some (13 ∷ 10 ∷ 10 ∷ 13 ∷ codes ")"))
+    (codes "t.inf(4): Error: Syntax error at \")\"\nt.inf(1): Error: No routine \"Main\"\nErrors: 2, warnings: 0 (no output)\n")
 
 abbrev pub hello : List ℕ
 hello = codes "[ Main; print \"hello\"; ];"

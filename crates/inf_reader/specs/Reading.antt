@@ -2,10 +2,12 @@
 -- A token that fits is taken, and the actions on the way to it act. One that does not is the bad token of its piece; it is told,
 -- and tokens are passed over to where the piece ends. The unit that it cuts gives nothing.
 -- Designer's Manual, fourth edition, sections 1.3, 1.4 and 1.7.
-use Rattle.std.specs.Prelude.{ℕ, List, [], ◌∷◌, length, Bool, true, false, ◌||◌, ◌&&◌, if◌then◌else◌, zero, suc}
+use Rattle.std.specs.Prelude.{ℕ, List, [], ◌∷◌, length, Bool, true, false, ◌||◌, ◌&&◌, if◌then◌else◌, zero, suc, Option, Some, None}
+use Rattle.inf_characters.specs.declared.characters.CharSet.TheVariants as set
 use Rattle.inf_scanner.specs.Lines.{first_line}
 use Rattle.inf_scanner.specs.declared.tokens.Mark.TheVariants as mark
 use Rattle.inf_scanner.specs.declared.tokens.TokenKind.{TokenKind}
+use Rattle.inf_scanner.specs.declared.tokens.TokenKind.TheVariants as kind
 use Rattle.inf_report.specs.Messages.{Location, Message, kind_of}
 use Rattle.inf_report.specs.declared.messages.Kind.{Kind}
 use Rattle.inf_report.specs.declared.messages.Kind.TheVariants as weight
@@ -18,8 +20,10 @@ use Rattle.inf_machine.specs.Machine.{fits, taken}
 use Rattle.inf_grammar.specs.Routines.{is_in_routine}
 use Rattle.inf_grammar.specs.Language.{grammar, known}
 use Rattle.inf_unit.specs.Statements.{Unit, name_of, no_unit, unit_behind}
+use Rattle.inf_unit.specs.declared.unit.Head.{Head}
+use Rattle.inf_unit.specs.declared.unit.Head.TheVariants as head
 use Rattle.inf_unit.specs.Actions.{Gathered, Work, no_work, acted}
-use Rattle.inf_reader.specs.Cursors.{Cursor, next_token}
+use Rattle.inf_reader.specs.Cursors.{Cursor, most_quoted, next_token}
 use Rattle.inf_reader.specs.Tests.{atom_of, complaint_of, read_of}
 use Rattle.inf_reader.specs.Selection.{begins_piece, has_come}
 use Rattle.inf_reader.specs.declared.mode.Mode.{Mode}
@@ -50,10 +54,10 @@ pub record Stand : Type 0 where
 abbrev pub begun_stand : Stand
 begun_stand = record { reading = between mode.Reads; work = no_work }
 
--- before the first turn all of the source is still to come
+-- before the first turn all of the source is still to come; its character set is ISO Latin-1
 abbrev pub start : List ℕ → State
 start source = record {
-  cursor = record { rest = source; lines = first_line; file = 0 };
+  cursor = record { rest = source; lines = first_line; file = 0; set = set.Latin1; limit = most_quoted };
   reading = between mode.Reads;
   work = no_work;
 }
@@ -102,9 +106,16 @@ bad files t r w = record {
   work = record w { report = with_complaint (location files t.place) (complaint_of t) w.report };
 }
 
--- what is gathered behind a token that was taken
-abbrev pub gathering : Spelled → Gathered → Gathered
-gathering t g = record g { named = name_of t; read = read_of t }
+-- whether a token is a text of a directive, of which the bytes are kept and not the characters
+abbrev pub is_quoted : Option Head → TokenKind → Bool
+is_quoted (Some (head.Directive d place)) kind.Text = true
+is_quoted _ _ = false
+
+-- what is gathered behind a token that was taken, of a unit that begins so
+abbrev pub gathering : Option Head → Spelled → Gathered → Gathered
+gathering h t g =
+    if is_quoted h t.kind then record g { named = None; read = None; quoted = t.bytes }
+    else record g { named = name_of t; read = read_of t }
 
 -- A token that fits is taken: first the actions on the way to it act.
 abbrev pub took : FileNames → Spelled → Reading → Work → Stand
@@ -113,7 +124,7 @@ took files t r w =
     let acted_on = acted files r.unit t.place n.actions w in
     record {
       reading = record { mode = r.mode; stack = n.left; unit = unit_behind t r.unit };
-      work = record acted_on { gathered = gathering t acted_on.gathered };
+      work = record acted_on { gathered = gathering r.unit.head t acted_on.gathered };
     }
 
 -- a token of a piece, if it may go on with it as far as what has come goes, is taken where it fits; else it is the bad one

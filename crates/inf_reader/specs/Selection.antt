@@ -1,5 +1,6 @@
 -- What of the grammar of the whole language this compiler reads so far.
--- The grammar has more than there are effects for. A piece of source has come if it is a routine, and a statement if it is one of these:
+-- The grammar has more than there are effects for. A piece of source has come if it is a semicolon, a routine or a directive whose word
+-- has come, and a statement if it is one of these:
 --     ";" | "print" Text {"," Text} ";" | ("new_line" | "quit" | "rtrue" | "rfalse") ";" | "return" [Name] ";"
 --     | Name "(" [Name {"," Name}] ")" ";"
 -- A token that would lead to anything else is bad. So the words of all statements are keywords where a statement begins.
@@ -55,10 +56,31 @@ goes_on statement.Return u t = is_operand t || is_mark mark.Semicolon t.kind
 goes_on statement.Call u t = goes_on_call u t
 goes_on _ u t = is_mark mark.Semicolon t.kind
 
--- whether a token may go on with a unit that begins so, as far as what has come goes; in a header all may
+-- the words of the directives that have come
+abbrev pub directive_words : List (List ℕ)
+directive_words = codes "include" ∷ codes "message" ∷ codes "end" ∷ codes "system_file" ∷ []
+
+abbrev pub is_directive_word : List ℕ → Bool
+is_directive_word bytes = list_any (λ word. str_eq_ignore_ascii_case bytes word) directive_words
+
+-- whether a token may stand at the front of a piece: a semicolon alone, a routine's bracket, a directive's word, or a `#` before these
+abbrev pub begins_piece_by : TokenKind → List ℕ → Bool
+begins_piece_by kind.Name bytes = is_directive_word bytes
+begins_piece_by k bytes = is_mark mark.OpenBracket k || is_mark mark.Semicolon k || is_mark mark.Hash k
+
+abbrev pub begins_piece : Spelled → Bool
+begins_piece t = begins_piece_by t.kind t.bytes
+
+-- Whether a token may begin a unit, as far as what has come goes. Behind a `#` the unit is still at the front of its piece; which
+-- tokens fit there says the grammar.
+abbrev pub begins_unit : Unit → Spelled → Bool
+begins_unit u t = if u.is_outer then begins_piece t else begins_statement t.kind t.bytes
+
+-- whether a token may go on with a unit that begins so, as far as what has come goes; in a header and a directive all may
 abbrev pub has_come_behind : Option Head → Unit → Spelled → Bool
-has_come_behind None u t = begins_statement t.kind t.bytes
+has_come_behind None u t = begins_unit u t
 has_come_behind (Some (head.Header place)) u t = true
+has_come_behind (Some (head.Directive d place)) u t = true
 has_come_behind (Some (head.Statement s place)) u t = goes_on s u t
 
 abbrev pub has_come : Unit → Spelled → Bool
@@ -69,10 +91,7 @@ abbrev pub have_come : Unit → List Spelled → Bool
 have_come u [] = true
 have_come u (t ∷ tokens) = has_come u t && have_come (unit_behind t u) tokens
 
--- a piece that has come is a routine
-abbrev pub begins_piece : Spelled → Bool
-begins_piece t = is_mark mark.OpenBracket t.kind
-
+-- whether some tokens from the front of a piece on are of what has come
 abbrev pub is_piece_come : List Spelled → Bool
 is_piece_come [] = true
 is_piece_come (t ∷ tokens) = begins_piece t && have_come (unit_behind t no_unit) tokens

@@ -23,7 +23,7 @@ standing p = record { reading = reading p.reader; work = work p.work }
 -- what a lexer and what was read give, where these bytes are still to come
 abbrev pub state_at : Lexing → Stand → List ℕ → State
 state_at lexer p rest = record {
-  cursor = record { rest = rest; lines = lexer.lines; file = lexer.file };
+  cursor = record { rest = rest; lines = lexer.lines; file = lexer.file; set = lexer.set; limit = lexer.limit };
   reading = p.reading;
   work = p.work;
 }

@@ -3,7 +3,8 @@ ghost use Rattle.std.specs.Prelude.{◌≡◌, ◌≤◌, IsSome, OnOk, length};
 ghost use Rattle.inf_report.specs.Meant.{located};
 ghost use Rattle.inf_unit.specs.Statements.{name_of};
 ghost use Rattle.inf_unit.specs.Tokens.{spelled};
-ghost use Rattle.inf_reader.specs.Reading.{with_complaint};
+ghost use Rattle.inf_unit.specs.Works.{work as work_of};
+ghost use Rattle.inf_reader.specs.Reading.{gathering, with_complaint};
 ghost use Rattle.inf_reader.specs.Tests.{complaint_of};
 
 use crate::mode::{Mode, passed};
@@ -13,9 +14,10 @@ use crate::tokens::{atom_at, complaint_of, text_of};
 use inf_grammar::Action;
 use inf_lexer::Stack;
 use inf_report::messages::{Kind, Location};
+use inf_scanner::TokenKind;
 use inf_unit::messages::{Messages, location};
 use inf_unit::tokens::{Spelled, is_end};
-use inf_unit::unit::name_of;
+use inf_unit::unit::{Head, name_of};
 use inf_unit::work::Work;
 use std::alloc::{AllocError, Global};
 
@@ -103,10 +105,9 @@ impl Progress {
         if !(has_come && self.reader.read(atom_at(token), &mut self.actions)?) {
             return self.bad(files, token);
         }
-        let text = text_of(self.alloc, token)?;
         let (unit, actions) = (&self.reader.unit, self.actions.as_slice());
         self.work.act_all(files, unit, token.place, actions)?;
-        self.work.gather(name_of(token), text);
+        gather(self.alloc, unit.head, token, &mut self.work)?;
         self.reader.unit.add(token)
     }
 
@@ -118,6 +119,26 @@ impl Progress {
         self.reader.give_up(token);
         complain(&mut self.work.report, location(files, token.place), token)
     }
+}
+
+/// Gathers a token that was taken, of a unit that begins so: of a text its characters, but its bytes
+/// where it is one of a directive. A name has at most 32 bytes.
+fn gather(
+    alloc: Global,
+    head: Option<Head>,
+    token: &Spelled<'_>,
+    work: &mut Work,
+) -> Result<(), AllocError>
+    requires { IsSome (name_of (spelled token.now)) → length token.now.bytes.now ≤ 32 }
+    ensures { let before = work_of work.old in OnOk result (work_of work.new
+        ≡ record before { gathered = gathering head (spelled token.now) before.gathered }) }
+{
+    if let (Some(Head::Directive(..)), TokenKind::Text) = (head, token.kind) {
+        return work.gather_quoted(token.bytes);
+    }
+    let text = text_of(alloc, token)?;
+    work.gather(name_of(token), text);
+    Ok(())
 }
 
 /// Tells what is wrong with a token at a line: a text that is too long ends the compilation.

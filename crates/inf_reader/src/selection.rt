@@ -2,7 +2,7 @@
 ghost use Rattle.std.specs.Prelude.{◌≡◌};
 ghost use Rattle.std.specs.List.{list_any};
 ghost use Rattle.std.specs.Str.{str_eq_ignore_ascii_case};
-ghost use Rattle.inf_reader.specs.Selection.{is_later_word, begins_statement, goes_on, goes_on_print, goes_on_call, has_come, begins_piece};
+ghost use Rattle.inf_reader.specs.Selection.{is_directive_word, is_later_word, begins_statement, begins_unit, goes_on, goes_on_print, goes_on_call, has_come, begins_piece};
 ghost use Rattle.inf_unit.specs.Works.{unit};
 ghost use Rattle.inf_unit.specs.Tokens.{spelled};
 
@@ -32,11 +32,29 @@ const LATER_WORDS: [&str; 17] = [
     "objectloop",
 ];
 
-/// Whether a token begins a piece of a source that has come: a routine.
+/// The words of the directives that have come.
+const DIRECTIVE_WORDS: [&str; 4] = ["include", "message", "end", "system_file"];
+
+/// Whether a token begins a piece of a source that has come: it is a semicolon alone, the bracket of a
+/// routine, the word of a directive, or a `#` before these.
 pub fn begins_piece(token: &Spelled<'_>) -> bool
     ensures { result ≡ begins_piece (spelled token.now) }
 {
-    is_mark(token.kind, Mark::OpenBracket)
+    match token.kind {
+        TokenKind::Name => is_directive_word(token.bytes),
+        _ => {
+            is_mark(token.kind, Mark::OpenBracket)
+                || is_mark(token.kind, Mark::Semicolon)
+                || is_mark(token.kind, Mark::Hash)
+        }
+    }
+}
+
+/// Whether a name is the word of a directive that has come, in any case.
+fn is_directive_word(name: &[u8]) -> bool
+    ensures { result ≡ is_directive_word name.now }
+{
+    is_among(&DIRECTIVE_WORDS, name)
 }
 
 /// Whether a name is the word of a statement that has not come, in any case.
@@ -64,14 +82,26 @@ fn begins_statement(token: &Spelled<'_>) -> bool
     }
 }
 
+/// Whether a token may begin a unit, as far as what has come goes. Behind a `#` the unit is still at
+/// the front of its piece.
+fn begins_unit(at_hand: &Unit, token: &Spelled<'_>) -> bool
+    ensures { result ≡ begins_unit (unit at_hand.now) (spelled token.now) }
+{
+    if at_hand.is_outer {
+        begins_piece(token)
+    } else {
+        begins_statement(token)
+    }
+}
+
 /// Whether a token may go on with a unit, as far as what has come goes. Whether it fits the grammar
 /// there is another question.
 pub fn has_come(at_hand: &Unit, token: &Spelled<'_>) -> bool
     ensures { result ≡ has_come (unit at_hand.now) (spelled token.now) }
 {
     match at_hand.head {
-        None => begins_statement(token),
-        Some(Head::Header(_)) => true,
+        None => begins_unit(at_hand, token),
+        Some(Head::Header(_) | Head::Directive(..)) => true,
         Some(Head::Statement(statement, _)) => goes_on(statement, at_hand, token),
     }
 }

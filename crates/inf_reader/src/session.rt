@@ -8,7 +8,7 @@ ghost use Rattle.inf_unit.specs.Names.{places};
 ghost use Rattle.inf_layout.specs.Story.{story, is_too_long};
 ghost use Rattle.inf_unit.specs.Works.{work as work_of};
 ghost use Rattle.inf_reader.specs.Cursors.{most_quoted};
-ghost use Rattle.inf_reader.specs.Outcome.{finished, missing, refused};
+ghost use Rattle.inf_reader.specs.Outcome.{finished, laid, missing, refused};
 ghost use Rattle.inf_reader.specs.Reading.{State};
 ghost use Rattle.inf_reader.specs.Sessions.{HasRead, IsReady, IsTooMuch};
 ghost use Rattle.inf_reader.specs.Translations.{seen};
@@ -137,23 +137,38 @@ fn finish(
     alloc: Global,
     files: &Stack,
     serial: &[u8],
-    work: Work,
+    mut work: Work,
 ) -> Result<Translation, AllocError>
     ensures { IfOk result (λ t. seen t ≡ finished serial.now files.now.names (work_of work)) }
+{
+    tell_undeclared(&work.names, files, &mut work.report)?;
+    let Some(main) = main_of(&work.names) else {
+        let at = location(files, FIRST_LINE);
+        work.report.error(at, at, &Message::NoMain)?;
+        return refused(work.report);
+    };
+    if work.report.is_over() || work.report.errors() != 0 {
+        return refused(work.report);
+    }
+    laid(alloc, files, serial, main, work)
+}
+
+/// Ends the compilation of a source without an error, in which the routine at a place is called
+/// first. A story that would be too long is a fatal error.
+fn laid(
+    alloc: Global,
+    files: &Stack,
+    serial: &[u8],
+    main: usize,
+    work: Work,
+) -> Result<Translation, AllocError>
+    ensures { IfOk result (λ t. seen t ≡ laid serial.now files.now.names main (work_of work) work.report) }
 {
     let mut report = work.report;
     let names = work.names;
     let output = work.output;
-    let at = location(files, FIRST_LINE);
-    tell_undeclared(&names, files, &mut report)?;
-    let Some(main) = main_of(&names) else {
-        report.error(at, at, &Message::NoMain)?;
-        return refused(report);
-    };
-    if report.is_over() || report.errors() != 0 {
-        return refused(report);
-    }
     let Some(story) = story_of(alloc, serial, main, &names, output.code)? else {
+        let at = location(files, FIRST_LINE);
         report.fatal(at, &Message::StoryTooLong(MOST_BYTES as u32))?;
         return refused(report);
     };

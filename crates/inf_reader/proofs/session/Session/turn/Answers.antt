@@ -11,9 +11,9 @@ returns-clause-heard g c =
     let token = c.in_ok-token.token in
     heard_turn (files.is_honest c.args.files.now) (files.sources c.args.files.now) (files.openings c.args.files.now) (files.openings c.next.new.files)
     c.args.self.now.names.now.names token c.args.self.now.lexer c.next.new.self before (standing c.take.new.self)
-    c.requires.ready c.in_ok-token.ensures.heard
+    c.in_ok-token.ensures.heard
     (c.in_ok-take.ensures ∙ ap (λ (bytes : List ℕ). step c.args.self.now.names.now.names (record { kind = token.kind; bytes = bytes; place = token.place }) before.reading before.work) c.spelling.ensures)
-    c.in_ok-token.ensures.file c.next.ensures.same.2
+    c.in_ok-token.ensures.file c.next.ensures.same
 
 pub returns-clause-moves : goal.returns-clause-moves
 returns-clause-moves g c =
