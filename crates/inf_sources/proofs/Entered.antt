@@ -1,0 +1,1 @@
+-- What is open after a file was entered.

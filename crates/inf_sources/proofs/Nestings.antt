@@ -1,0 +1,121 @@
+-- What is open after a token was read, and after a file was left.
+use Rattle.std.proofs.Common.{◌≡◌, ℕ, suc, ◌-◌, List, [], ◌∷◌, ◌++◌, length, drop, reverse, get_or, sym, ap, subst, ◌∙◌, arith, length-append}
+use Rattle.std.specs.Prelude.{slice_get}
+use Rattle.std.proofs.lemmas.List.{drop-map}
+use Rattle.inf_scanner.specs.Tokens.{Read, next_token}
+use Rattle.inf_scanner.specs.declared.tokens.Token.{Token}
+use Rattle.inf_token.specs.Files.{Closes, Opening, Openings, Sources, opened}
+use Rattle.inf_lexer.specs.Names.{Nest, left}
+use Rattle.inf_lexer.specs.Readers.{Reader, read_out}
+use Rattle.inf_lexer.specs.Unread.{Gave, innermost_place, to_come}
+use Rattle.inf_sources.specs.Cursors.{Cursor, behind, read}
+use Rattle.inf_sources.specs.Inclusions.{Nesting, closed}
+use Rattle.inf_sources.specs.Open.{AreNested, IsNested, Open, Reads, cursor_of, cursors_at, nesting, rest_of}
+use Rattle.inf_sources.proofs.Places.{innermost_of, last_of, names_of, names_same, nested_as, nested_more, reverse_last, waiting_same}
+
+-- the same files are open
+pub nested_on : (start old new : Openings) (before after : Open) → IsNested start old before → new.open_places ≡ old.open_places
+    → length new.all ≡ length old.all → after.outer ≡ before.outer → IsNested start new after
+nested_on start old new before after n places count outer = record {
+  more = omega (arith, n.more, count);
+  nested = subst (λ (readers : List Reader). AreNested (length new.all) (reverse new.open_places) (after.lexer ∷ reverse readers)) (sym outer)
+      (subst (λ (ps : List ℕ). AreNested (length new.all) (reverse ps) (after.lexer ∷ reverse before.outer)) (sym places)
+      (subst (λ (bound : ℕ). AreNested bound (reverse old.open_places) (after.lexer ∷ reverse before.outer)) (sym count)
+      (nested_as (length old.all) (reverse old.open_places) before.lexer after.lexer (reverse before.outer) n.nested)));
+  others = ap (λ (readers : List Reader). drop (suc (length readers)) (reverse new.open_places)) outer
+      ∙ ap (λ (ps : List ℕ). drop (suc (length before.outer)) (reverse ps)) places ∙ n.others;
+}
+
+abbrev made : List (List ℕ) → List (List ℕ) → Cursor → List Cursor → Nesting
+made names openings cursor waiting = record { names = names; openings = openings; cursor = cursor; waiting = waiting }
+
+-- what the names of later openings are
+names_behind : (n : ℕ) (old new : List Opening) → names_of new ≡ names_of old → names_of (drop n new) ≡ names_of (drop n old)
+names_behind n old new e =
+    sym (drop-map (λ (o : Opening). o.name) n new) ∙ ap (λ names. drop n names) e ∙ drop-map (λ (o : Opening). o.name) n old
+
+abbrev cursor_by : Reader → List ℕ → Cursor
+cursor_by r rest = cursor_of r rest
+
+cursor_behind : (before after : Reader) (r : Read) (rest : List ℕ) → rest ≡ r.rest → after.lines ≡ r.lines → after.file ≡ before.file → after.set ≡ before.set
+    → after.limit ≡ before.limit → (was : List ℕ) → cursor_of after rest ≡ behind (cursor_of before was) r
+cursor_behind before after r rest on lines file set limit was =
+    ap (λ x. record { rest = x; lines = after.lines; file = after.file; set = after.set; limit = after.limit }) on
+    ∙ ap (λ x. record { rest = r.rest; lines = x; file = after.file; set = after.set; limit = after.limit }) lines
+    ∙ ap (λ x. record { rest = r.rest; lines = r.lines; file = x; set = after.set; limit = after.limit }) file
+    ∙ ap (λ x. record { rest = r.rest; lines = r.lines; file = before.file; set = x; limit = after.limit }) set
+    ∙ ap (λ x. record { rest = r.rest; lines = r.lines; file = before.file; set = before.set; limit = x }) limit
+
+-- a token was read of the innermost file
+pub reads_on : (s : Sources) (start old new : Openings) (before after : Open) (token : Token) (bytes : List ℕ) → IsNested start old before
+    → Gave s old new bytes → after.nest ≡ before.nest → after.outer ≡ before.outer
+    → read_out token after.lexer (to_come s new after.lexer.window) ≡ next_token before.lexer.set before.lexer.limit before.lexer.lines (to_come s old before.lexer.window)
+    → token.place.file ≡ before.lexer.file → (after.lexer.set ≡ before.lexer.set) × (after.lexer.limit ≡ before.lexer.limit) × (after.lexer.file ≡ before.lexer.file)
+    → Reads token after.lexer.kept.bytes (nesting s start old before) (nesting s start new after)
+reads_on s start old new before after token bytes n gave nest outer e file same =
+    let c = cursor_of before.lexer (to_come s old before.lexer.window) in
+    let r : Read = read c in
+    let at = innermost_of (length old.all) (reverse old.open_places) before.lexer (reverse before.outer) n.nested in
+    let place : innermost_place old ≡ at.place = last_of old.open_places at.place at.rest at.is in
+    let names : names_of new.all ≡ names_of old.all =
+    names_same old.all new.all (innermost_place old) gave.count gave.others
+    (ap (λ (i : ℕ). (get_or new.all i (opened [])).name) (ap (λ (ps : List ℕ). get_or ps (length ps - 1) 0) (sym gave.places)) ∙ gave.name) in
+    let cursor : cursor_of after.lexer (to_come s new after.lexer.window) ≡ behind c r =
+    cursor_behind before.lexer after.lexer r (to_come s new after.lexer.window) (ap (λ (x : Read). x.rest) e) (ap (λ (x : Read). x.lines) e) same.2 same.0 same.1
+    (to_come s old before.lexer.window) in
+    let waits : cursors_at s new.all (drop 1 (reverse new.open_places)) (reverse after.outer) ≡ cursors_at s old.all (drop 1 (reverse old.open_places)) (reverse before.outer) =
+    ap (λ (ps : List ℕ). cursors_at s new.all (drop 1 (reverse ps)) (reverse after.outer)) gave.places
+    ∙ ap (λ (readers : List Reader). cursors_at s new.all (drop 1 (reverse old.open_places)) (reverse readers)) outer
+    ∙ ap (λ (ps : List ℕ). cursors_at s new.all (drop 1 ps) (reverse before.outer)) at.is
+    ∙ waiting_same s old.all new.all at.place at.rest (reverse before.outer) at.inner (λ i less. gave.others i (λ is. omega (arith, less, is, place)))
+    ∙ sym (ap (λ (ps : List ℕ). cursors_at s old.all (drop 1 ps) (reverse before.outer)) at.is) in
+    record {
+      kind = ap (λ (x : Read). x.kind) e;
+      place = ap (λ (f : ℕ). record { file = f; line = token.place.line }) file
+          ∙ ap (λ (l : ℕ). record { file = before.lexer.file; line = l }) (ap (λ (x : Read). x.line) e);
+      bytes = ap (λ (x : Read). x.kept.bytes) e;
+      goes_on =
+          ap (λ (x : Nest). made x.names (names_of (drop (length start.all) new.all)) (cursor_of after.lexer (to_come s new after.lexer.window)) (cursors_at s new.all (drop 1 (reverse new.open_places)) (reverse after.outer))) nest
+          ∙ ap (λ x. made before.nest.names x (cursor_of after.lexer (to_come s new after.lexer.window)) (cursors_at s new.all (drop 1 (reverse new.open_places)) (reverse after.outer))) (names_behind (length start.all) old.all new.all names)
+          ∙ ap (λ x. made before.nest.names (names_of (drop (length start.all) old.all)) x (cursors_at s new.all (drop 1 (reverse new.open_places)) (reverse after.outer))) cursor
+          ∙ ap (λ x. made before.nest.names (names_of (drop (length start.all) old.all)) (behind c r) x) waits;
+    }
+
+-- The innermost file was left
+
+pub left_nested : (start old new : Openings) (before after : Open) → IsNested start old before → Closes old new
+    → before.outer ≡ after.outer ++ after.lexer ∷ [] → IsNested start new after
+left_nested start old new before after n closes outer =
+    let at = innermost_of (length old.all) (reverse old.open_places) before.lexer (reverse before.outer) n.nested in
+    let places : reverse old.open_places ≡ closes.place ∷ reverse new.open_places = ap reverse closes.innermost ∙ reverse_last new.open_places closes.place in
+    let readers : reverse before.outer ≡ after.lexer ∷ reverse after.outer = ap reverse outer ∙ reverse_last after.outer after.lexer in
+    let rest : at.rest ≡ reverse new.open_places = ap (λ (ps : List ℕ). drop 1 ps) (sym at.is ∙ places) in
+    let inner : AreNested at.place (reverse new.open_places) (after.lexer ∷ reverse after.outer) =
+    subst (λ (ps : List ℕ). AreNested at.place ps (after.lexer ∷ reverse after.outer)) rest (subst (λ (rs : List Reader). AreNested at.place at.rest rs) readers at.inner) in
+    let count : length new.all ≡ length old.all = ap length closes.same in
+    let size : length before.outer ≡ suc (length after.outer) = ap length outer ∙ omega (arith, length-append after.outer (after.lexer ∷ [])) in
+    record {
+      more = omega (arith, n.more, count);
+      nested = nested_more at.place (length new.all) (reverse new.open_places) (after.lexer ∷ reverse after.outer) (omega (arith, at.less, count)) inner;
+      others = sym (ap (λ (ps : List ℕ). drop (suc (suc (length after.outer))) ps) places)
+          ∙ ap (λ (k : ℕ). drop (suc k) (reverse old.open_places)) (sym size) ∙ n.others;
+    }
+
+pub left_nesting : (s : Sources) (start old new : Openings) (before after : Open) → IsNested start old before → Closes old new
+    → before.outer ≡ after.outer ++ after.lexer ∷ [] → after.nest ≡ left before.nest
+    → nesting s start new after ≡ closed (nesting s start old before)
+left_nesting s start old new before after n closes outer nest =
+    let at = innermost_of (length new.all) (reverse new.open_places) after.lexer (reverse after.outer) (left_nested start old new before after n closes outer).nested in
+    let places : reverse old.open_places ≡ closes.place ∷ reverse new.open_places = ap reverse closes.innermost ∙ reverse_last new.open_places closes.place in
+    let readers : reverse before.outer ≡ after.lexer ∷ reverse after.outer = ap reverse outer ∙ reverse_last after.outer after.lexer in
+    let place : innermost_place new ≡ at.place = last_of new.open_places at.place at.rest at.is in
+    let waits : cursors_at s old.all (drop 1 (reverse old.open_places)) (reverse before.outer)
+    ≡ cursor_of after.lexer (rest_of s (get_or old.all at.place (opened [])) after.lexer.window) ∷ cursors_at s old.all at.rest (reverse after.outer) =
+    ap (λ (ps : List ℕ). cursors_at s old.all (drop 1 ps) (reverse before.outer)) places
+    ∙ ap (λ (rs : List Reader). cursors_at s old.all (reverse new.open_places) rs) readers
+    ∙ ap (λ (ps : List ℕ). cursors_at s old.all ps (after.lexer ∷ reverse after.outer)) at.is in
+    ap (λ (x : Nest). made x.names (names_of (drop (length start.all) new.all)) (cursor_of after.lexer (to_come s new after.lexer.window)) (cursors_at s new.all (drop 1 (reverse new.open_places)) (reverse after.outer))) nest
+    ∙ ap (λ (i : ℕ). made before.nest.names (names_of (drop (length start.all) new.all)) (cursor_of after.lexer (rest_of s (get_or new.all i (opened [])) after.lexer.window)) (cursors_at s new.all (drop 1 (reverse new.open_places)) (reverse after.outer))) place
+    ∙ ap (λ (ps : List ℕ). made before.nest.names (names_of (drop (length start.all) new.all)) (cursor_of after.lexer (rest_of s (get_or new.all at.place (opened [])) after.lexer.window)) (cursors_at s new.all (drop 1 ps) (reverse after.outer))) at.is
+    ∙ ap (λ (all : List Opening). made before.nest.names (names_of (drop (length start.all) all)) (cursor_of after.lexer (rest_of s (get_or all at.place (opened [])) after.lexer.window)) (cursors_at s all at.rest (reverse after.outer))) closes.same
+    ∙ sym (ap (λ (waiting : List Cursor). closed (made before.nest.names (names_of (drop (length start.all) old.all)) (cursor_of before.lexer (to_come s old before.lexer.window)) waiting)) waits)

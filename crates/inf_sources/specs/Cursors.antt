@@ -1,0 +1,27 @@
+-- What is still to come of a file, and its next token.
+use Rattle.std.specs.Prelude.{ℕ, List}
+use Rattle.inf_characters.specs.declared.characters.CharSet.{CharSet}
+use Rattle.inf_scanner.specs.Lines.{first_line}
+use Rattle.inf_scanner.specs.Tokens.{Read, next_token}
+use Rattle.inf_scanner.specs.declared.lines.Lines.{Lines}
+
+-- The bytes that are still to come of a file, the line on which they begin, the file's number, its character set, and how many
+-- bytes a text or quote may have.
+pub record Cursor : Type 0 where
+  pub rest : List ℕ
+  pub lines : Lines
+  pub file : ℕ
+  pub set : CharSet
+  pub limit : ℕ
+
+-- the front of a file of this number, which has these bytes
+abbrev pub front : CharSet → ℕ → ℕ → List ℕ → Cursor
+front set limit file bytes = record { rest = bytes; lines = first_line; file = file; set = set; limit = limit }
+
+-- the next token
+abbrev pub read : Cursor → Read
+read c = next_token c.set c.limit c.lines c.rest
+
+-- what is still to come behind a token
+abbrev pub behind : Cursor → Read → Cursor
+behind c r = record c { rest = r.rest; lines = r.lines }

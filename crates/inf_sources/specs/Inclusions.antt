@@ -1,0 +1,82 @@
+-- Which file an inclusion opens, and what is open then (Designer's Manual, fourth edition, sections 38 and 39).
+use Rattle.std.specs.Prelude.{ℕ, ◌+◌, List, [], ◌∷◌, ◌++◌, length, nat_le, not, if◌then◌else◌, Option, Some, None, slice_get, unwrap_or}
+use Rattle.inf_characters.specs.declared.characters.CharSet.{CharSet}
+use Rattle.inf_token.specs.Files.{Sources}
+use Rattle.inf_lexer.specs.Entering.{first_there}
+use Rattle.inf_lexer.specs.Names.{can_name, candidates, number_of, with_name}
+use Rattle.inf_sources.specs.Cursors.{Cursor, front}
+use Rattle.inf_sources.specs.declared.open_files.Included.{Included}
+use Rattle.inf_sources.specs.declared.open_files.Included.TheVariants as included
+
+-- The files that are open: the names that were opened, each at its number; the names of all openings in their order; what is
+-- still to come of the innermost file; and of those that wait for it, the inner ones first.
+pub record Nesting : Type 0 where
+  pub names : List (List ℕ)
+  pub openings : List (List ℕ)
+  pub cursor : Cursor
+  pub waiting : List Cursor
+
+-- the front of the source of this name, which gets the next number, if the name is new
+abbrev pub front_of : CharSet → ℕ → Sources → List ℕ → List (List ℕ) → Cursor
+front_of set limit sources name names = front set limit (number_of name names) (unwrap_or (sources name) [])
+
+-- the main source alone
+abbrev pub main_opened : CharSet → ℕ → Sources → List ℕ → Nesting
+main_opened set limit sources name = record {
+  names = with_name name [];
+  openings = name ∷ [];
+  cursor = front_of set limit sources name [];
+  waiting = [];
+}
+
+-- one file more is open, the innermost
+abbrev pub with_opened : CharSet → ℕ → Sources → List ℕ → Nesting → Nesting
+with_opened set limit sources name n = record {
+  names = with_name name n.names;
+  openings = n.openings ++ name ∷ [];
+  cursor = front_of set limit sources name n.names;
+  waiting = n.cursor ∷ n.waiting;
+}
+
+-- the innermost file is closed, where another waits for it
+abbrev pub resumed : List Cursor → Nesting → Nesting
+resumed [] n = n
+resumed (c ∷ waiting) n = record n { cursor = c; waiting = waiting }
+
+abbrev pub closed : Nesting → Nesting
+closed n = resumed n.waiting n
+
+-- the name of the innermost file
+abbrev pub innermost_name : Nesting → List ℕ
+innermost_name n = unwrap_or (slice_get n.names n.cursor.file) []
+
+-- how many files may be open
+abbrev pub most_open : ℕ
+most_open = 16
+
+-- what an inclusion comes to: the file that it opens, or why it opens none
+pub data Inclusion : Type 0 where
+  Opens : (name : List ℕ) → Inclusion
+  OpensNone : (why : Included) → Inclusion
+
+-- the first of the names that it may mean is opened, if one is there
+abbrev pub by_first : Option (List ℕ) → Inclusion
+by_first None = OpensNone included.NotThere
+by_first (Some name) = Opens name
+
+-- by the text of the inclusion: one that can be no file's name is that of no file
+abbrev pub inclusion : Sources → List (List ℕ) → List ℕ → Nesting → Inclusion
+inclusion sources directories text n =
+    if not (can_name text) then OpensNone included.NotThere else
+    if nat_le most_open (length n.waiting + 1) then OpensNone included.TooDeep
+    else by_first (first_there sources (candidates directories (innermost_name n) text))
+
+-- what is open behind it
+abbrev pub nested_by : CharSet → ℕ → Sources → Inclusion → Nesting → Nesting
+nested_by set limit sources (Opens name) n = with_opened set limit sources name n
+nested_by set limit sources (OpensNone why) n = n
+
+-- what is answered of it
+abbrev pub answer_of : Inclusion → Included
+answer_of (Opens name) = included.Entered
+answer_of (OpensNone why) = why

@@ -1,0 +1,76 @@
+-- What the code's open files stand for, with a reader that keeps to its sources.
+use Rattle.std.specs.Prelude.{◌≡◌, ℕ, suc, ◌<◌, ◌≤◌, List, [], ◌∷◌, ◌++◌, length, map, drop, reverse, get_or, false, if◌then◌else◌}
+use Rattle.inf_characters.specs.declared.characters.CharSet.{CharSet}
+use Rattle.inf_scanner.specs.declared.tokens.Token.{Token}
+use Rattle.inf_token.specs.Files.{Opening, Openings, Sources, opened}
+use Rattle.inf_lexer.specs.Names.{Nest}
+use Rattle.inf_lexer.specs.Readers.{Reader}
+use Rattle.inf_lexer.specs.Unread.{to_come, unread_of, View}
+use Rattle.inf_sources.specs.Cursors.{Cursor, behind, read}
+use Rattle.inf_sources.specs.Inclusions.{Nesting}
+
+-- The names and numbers of the files, the lexer of the innermost, and those of the files that wait, the main one first.
+pub record Open : Type 0 where
+  pub nest : Nest
+  pub lexer : Reader
+  pub outer : List Reader
+
+-- the numbers of the files of some lexers
+abbrev pub files_of : List Reader → List ℕ
+files_of readers = map (λ (r : Reader). r.file) readers
+
+-- a lexer that waits has not refused, and has the set and the limit of all
+pub record Waits (set : CharSet) (limit : ℕ) (r : Reader) : Type 0 where
+  pub of_set : r.set ≡ set
+  pub of_limit : r.limit ≡ limit
+  pub goes : r.has_failed ≡ false
+
+abbrev pub AllWait : CharSet → ℕ → List Reader → Type 0
+AllWait set limit [] = Unit {0}
+AllWait set limit (r ∷ readers) = Waits set limit r × AllWait set limit readers
+
+-- what is still to come of a file that this lexer reads
+abbrev pub cursor_of : Reader → List ℕ → Cursor
+cursor_of r rest = record { rest = rest; lines = r.lines; file = r.file; set = r.set; limit = r.limit }
+
+-- what is still to come of the source of an opening, of which this is in view
+abbrev pub rest_of : Sources → Opening → View → List ℕ
+rest_of sources o view = view.left ++ (if view.is_over then [] else unread_of sources o)
+
+-- what is still to come of each of some files, by the places of their openings
+abbrev pub cursors_at : Sources → List Opening → List ℕ → List Reader → List Cursor
+cursors_at sources all (p ∷ places) (r ∷ readers) =
+    cursor_of r (rest_of sources (get_or all p (opened [])) r.window) ∷ cursors_at sources all places readers
+cursors_at sources all places readers = []
+
+-- The files that are open now, where these openings were before them. The innermost opening was opened last.
+abbrev pub nesting : Sources → Openings → Openings → Open → Nesting
+nesting sources start now files = record {
+  names = files.nest.names;
+  openings = map (λ (p : Opening). p.name) (drop (length start.all) now.all);
+  cursor = cursor_of files.lexer (to_come sources now files.lexer.window);
+  waiting = cursors_at sources now.all (drop 1 (reverse now.open_places)) (reverse files.outer);
+}
+
+-- each lexer has its opening, and each was opened behind those around it
+abbrev pub AreNested : ℕ → List ℕ → List Reader → Type 0
+AreNested bound places [] = Unit {0}
+AreNested bound [] (r ∷ readers) = ⊥
+AreNested bound (p ∷ places) (r ∷ readers) = (p < bound) × AreNested p places readers
+
+-- the open files were opened behind the others, one inside the other
+pub record IsNested (start now : Openings) (files : Open) : Type 0 where
+  pub more : length start.all ≤ length now.all
+  pub nested : AreNested (length now.all) (reverse now.open_places) (files.lexer ∷ reverse files.outer)
+  pub others : drop (suc (length files.outer)) (reverse now.open_places) ≡ reverse start.open_places
+
+-- A token was read of the innermost file, with this spelling.
+pub record Reads (token : Token) (spelling : List ℕ) (was now : Nesting) : Type 0 where
+  pub kind : token.kind ≡ (read was.cursor).kind
+  pub place : token.place ≡ record { file = was.cursor.file; line = (read was.cursor).line }
+  pub bytes : spelling ≡ (read was.cursor).kept.bytes
+  pub goes_on : now ≡ record was { cursor = behind was.cursor (read was.cursor) }
+
+-- all files were closed that were opened since
+abbrev pub closed_to : Openings → Openings → Openings
+closed_to start now = record now { open_places = start.open_places }

@@ -1,0 +1,237 @@
+//! The files that are open, each with its lexer.
+ghost use Rattle.std.specs.Prelude.{◌≡◌, ◌≢◌, ℕ, ◌+◌, ◌-◌, ◌≤◌, ◌<◌, ◌⊎◌, ◌++◌, [], ◌∷◌, false, if◌then◌else◌, is_ok, min, IfOk, OnOk, OnErr, IsErrOf, IsOk, IsTrue, None, Some, length, map};
+ghost use Rattle.inf_token.specs.Files.{Openings, Rose, last_count};
+ghost use Rattle.inf_lexer.specs.Entering.{has_one_too_many};
+ghost use Rattle.inf_lexer.specs.Readers.{Took, at_front};
+ghost use Rattle.inf_lexer.specs.Unread.{IsAtEnd};
+ghost use Rattle.inf_sources.specs.Inclusions.{answer_of, closed, inclusion, main_opened, nested_by};
+ghost use Rattle.inf_sources.specs.Open.{IsNested, Reads, closed_to, nesting};
+
+use crate::faults::IncludeFault;
+use inf_lexer::{EnterFault, LexFault, Lexer, Stack, Token};
+use inf_text::CharSet;
+use inf_token::files::Files;
+use std::alloc::Global;
+use std::marker::Model;
+use std::mem;
+
+/// What came of an inclusion.
+#[derive(Clone, Copy, Debug, PartialEq, Eq)]
+pub enum Included {
+    /// A file was entered.
+    Entered,
+    /// No file has one of the names that it may mean.
+    NotThere,
+    /// 16 files are open already.
+    TooDeep,
+}
+
+/// The files that are open: their names, and the lexer of each.
+///
+/// With an honest reader they stand for a `Nesting`: what is still to come of each.
+#[derive(Drop)]
+pub struct OpenFiles {
+    names: Stack,
+    lexer: Lexer,
+    /// The lexers of the files that wait for the innermost, the main one first.
+    outer: Vec<Lexer>,
+}
+
+impl Model for OpenFiles {
+    ghost use Rattle.std.specs.Prelude.{◌≡◌, ◌++◌, [], ◌∷◌};
+    ghost use Rattle.inf_sources.specs.Open.{AllWait, Open, files_of};
+
+    ghost Value = { Open };
+
+    ghost view = { λ o. record { nest = o.names; lexer = o.lexer; outer = o.outer.items } };
+
+    ghost invariant = { λ o. (o.names.open_files ≡ files_of o.outer.items ++ o.lexer.file ∷ [])
+        × ((o.lexer.set ≡ o.names.set) × ((o.lexer.limit ≡ o.names.limit) × AllWait o.names.set o.names.limit o.outer.items)) };
+}
+
+impl OpenFiles {
+    /// Enters the main source, by its whole name. Files are in this character set; a quoted token of theirs may have
+    /// `limit` bytes.
+    ///
+    /// The faults: `BadName` for an empty name; `Absent` and `Device` of the reader; `Memory` where there is no room,
+    /// which is asked for before the source is opened.
+    pub fn enter_main<F: Files>(
+        alloc: Global,
+        set: CharSet,
+        limit: u32,
+        files: &mut F,
+        name: &str,
+    ) -> Result<OpenFiles, EnterFault>
+        ensures front { IfOk result (λ o. (o.lexer ≡ at_front set limit 0) × (o.outer ≡ [])) }
+        ensures there { IsTrue (F.is_honest files.old) → OnOk result (F.sources files.old name.now ≢ None) }
+        ensures nesting { IsTrue (F.is_honest files.old) → IfOk result (λ o.
+            nesting (F.sources files.old) (F.openings files.old) (F.openings files.new) o
+            ≡ main_opened set limit (F.sources files.old) name.now) }
+        ensures nested { IsTrue (F.is_honest files.old) →
+            IfOk result (λ o. IsNested (F.openings files.old) (F.openings files.new) o) }
+        ensures absent { IsTrue (F.is_honest files.old) → IsErrOf result EnterFault.Absent →
+            (F.sources files.old name.now ≡ None) × (F.openings files.new ≡ F.openings files.old) }
+        ensures empty { IsErrOf result EnterFault.BadName → length name.now ≡ 0 }
+        ensures never { IsErrOf result EnterFault.TooDeep → ⊥ }
+        ensures cause { IsErrOf result EnterFault.Device → Rose (F.faults files.old) (F.faults files.new) }
+        ensures depth { F.depth files.new ≡ (if is_ok result then F.depth files.old + 1 else F.depth files.old) }
+        ensures faults { F.faults files.old ≤ F.faults files.new }
+        ensures given { F.given files.new ≡ F.given files.old }
+        ensures sources { F.sources files.new ≡ F.sources files.old }
+        ensures honesty { F.is_honest files.new ≡ F.is_honest files.old }
+    {
+        let mut names = Stack::new(alloc, set, limit);
+        let lexer = names.enter_main(files, name)?;
+        Ok(OpenFiles {
+            names,
+            lexer,
+            outer: Vec::new(alloc),
+        })
+    }
+
+    /// The names of the files, by their numbers.
+    pub fn names(&self) -> &Stack
+        ensures { result.now ≡ self.now.nest }
+    {
+        &self.names
+    }
+
+    /// The bytes of the token that was read last, as `Lexer::spelling` gives them.
+    pub fn spelling(&self) -> &[u8]
+        ensures { result.now ≡ self.now.lexer.kept.bytes }
+    {
+        self.lexer.spelling()
+    }
+
+    /// The next token of the innermost file; at its end that is the end, again and again.
+    ///
+    /// `Read` comes where the file could not be read, or has more than 16,777,216 bytes; `Memory` where there is no room
+    /// for a quoted token.
+    pub fn next<F: Files>(&mut self, files: &mut F) -> Result<Token, LexFault>
+        requires is_open { length self.old.outer < F.depth files.old }
+        requires goes { self.old.lexer.has_failed ≡ false }
+
+        // With an honest reader it is the next token of what is still to come, and nothing else changes.
+        ensures token { IsTrue (F.is_honest files.old) → (start : Openings) → IsNested start (F.openings files.old) self.old →
+            IfOk result (λ token. Reads token self.new.lexer.kept.bytes
+            (nesting (F.sources files.old) start (F.openings files.old) self.old)
+            (nesting (F.sources files.old) start (F.openings files.new) self.new)) }
+        ensures nested { IsTrue (F.is_honest files.old) → (start : Openings) → IsNested start (F.openings files.old) self.old →
+            IsNested start (F.openings files.new) self.new }
+        ensures took { IfOk result (λ token. Took token.kind self.old.lexer.window self.new.lexer.window self.new.lexer.kept) }
+        ensures goes { OnOk result (self.new.lexer.has_failed ≡ false) }
+        ensures same { (self.new.nest ≡ self.old.nest) × (self.new.outer ≡ self.old.outer) }
+
+        // What it was given: at most 4,096 bytes behind the token.
+        ensures window { length self.new.lexer.window.left ≤ 4096 }
+        ensures few { OnOk result (self.new.lexer.window.given ≤ 16777216) }
+        ensures cause { IsErrOf result LexFault.Read → Rose (F.faults files.old) (F.faults files.new)
+            ⊎ (16777216 < self.new.lexer.window.given) }
+        ensures given { min (F.given files.old + (self.new.lexer.window.given - self.old.lexer.window.given)) last_count
+            ≤ F.given files.new }
+        ensures depth { F.depth files.new ≡ F.depth files.old }
+        ensures faults { F.faults files.old ≤ F.faults files.new }
+        ensures sources { F.sources files.new ≡ F.sources files.old }
+        ensures honesty { F.is_honest files.new ≡ F.is_honest files.old }
+    {
+        let token = self.lexer.next(files)?;
+        Ok(token)
+    }
+
+    /// Enters the file that the text of an inclusion names, in these directories or beside the innermost file; it is then
+    /// the innermost. A name that no file has, one that is empty or has a byte over 127, and a seventeenth file open
+    /// nothing.
+    ///
+    /// `Device` comes where the reader failed, or 65,535 other names were opened before; `Memory` where there is no room,
+    /// which is asked for before each attempt to open a source.
+    pub fn include<F: Files>(
+        &mut self,
+        files: &mut F,
+        directories: &[&str],
+        text: &[u8],
+    ) -> Result<Included, IncludeFault>
+        requires goes { self.old.lexer.has_failed ≡ false }
+
+        // With an honest reader it is the first file that is there.
+        ensures answer { IsTrue (F.is_honest files.old) → (start : Openings) → IsNested start (F.openings files.old) self.old →
+            IfOk result (λ included. included ≡ answer_of (inclusion (F.sources files.old) (map (λ d. d.now) directories.now) text.now
+            (nesting (F.sources files.old) start (F.openings files.old) self.old))) }
+        ensures nesting { IsTrue (F.is_honest files.old) → (start : Openings) → IsNested start (F.openings files.old) self.old →
+            OnOk result (let was = nesting (F.sources files.old) start (F.openings files.old) self.old in
+            nesting (F.sources files.old) start (F.openings files.new) self.new
+            ≡ nested_by self.old.nest.set self.old.nest.limit (F.sources files.old)
+            (inclusion (F.sources files.old) (map (λ d. d.now) directories.now) text.now was) was) }
+        ensures nested { IsTrue (F.is_honest files.old) → (start : Openings) → IsNested start (F.openings files.old) self.old →
+            OnOk result (IsNested start (F.openings files.new) self.new) }
+
+        // With any reader.
+        ensures entered { IfOk result (λ included. included ≡ Included.Entered →
+            ((self.new.lexer.window.given ≡ 0) × (self.new.lexer.window.left ≡ []))
+            × ((self.new.outer ≡ self.old.outer ++ self.old.lexer ∷ []) × (length self.old.outer < 15))) }
+        ensures kept { IfOk result (λ included. (included ≡ Included.Entered → ⊥) → self.new ≡ self.old) }
+        ensures err { OnErr result (self.new ≡ self.old) }
+        ensures goes { OnOk result (self.new.lexer.has_failed ≡ false) }
+        ensures settings { (self.new.nest.set ≡ self.old.nest.set) × (self.new.nest.limit ≡ self.old.nest.limit) }
+        ensures cause { IsErrOf result IncludeFault.Device → Rose (F.faults files.old) (F.faults files.new)
+            ⊎ (65535 ≤ length self.old.nest.names) }
+        ensures depth { F.depth files.new + length self.old.outer ≡ F.depth files.old + length self.new.outer }
+        ensures faults { F.faults files.old ≤ F.faults files.new }
+        ensures given { F.given files.new ≡ F.given files.old }
+        ensures sources { F.sources files.new ≡ F.sources files.old }
+        ensures honesty { F.is_honest files.new ≡ F.is_honest files.old }
+    {
+        self.outer.reserve(1)?;
+        match self.names.enter(files, directories, text) {
+            Ok(lexer) => {
+                let waits = mem::replace(&mut self.lexer, lexer);
+                self.outer.push_reserved(waits);
+                Ok(Included::Entered)
+            }
+            Err(EnterFault::BadName | EnterFault::Absent) => Ok(Included::NotThere),
+            Err(EnterFault::TooDeep) => Ok(Included::TooDeep),
+            Err(EnterFault::Device) => Err(IncludeFault::Device),
+            Err(EnterFault::Memory) => Err(IncludeFault::Memory),
+        }
+    }
+
+    /// Closes the innermost file and goes on in the one that waits for it; answers whether one does. Where none does,
+    /// nothing is closed.
+    pub fn leave<F: Files>(&mut self, files: &mut F) -> bool
+        requires is_open { length self.old.outer < F.depth files.old }
+        ensures left { result ≡ true → (self.old.outer ≡ self.new.outer ++ self.new.lexer ∷ []) × (self.new.lexer.has_failed ≡ false) }
+        ensures last { result ≡ false → (self.old.outer ≡ []) × ((self.new ≡ self.old) × (files.new ≡ files.old)) }
+        ensures nesting { IsTrue (F.is_honest files.old) → (start : Openings) → IsNested start (F.openings files.old) self.old →
+            nesting (F.sources files.old) start (F.openings files.new) self.new
+            ≡ closed (nesting (F.sources files.old) start (F.openings files.old) self.old) }
+        ensures nested { IsTrue (F.is_honest files.old) → (start : Openings) → IsNested start (F.openings files.old) self.old →
+            IsNested start (F.openings files.new) self.new }
+        ensures settings { (self.new.nest.set ≡ self.old.nest.set) × (self.new.nest.limit ≡ self.old.nest.limit) }
+        ensures depth { F.depth files.new + length self.old.outer ≡ F.depth files.old + length self.new.outer }
+        ensures faults { F.faults files.new ≡ F.faults files.old }
+        ensures given { F.given files.new ≡ F.given files.old }
+        ensures sources { F.sources files.new ≡ F.sources files.old }
+        ensures honesty { F.is_honest files.new ≡ F.is_honest files.old }
+    {
+        let Some(lexer) = self.outer.pop() else {
+            return false;
+        };
+        self.names.leave(files);
+        self.lexer = lexer;
+        true
+    }
+
+    /// Closes all files that are open.
+    pub fn close<F: Files>(mut self, files: &mut F)
+        requires is_open { length self.outer < F.depth files.old }
+        ensures closed { IsTrue (F.is_honest files.old) → (start : Openings) → IsNested start (F.openings files.old) self.entry →
+            F.openings files.new ≡ closed_to start (F.openings files.old) }
+        ensures depth { F.depth files.new + length self.entry.outer + 1 ≡ F.depth files.old }
+        ensures faults { F.faults files.new ≡ F.faults files.old }
+        ensures given { F.given files.new ≡ F.given files.old }
+        ensures sources { F.sources files.new ≡ F.sources files.old }
+        ensures honesty { F.is_honest files.new ≡ F.is_honest files.old }
+    {
+        while self.leave(files) {}
+        self.names.leave(files);
+    }
+}
