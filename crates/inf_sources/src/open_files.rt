@@ -1,5 +1,5 @@
 //! The files that are open, each with its lexer.
-ghost use Rattle.std.specs.Prelude.{◌≡◌, ◌≢◌, ℕ, ◌+◌, ◌-◌, ◌≤◌, ◌<◌, ◌⊎◌, ◌++◌, [], ◌∷◌, false, if◌then◌else◌, is_ok, min, IfOk, OnOk, OnErr, IsErrOf, IsOk, IsTrue, None, Some, length, map};
+ghost use Rattle.std.specs.Prelude.{◌≡◌, ◌≢◌, ℕ, ◌+◌, ◌-◌, ◌≤◌, ◌<◌, ◌⊎◌, ◌++◌, [], ◌∷◌, true, false, if◌then◌else◌, is_ok, min, IfOk, OnOk, OnErr, IsErrOf, IsOk, IsTrue, None, Some, length, map};
 ghost use Rattle.inf_token.specs.Files.{Openings, Rose, last_count};
 ghost use Rattle.inf_lexer.specs.Entering.{has_one_too_many};
 ghost use Rattle.inf_lexer.specs.Readers.{Took, at_front};

@@ -1,0 +1,48 @@
+use Rattle.std.proofs.Common.{◌≡◌, ◌++◌, [], ◌∷◌, ap, subst, sym, ◌∙◌}
+use Rattle.inf_sources.specs.Inclusions.{closed}
+use Rattle.inf_sources.specs.Open.{AllWait, IsNested, Open, nesting}
+use Rattle.inf_sources.proofs.Entered.{left_fits, left_none, waits_last}
+use Rattle.inf_sources.proofs.Nestings.{left_nested, left_nesting}
+use Rattle.inf_sources.proofs.open_files.OpenFiles.leave.Goals as goal
+
+pub returns-in_default-clause-nesting : goal.returns-in_default-clause-nesting
+returns-in_default-clause-nesting g c = λ honest start nested.
+    let files = g.F.Files in
+    let s = files.sources c.args.files.now in
+    let now = files.openings c.args.files.now in
+    subst (λ (o : Open). nesting s start now (record { nest = c.self.inside.names; lexer = c.self.inside.lexer; outer = c.pop.new.self.items }) ≡ closed (nesting s start now o)) c.self.view_is
+    (left_none s start now c.self.inside.names c.self.inside.lexer c.self.inside.outer.items c.pop.new.self.items (omega (arith, c.in_default.ensures.cases.0)) c.in_default.ensures.items)
+
+pub invariant_of-self-2 : goal.invariant_of-self-2
+invariant_of-self-2 g c =
+    let inv = c.self.invariant in
+    left_fits c.self.inside.names c.leave.new.self c.self.inside.outer.items c.pop.new.self.items c.self.inside.lexer.file c.in-Some.lexer
+    inv.0 inv.1.1.1 c.in-Some.ensures.items c.leave.ensures.left
+
+pub returns-clause-left : goal.returns-clause-left
+returns-clause-left g c = λ is. (
+  sym (ap (λ (o : Open). o.outer) c.self.view_is) ∙ c.in-Some.ensures.items,
+  (waits_last c.self.inside.names.set c.self.inside.names.limit c.pop.new.self.items c.in-Some.lexer
+      (subst (λ readers. AllWait c.self.inside.names.set c.self.inside.names.limit readers) c.in-Some.ensures.items c.self.invariant.1.1.1)).goes,
+)
+
+pub returns-clause-nesting : goal.returns-clause-nesting
+returns-clause-nesting g c = λ honest start nested.
+    let files = g.F.Files in
+    let s = files.sources c.args.files.now in
+    let old = files.openings c.args.files.now in
+    let new = files.openings c.leave.new.files in
+    let before : Open = record { nest = c.self.inside.names; lexer = c.self.inside.lexer; outer = c.self.inside.outer.items } in
+    let after : Open = record { nest = c.leave.new.self; lexer = c.in-Some.lexer; outer = c.pop.new.self.items } in
+    subst (λ (o : Open). IsNested start old o → nesting s start new after ≡ closed (nesting s start old o)) c.self.view_is
+    (λ n. left_nesting s start old new before after n (c.leave.ensures.closes honest) c.in-Some.ensures.items c.leave.ensures.left) nested
+
+pub returns-clause-nested : goal.returns-clause-nested
+returns-clause-nested g c = λ honest start nested.
+    let files = g.F.Files in
+    let old = files.openings c.args.files.now in
+    let new = files.openings c.leave.new.files in
+    let before : Open = record { nest = c.self.inside.names; lexer = c.self.inside.lexer; outer = c.self.inside.outer.items } in
+    let after : Open = record { nest = c.leave.new.self; lexer = c.in-Some.lexer; outer = c.pop.new.self.items } in
+    subst (λ (o : Open). IsNested start old o → IsNested start new after) c.self.view_is
+    (λ n. left_nested start old new before after n (c.leave.ensures.closes honest) c.in-Some.ensures.items) nested
