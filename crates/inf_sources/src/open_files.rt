@@ -2,6 +2,7 @@
 ghost use Rattle.std.specs.Prelude.{◌≡◌, ◌≢◌, ℕ, ◌+◌, ◌-◌, ◌≤◌, ◌<◌, ◌⊎◌, ◌++◌, [], ◌∷◌, true, false, if◌then◌else◌, is_ok, min, IfOk, OnOk, OnErr, IsErrOf, IsOk, IsTrue, None, Some, length, map};
 ghost use Rattle.inf_token.specs.Files.{Openings, Rose, last_count};
 ghost use Rattle.inf_lexer.specs.Entering.{has_one_too_many};
+ghost use Rattle.inf_lexer.specs.Names.{candidates, innermost_name};
 ghost use Rattle.inf_lexer.specs.Readers.{Took, at_front};
 ghost use Rattle.inf_lexer.specs.Unread.{IsAtEnd};
 ghost use Rattle.inf_sources.specs.Inclusions.{answer_of, closed, inclusion, main_opened, nested_by};
@@ -173,7 +174,8 @@ impl OpenFiles {
         ensures goes { OnOk result (self.new.lexer.has_failed ≡ false) }
         ensures settings { (self.new.nest.set ≡ self.old.nest.set) × (self.new.nest.limit ≡ self.old.nest.limit) }
         ensures cause { IsErrOf result IncludeFault.Device → Rose (F.faults files.old) (F.faults files.new)
-            ⊎ (65535 ≤ length self.old.nest.names) }
+            ⊎ (has_one_too_many self.old.nest.names
+            (candidates (map (λ d. d.now) directories.now) (innermost_name self.old.nest) text.now) ≡ true) }
         ensures depth { F.depth files.new + length self.old.outer ≡ F.depth files.old + length self.new.outer }
         ensures faults { F.faults files.old ≤ F.faults files.new }
         ensures given { F.given files.new ≡ F.given files.old }
@@ -187,7 +189,8 @@ impl OpenFiles {
                 self.outer.push_reserved(waits);
                 Ok(Included::Entered)
             }
-            Err(EnterFault::BadName | EnterFault::Absent) => Ok(Included::NotThere),
+            Err(EnterFault::BadName) => Ok(Included::NotThere),
+            Err(EnterFault::Absent) => Ok(Included::NotThere),
             Err(EnterFault::TooDeep) => Ok(Included::TooDeep),
             Err(EnterFault::Device) => Err(IncludeFault::Device),
             Err(EnterFault::Memory) => Err(IncludeFault::Memory),
@@ -223,9 +226,9 @@ impl OpenFiles {
     /// Closes all files that are open.
     pub fn close<F: Files>(mut self, files: &mut F)
         requires is_open { length self.outer < F.depth files.old }
-        ensures closed { IsTrue (F.is_honest files.old) → (start : Openings) → IsNested start (F.openings files.old) self.entry →
+        ensures closed { IsTrue (F.is_honest files.old) → (start : Openings) → IsNested start (F.openings files.old) self →
             F.openings files.new ≡ closed_to start (F.openings files.old) }
-        ensures depth { F.depth files.new + length self.entry.outer + 1 ≡ F.depth files.old }
+        ensures depth { F.depth files.new + length self.outer + 1 ≡ F.depth files.old }
         ensures faults { F.faults files.new ≡ F.faults files.old }
         ensures given { F.given files.new ≡ F.given files.old }
         ensures sources { F.sources files.new ≡ F.sources files.old }

@@ -1,0 +1,124 @@
+-- What an inclusion comes to, by what the names of the open files answer.
+use Rattle.std.proofs.Common.{◌≡◌, ℕ, zero, suc, ◌+◌, ◌-◌, ◌≤◌, List, [], ◌∷◌, ◌++◌, length, drop, reverse, cond, not, nat_le, Bool, true, false, Option, Some, None, unwrap_or, refl, sym, ap, subst, ◌∙◌, arith, length-append}
+use Rattle.std.specs.Prelude.{slice_get}
+use Rattle.std.proofs.lemmas.Bool.{le-leb, leb-true}
+use Rattle.std.proofs.lemmas.List.{length-reverse}
+use Rattle.inf_characters.specs.declared.characters.CharSet.{CharSet}
+use Rattle.inf_token.specs.Files.{Openings, Sources}
+use Rattle.inf_lexer.specs.Entering.{first_there, with_opened}
+use Rattle.inf_lexer.specs.Names.{Nest, can_name, candidates, entered, innermost_name, name_at, number_of}
+use Rattle.inf_lexer.specs.Readers.{Reader, at_front}
+use Rattle.inf_sources.specs.Inclusions.{Inclusion, OpensNone, Opens, by_first, inclusion, nested_by}
+use Rattle.inf_sources.specs.Open.{AllWait, IsNested, Open, Waits, cursors_at, files_of, nesting}
+use Rattle.inf_sources.specs.declared.open_files.Included.TheVariants as included
+use Rattle.inf_sources.proofs.Entered.{Fits, files_more, waits_more}
+use Rattle.inf_sources.proofs.Openings.{entered_nested, entered_nesting}
+use Rattle.inf_sources.proofs.Places.{innermost_of, waiting_length}
+
+pub is_true : (b : Bool) → (b ≡ false → ⊥) → b ≡ true
+is_true true h = refl
+is_true false h = absurd (h refl)
+
+is_false : (b : Bool) → (b ≡ true → ⊥) → b ≡ false
+is_false true h = absurd (h refl)
+is_false false h = refl
+
+seam : (xs : List ℕ) (x : ℕ) → slice_get (xs ++ x ∷ []) (length xs) ≡ Some x
+seam [] x = refl
+seam (y ∷ xs) x = seam xs x
+
+last_file : (xs : List ℕ) (x : ℕ) → slice_get (xs ++ x ∷ []) (length (xs ++ x ∷ []) - 1) ≡ Some x
+last_file xs x =
+    let last : length (xs ++ x ∷ []) - 1 ≡ length xs = omega (arith, length-append xs (x ∷ [])) in
+    ap (λ n. slice_get (xs ++ x ∷ []) n) last ∙ seam xs x
+
+files_length : (readers : List Reader) → length (files_of readers) ≡ length readers
+files_length [] = refl
+files_length (r ∷ readers) = ap suc (files_length readers)
+
+-- the numbers of the open files are those of the lexers
+abbrev pub IsNumbered : Open → Type 0
+IsNumbered files = files.nest.open_files ≡ files_of files.outer ++ files.lexer.file ∷ []
+
+same_name : (files : Open) → IsNumbered files → innermost_name files.nest ≡ unwrap_or (slice_get files.nest.names files.lexer.file) []
+same_name files e =
+    ap (λ (fs : List ℕ). name_at (slice_get fs (length fs - 1)) files.nest.names) e
+    ∙ ap (λ (o : Option ℕ). name_at o files.nest.names) (last_file (files_of files.outer) files.lexer.file)
+
+same_depth : (s : Sources) (start now : Openings) (files : Open) → IsNested start now files → IsNumbered files
+    → length files.nest.open_files ≡ length (nesting s start now files).waiting + 1
+same_depth s start now files n e =
+    let at = innermost_of (length now.all) (reverse now.open_places) files.lexer (reverse files.outer) n.nested in
+    let waits : length (nesting s start now files).waiting ≡ length files.outer =
+    ap (λ (ps : List ℕ). length (cursors_at s now.all (drop 1 ps) (reverse files.outer))) at.is
+    ∙ waiting_length s now.all at.place at.rest (reverse files.outer) at.inner ∙ length-reverse files.outer in
+    omega (arith, ap length e, length-append (files_of files.outer) (files.lexer.file ∷ []), files_length files.outer, waits)
+
+-- what an inclusion is by its three tests
+abbrev by_tests : (can deep : Bool) → Option (List ℕ) → Inclusion
+by_tests can deep first = cond (not can) (OpensNone included.NotThere) (cond deep (OpensNone included.TooDeep) (by_first first))
+
+tested : (s : Sources) (directories : List (List ℕ)) (text : List ℕ) (start now : Openings) (files : Open) → IsNested start now files → IsNumbered files
+    → inclusion s directories text (nesting s start now files)
+    ≡ by_tests (can_name text) (nat_le 16 (length files.nest.open_files)) (first_there s (candidates directories (innermost_name files.nest) text))
+tested s directories text start now files n e =
+    ap (λ (k : ℕ). by_tests (can_name text) (nat_le 16 k) (first_there s (candidates directories (unwrap_or (slice_get files.nest.names files.lexer.file) []) text)))
+    (sym (same_depth s start now files n e))
+    ∙ ap (λ (name : List ℕ). by_tests (can_name text) (nat_le 16 (length files.nest.open_files)) (first_there s (candidates directories name text))) (sym (same_name files e))
+
+abbrev Comes : Sources → List (List ℕ) → List ℕ → Openings → Openings → Open → Inclusion → Type 0
+Comes s directories text start now files i = inclusion s directories text (nesting s start now files) ≡ i
+
+pub unfit_is : (s : Sources) (directories : List (List ℕ)) (text : List ℕ) (start now : Openings) (files : Open) → IsNested start now files → IsNumbered files
+    → can_name text ≡ false → Comes s directories text start now files (OpensNone included.NotThere)
+unfit_is s directories text start now files n e unfit =
+    tested s directories text start now files n e
+    ∙ ap (λ b. by_tests b (nat_le 16 (length files.nest.open_files)) (first_there s (candidates directories (innermost_name files.nest) text))) unfit
+
+pub deep_is : (s : Sources) (directories : List (List ℕ)) (text : List ℕ) (start now : Openings) (files : Open) → IsNested start now files → IsNumbered files
+    → (can_name text ≡ false → ⊥) → 16 ≤ length files.nest.open_files → Comes s directories text start now files (OpensNone included.TooDeep)
+deep_is s directories text start now files n e fit deep =
+    tested s directories text start now files n e
+    ∙ ap (λ b. by_tests b (nat_le 16 (length files.nest.open_files)) (first_there s (candidates directories (innermost_name files.nest) text))) (is_true (can_name text) fit)
+    ∙ ap (λ b. by_tests true b (first_there s (candidates directories (innermost_name files.nest) text)))
+    (le-leb 16 (length files.nest.open_files) deep)
+
+pub first_is : (s : Sources) (directories : List (List ℕ)) (text : List ℕ) (start now : Openings) (files : Open) (first : Option (List ℕ)) → IsNested start now files
+    → IsNumbered files → (can_name text ≡ false → ⊥) → (16 ≤ length files.nest.open_files → ⊥)
+    → first_there s (candidates directories (innermost_name files.nest) text) ≡ first → Comes s directories text start now files (by_first first)
+first_is s directories text start now files first n e fit flat there =
+    tested s directories text start now files n e
+    ∙ ap (λ b. by_tests b (nat_le 16 (length files.nest.open_files)) (first_there s (candidates directories (innermost_name files.nest) text))) (is_true (can_name text) fit)
+    ∙ ap (λ b. by_tests true b (first_there s (candidates directories (innermost_name files.nest) text)))
+    (is_false (nat_le 16 (length files.nest.open_files)) (λ h. flat (leb-true 16 (length files.nest.open_files) h)))
+    ∙ ap (λ o. by_tests true false o) there
+
+-- what is open behind a file that was entered
+pub entered_is : (s : Sources) (start old new : Openings) (before : Open) (name : List ℕ) (nest : Nest) (lexer : Reader) (outer : List Reader) → IsNested start old before
+    → new ≡ with_opened name old → nest ≡ entered name before.nest → lexer ≡ at_front before.nest.set before.nest.limit (number_of name before.nest.names)
+    → outer ≡ before.outer ++ before.lexer ∷ []
+    → nesting s start new (record { nest = nest; lexer = lexer; outer = outer }) ≡ nested_by before.nest.set before.nest.limit s (Opens name) (nesting s start old before)
+entered_is s start old new before name nest lexer outer n opens enters fronts waits =
+    ap (λ (o : Openings). nesting s start o (record { nest = nest; lexer = lexer; outer = outer })) opens
+    ∙ ap (λ (x : Nest). nesting s start (with_opened name old) (record { nest = x; lexer = lexer; outer = outer })) enters
+    ∙ ap (λ (r : Reader). nesting s start (with_opened name old) (record { nest = entered name before.nest; lexer = r; outer = outer })) fronts
+    ∙ ap (λ (o : List Reader). nesting s start (with_opened name old) (record { nest = entered name before.nest; lexer = at_front before.nest.set before.nest.limit (number_of name before.nest.names); outer = o })) waits
+    ∙ entered_nesting s start old before name before.nest.set before.nest.limit n
+
+pub entered_nested_of : (start old new : Openings) (before : Open) (name : List ℕ) (nest : Nest) (lexer : Reader) (outer : List Reader) → IsNested start old before
+    → new ≡ with_opened name old → outer ≡ before.outer ++ before.lexer ∷ [] → IsNested start new (record { nest = nest; lexer = lexer; outer = outer })
+entered_nested_of start old new before name nest lexer outer n opens waits =
+    subst (λ (o : Openings). IsNested start o (record { nest = nest; lexer = lexer; outer = outer })) (sym opens)
+    (subst (λ (o : List Reader). IsNested start (with_opened name old) (record { nest = nest; lexer = lexer; outer = o })) (sym waits)
+    (entered_nested start old before name nest lexer n))
+
+-- the numbers and settings behind it
+pub entered_fits : (nest after : Nest) (outer new : List Reader) (waits lexer : Reader) (name : List ℕ) → nest.open_files ≡ files_of outer ++ waits.file ∷ []
+    → AllWait nest.set nest.limit outer → Waits nest.set nest.limit waits → new ≡ outer ++ waits ∷ [] → after ≡ entered name nest
+    → lexer ≡ at_front nest.set nest.limit (number_of name nest.names) → Fits after lexer new
+entered_fits nest after outer new waits lexer name files all w e enters fronts =
+    let made : Fits (entered name nest) (at_front nest.set nest.limit (number_of name nest.names)) (outer ++ waits ∷ []) =
+    (ap (λ fs. fs ++ number_of name nest.names ∷ []) (files ∙ sym (files_more outer waits)), (refl, (refl, waits_more nest.set nest.limit outer waits all w))) in
+    subst (λ (n : Nest). Fits n lexer new) (sym enters)
+    (subst (λ (r : Reader). Fits (entered name nest) r new) (sym fronts)
+    (subst (λ (rs : List Reader). Fits (entered name nest) (at_front nest.set nest.limit (number_of name nest.names)) rs) (sym e) made))
