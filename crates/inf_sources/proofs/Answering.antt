@@ -1,9 +1,8 @@
 -- What an inclusion comes to, by what the names of the open files answer.
-use Rattle.std.proofs.Common.{◌≡◌, ℕ, zero, suc, ◌+◌, ◌-◌, ◌≤◌, List, [], ◌∷◌, ◌++◌, length, drop, reverse, cond, not, nat_le, Bool, true, false, Option, Some, None, unwrap_or, refl, sym, ap, subst, ◌∙◌, arith, length-append}
+use Rattle.std.proofs.Common.{◌≡◌, ℕ, suc, ◌+◌, ◌-◌, ◌≤◌, List, [], ◌∷◌, ◌++◌, length, drop, reverse, cond, not, nat_le, Bool, true, false, Option, Some, unwrap_or, refl, sym, ap, subst, ◌∙◌, arith, length-append}
 use Rattle.std.specs.Prelude.{slice_get}
 use Rattle.std.proofs.lemmas.Bool.{le-leb, leb-true}
 use Rattle.std.proofs.lemmas.List.{length-reverse}
-use Rattle.inf_characters.specs.declared.characters.CharSet.{CharSet}
 use Rattle.inf_token.specs.Files.{Openings, Sources}
 use Rattle.inf_lexer.specs.Entering.{first_there, with_opened}
 use Rattle.inf_lexer.specs.Names.{Nest, can_name, candidates, entered, innermost_name, name_at, number_of}

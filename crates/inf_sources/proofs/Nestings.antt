@@ -1,7 +1,6 @@
 -- What is open after a token was read, and after a file was left.
 use Rattle.std.proofs.Common.{◌≡◌, ℕ, suc, ◌-◌, List, [], ◌∷◌, ◌++◌, length, drop, reverse, get_or, sym, ap, subst, ◌∙◌, arith, length-append}
-use Rattle.std.specs.Prelude.{slice_get}
-use Rattle.std.proofs.lemmas.List.{drop-map}
+use Rattle.std.proofs.lemmas.List.{drop-map, reverse-reverse}
 use Rattle.inf_scanner.specs.Tokens.{Read, next_token}
 use Rattle.inf_scanner.specs.declared.tokens.Token.{Token}
 use Rattle.inf_token.specs.Files.{Closes, Opening, Openings, Sources, opened}
@@ -10,7 +9,7 @@ use Rattle.inf_lexer.specs.Readers.{Reader, read_out}
 use Rattle.inf_lexer.specs.Unread.{Gave, innermost_place, to_come}
 use Rattle.inf_sources.specs.Cursors.{Cursor, behind, read}
 use Rattle.inf_sources.specs.Inclusions.{Nesting, closed}
-use Rattle.inf_sources.specs.Open.{AreNested, IsNested, Open, Reads, cursor_of, cursors_at, nesting, rest_of}
+use Rattle.inf_sources.specs.Open.{AreNested, IsNested, Open, Reads, closed_to, cursor_of, cursors_at, nesting, rest_of}
 use Rattle.inf_sources.proofs.Places.{innermost_of, last_of, names_of, names_same, nested_as, nested_more, reverse_last, waiting_same}
 
 -- the same files are open
@@ -119,3 +118,13 @@ left_nesting s start old new before after n closes outer nest =
     ∙ ap (λ (ps : List ℕ). made before.nest.names (names_of (drop (length start.all) new.all)) (cursor_of after.lexer (rest_of s (get_or new.all at.place (opened [])) after.lexer.window)) (cursors_at s new.all (drop 1 ps) (reverse after.outer))) at.is
     ∙ ap (λ (all : List Opening). made before.nest.names (names_of (drop (length start.all) all)) (cursor_of after.lexer (rest_of s (get_or all at.place (opened [])) after.lexer.window)) (cursors_at s all at.rest (reverse after.outer))) closes.same
     ∙ sym (ap (λ (waiting : List Cursor). closed (made before.nest.names (names_of (drop (length start.all) old.all)) (cursor_of before.lexer (to_come s old before.lexer.window)) waiting)) waits)
+
+-- all files were left but the main one, which was closed too
+pub closed_is : (start old now new : Openings) (files : Open) → IsNested start now files → length files.outer ≡ 0 → now.all ≡ old.all → Closes now new → new ≡ closed_to start old
+closed_is start old now new files n alone all closes =
+    let backwards : reverse new.open_places ≡ reverse start.open_places =
+    sym (ap (λ (ps : List ℕ). drop 1 ps) (ap reverse closes.innermost ∙ reverse_last new.open_places closes.place))
+    ∙ sym (ap (λ (k : ℕ). drop (suc k) (reverse now.open_places)) alone) ∙ n.others in
+    let places : new.open_places ≡ start.open_places = sym (reverse-reverse new.open_places) ∙ ap reverse backwards ∙ reverse-reverse start.open_places in
+    ap (λ (x : List Opening). record { all = x; open_places = new.open_places }) (closes.same ∙ all)
+    ∙ ap (λ (x : List ℕ). record { all = old.all; open_places = x }) places

@@ -208,6 +208,7 @@ impl OpenFiles {
             ≡ closed (nesting (F.sources files.old) start (F.openings files.old) self.old) }
         ensures nested { IsTrue (F.is_honest files.old) → (start : Openings) → IsNested start (F.openings files.old) self.old →
             IsNested start (F.openings files.new) self.new }
+        ensures all { IsTrue (F.is_honest files.old) → (F.openings files.new).all ≡ (F.openings files.old).all }
         ensures settings { (self.new.nest.set ≡ self.old.nest.set) × (self.new.nest.limit ≡ self.old.nest.limit) }
         ensures depth { F.depth files.new + length self.old.outer ≡ F.depth files.old + length self.new.outer }
         ensures faults { F.faults files.new ≡ F.faults files.old }

@@ -1,11 +1,11 @@
-use Rattle.std.proofs.Common.{◌≡◌, ◌≤◌, false, length, ◌++◌, [], ◌∷◌, Ok, Err, Some, None, map, refl, sym, ap, subst, ◌∙◌}
+use Rattle.std.proofs.Common.{◌≡◌, ◌≤◌, false, length, ◌++◌, [], ◌∷◌, Err, Some, None, map, sym, ap, subst, ◌∙◌}
 use Rattle.inf_lexer.specs.Entering.{Leaves}
 use Rattle.inf_lexer.specs.Names.{can_name, candidates, innermost_name}
 use Rattle.inf_lexer.specs.declared.enter_faults.EnterFault.TheVariants as fault
-use Rattle.inf_sources.specs.Inclusions.{OpensNone, Opens, answer_of, inclusion, nested_by}
+use Rattle.inf_sources.specs.Inclusions.{answer_of, inclusion, nested_by}
 use Rattle.inf_sources.specs.Open.{IsNested, Open, nesting}
 use Rattle.inf_sources.specs.declared.open_files.Included.TheVariants as included
-use Rattle.inf_sources.proofs.Answering.{is_true, deep_is, entered_fits, entered_is, entered_nested_of, first_is, unfit_is}
+use Rattle.inf_sources.proofs.Answering.{is_true, deep_is, entered_fits, entered_is, entered_nested_of, first_is}
 use Rattle.inf_sources.proofs.open_files.OpenFiles.include.Goals as goal
 
 pub invariant_of-self-in-Ok : goal.invariant_of-self-in-Ok

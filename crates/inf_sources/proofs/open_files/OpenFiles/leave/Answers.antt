@@ -1,4 +1,4 @@
-use Rattle.std.proofs.Common.{◌≡◌, ◌++◌, [], ◌∷◌, arith, ap, subst, sym, ◌∙◌}
+use Rattle.std.proofs.Common.{◌≡◌, arith, ap, subst, sym, ◌∙◌}
 use Rattle.inf_sources.specs.Inclusions.{closed}
 use Rattle.inf_sources.specs.Open.{AllWait, IsNested, Open, nesting}
 use Rattle.inf_sources.proofs.Entered.{left_fits, left_none, waits_last}
