@@ -21,10 +21,11 @@ run_on files (suc n) m s =
         ∙ ap (λ b. run files m (cond b s (run files n (turn files s)))) (sym e)
 
 pub sources_are_read : SourcesAreRead
-sources_are_read files source = record {
+sources_are_read set settings files source = record {
   ends = ends;
-  stays = λ further. run_on files (turns_of source) further (start source) ∙ run_ended files further (compiled files source) ends;
+  stays = λ further.
+      run_on files (turns_of source) further (start set settings source) ∙ run_ended files further (compiled set settings files source) ends;
 }
   where
-    ends : has_ended (compiled files source) ≡ true
-    ends = run_ends files (turns_of source) (start source) (omega arith)
+    ends : has_ended (compiled set settings files source) ≡ true
+    ends = run_ends files (turns_of source) (start set settings source) (omega arith)

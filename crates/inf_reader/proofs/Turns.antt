@@ -13,7 +13,8 @@ use Rattle.inf_grammar.specs.declared.actions.Action.{Action}
 use Rattle.inf_machine.specs.declared.symbols.Symbol.{Symbol}
 use Rattle.inf_unit.specs.Actions.{Work}
 use Rattle.inf_unit.specs.Messages.{FileNames}
-use Rattle.inf_reader.specs.Cursors.{Cursor, next_token, read_token}
+use Rattle.inf_sources.specs.Cursors.{Cursor}
+use Rattle.inf_reader.specs.Cursors.{next_token, read_token}
 use Rattle.inf_reader.specs.Selection.{has_come}
 use Rattle.inf_reader.specs.Reading.{Reading, State, Stand, bad, took, judged, read_at, step_in, step, taken_at, is_mode_ended, has_ended, turn, run}
 use Rattle.inf_reader.specs.declared.mode.Mode.{Mode}

@@ -3,8 +3,5 @@ pub mod Tests
 pub mod Selection
 pub mod Reading
 pub mod Pieces
-pub mod Sessions
-pub mod Outcome
-pub mod Translations
+pub mod Standing
 pub mod ReadingLaws
-pub mod Examples

@@ -2,7 +2,8 @@
 -- begin no piece.
 use Rattle.std.specs.Prelude.{◌≡◌, ℕ, ◌<◌, List, [], ◌∷◌, ◌++◌, map, take, true, false, zero, suc, Some}
 use Rattle.inf_unit.specs.Tokens.{Spelled, is_end}
-use Rattle.inf_reader.specs.Cursors.{Cursor, next_token}
+use Rattle.inf_sources.specs.Cursors.{Cursor}
+use Rattle.inf_reader.specs.Cursors.{next_token}
 use Rattle.inf_report.specs.Messages.{Message}
 use Rattle.inf_unit.specs.Messages.{FileNames}
 use Rattle.inf_grammar.specs.declared.actions.Action.{Action}

@@ -3,11 +3,13 @@
 -- and tokens are passed over to where the piece ends. The unit that it cuts gives nothing.
 -- Designer's Manual, fourth edition, sections 1.3, 1.4 and 1.7.
 use Rattle.std.specs.Prelude.{ℕ, List, [], ◌∷◌, length, Bool, true, false, ◌||◌, ◌&&◌, if◌then◌else◌, zero, suc, Option, Some, None}
-use Rattle.inf_characters.specs.declared.characters.CharSet.TheVariants as set
-use Rattle.inf_scanner.specs.Lines.{first_line}
+use Rattle.inf_characters.specs.declared.characters.CharSet.{CharSet}
 use Rattle.inf_scanner.specs.declared.tokens.Mark.TheVariants as mark
 use Rattle.inf_scanner.specs.declared.tokens.TokenKind.{TokenKind}
 use Rattle.inf_scanner.specs.declared.tokens.TokenKind.TheVariants as kind
+use Rattle.inf_settings.specs.Settings.{number_of}
+use Rattle.inf_settings.specs.declared.setting.Setting.TheVariants.{QuotedText}
+use Rattle.inf_settings.specs.declared.settings.Settings.{Settings}
 use Rattle.inf_report.specs.Messages.{Location, Message, kind_of}
 use Rattle.inf_report.specs.declared.messages.Kind.{Kind}
 use Rattle.inf_report.specs.declared.messages.Kind.TheVariants as weight
@@ -23,7 +25,8 @@ use Rattle.inf_unit.specs.Statements.{Unit, name_of, no_unit, unit_behind}
 use Rattle.inf_unit.specs.declared.unit.Head.{Head}
 use Rattle.inf_unit.specs.declared.unit.Head.TheVariants as head
 use Rattle.inf_unit.specs.Actions.{Gathered, Work, no_work, acted}
-use Rattle.inf_reader.specs.Cursors.{Cursor, most_quoted, next_token}
+use Rattle.inf_sources.specs.Cursors.{Cursor, front}
+use Rattle.inf_reader.specs.Cursors.{next_token}
 use Rattle.inf_reader.specs.Tests.{atom_of, complaint_of, read_of}
 use Rattle.inf_reader.specs.Selection.{begins_piece, has_come}
 use Rattle.inf_reader.specs.declared.mode.Mode.{Mode}
@@ -50,16 +53,16 @@ pub record Stand : Type 0 where
   pub reading : Reading
   pub work : Work
 
--- before the first token
-abbrev pub begun_stand : Stand
-begun_stand = record { reading = between mode.Reads; work = no_work }
+-- before the first token of sources in a character set
+abbrev pub begun_stand : CharSet → Settings → Stand
+begun_stand set settings = record { reading = between mode.Reads; work = no_work set settings }
 
--- before the first turn all of the source is still to come; its character set is ISO Latin-1
-abbrev pub start : List ℕ → State
-start source = record {
-  cursor = record { rest = source; lines = first_line; file = 0; set = set.Latin1; limit = most_quoted };
+-- before the first turn all of the source is still to come; the settings say how many bytes a text or quote may have
+abbrev pub start : CharSet → Settings → List ℕ → State
+start set settings source = record {
+  cursor = front set (number_of QuotedText settings) 0 source;
   reading = between mode.Reads;
-  work = no_work;
+  work = no_work set settings;
 }
 
 abbrev pub is_mode_ended : Mode → Bool
@@ -111,11 +114,11 @@ abbrev pub is_quoted : Option Head → TokenKind → Bool
 is_quoted (Some (head.Directive d place)) kind.Text = true
 is_quoted _ _ = false
 
--- what is gathered behind a token that was taken, of a unit that begins so
-abbrev pub gathering : Option Head → Spelled → Gathered → Gathered
-gathering h t g =
+-- what is gathered behind a token that was taken, of a unit that begins so, in a character set
+abbrev pub gathering : CharSet → Option Head → Spelled → Gathered → Gathered
+gathering set h t g =
     if is_quoted h t.kind then record g { named = None; read = None; quoted = t.bytes }
-    else record g { named = name_of t; read = read_of t }
+    else record g { named = name_of t; read = read_of set t }
 
 -- A token that fits is taken: first the actions on the way to it act.
 abbrev pub took : FileNames → Spelled → Reading → Work → Stand
@@ -124,7 +127,7 @@ took files t r w =
     let acted_on = acted files r.unit t.place n.actions w in
     record {
       reading = record { mode = r.mode; stack = n.left; unit = unit_behind t r.unit };
-      work = record acted_on { gathered = gathering r.unit.head t acted_on.gathered };
+      work = record acted_on { gathered = gathering acted_on.set r.unit.head t acted_on.gathered };
     }
 
 -- a token of a piece, if it may go on with it as far as what has come goes, is taken where it fits; else it is the bad one
@@ -175,5 +178,5 @@ abbrev pub turns_of : List ℕ → ℕ
 turns_of source = suc (length source)
 
 -- what is compiled of a source
-abbrev pub compiled : FileNames → List ℕ → State
-compiled files source = run files (turns_of source) (start source)
+abbrev pub compiled : CharSet → Settings → FileNames → List ℕ → State
+compiled set settings files source = run files (turns_of source) (start set settings source)

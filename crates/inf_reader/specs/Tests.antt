@@ -1,7 +1,7 @@
 -- Tests of a token, what is wrong with one by itself, and how the grammar sees one.
 use Rattle.std.specs.Prelude.{ℕ, ◌+◌, List, ◌&&◌, Bool, true, false, not, Option, Some, None, Result, Ok, Err, unwrap_or}
 use Rattle.inf_characters.specs.Reading.{text_of}
-use Rattle.inf_characters.specs.declared.characters.CharSet.TheVariants as set
+use Rattle.inf_characters.specs.declared.characters.CharSet.{CharSet}
 use Rattle.inf_characters.specs.declared.reading.Mode.TheVariants as mode
 use Rattle.inf_characters.specs.declared.reading.TextFault.{TextFault}
 use Rattle.inf_characters.specs.declared.texts.TextItem.{TextItem}
@@ -27,9 +27,9 @@ is_operand t = is_name t.kind && not (is_condition_word t.bytes)
 
 -- Texts
 
--- the characters of a text
-abbrev pub characters : List ℕ → Result (List TextItem) TextFault
-characters bytes = text_of set.Latin1 mode.Text bytes
+-- the characters of a text of a source in a character set
+abbrev pub characters : CharSet → List ℕ → Result (List TextItem) TextFault
+characters set bytes = text_of set mode.Text bytes
 
 -- the same, where they have no fault
 abbrev pub fit_characters : Result (List TextItem) TextFault → Option (List TextItem)
@@ -37,12 +37,12 @@ fit_characters (Ok items) = Some items
 fit_characters (Err _) = None
 
 -- the characters of a token that is a text
-abbrev pub read_of_kind : TokenKind → List ℕ → Option (List TextItem)
-read_of_kind kind.Text bytes = fit_characters (characters bytes)
-read_of_kind _ bytes = None
+abbrev pub read_of_kind : CharSet → TokenKind → List ℕ → Option (List TextItem)
+read_of_kind set kind.Text bytes = fit_characters (characters set bytes)
+read_of_kind set _ bytes = None
 
-abbrev pub read_of : Spelled → Option (List TextItem)
-read_of t = read_of_kind t.kind t.bytes
+abbrev pub read_of : CharSet → Spelled → Option (List TextItem)
+read_of set t = read_of_kind set t.kind t.bytes
 
 -- What is wrong with a token by itself
 

@@ -2,12 +2,10 @@
 #![tactic(auto)]
 
 mod laws;
-mod mode;
-pub mod outcome;
-mod progress;
-mod reader;
+pub mod mode;
+pub mod progress;
+pub mod reader;
 mod selection;
-pub mod session;
 mod tokens;
 
-pub use laws::{pieces_are_read, sources_are_read, sources_have_these_outcomes};
+pub use laws::{pieces_are_read, sources_are_read};

@@ -15,6 +15,8 @@ use inf_grammar::Action;
 use inf_lexer::Stack;
 use inf_report::messages::{Kind, Location};
 use inf_scanner::TokenKind;
+use inf_settings::settings::Settings;
+use inf_text::CharSet;
 use inf_unit::messages::{Messages, location};
 use inf_unit::tokens::{Spelled, is_end};
 use inf_unit::unit::{Head, name_of};
@@ -33,18 +35,18 @@ pub struct Progress {
 
 impl Progress {
     ghost use Rattle.inf_reader.specs.Reading.{bad, begun_stand, has_ended_at, judged, read_at, step};
-    ghost use Rattle.inf_reader.specs.Sessions.{reading, standing};
+    ghost use Rattle.inf_reader.specs.Standing.{reading, standing};
     ghost use Rattle.inf_unit.specs.Works.{work};
 
-    /// Before the first token. It takes no memory until something is read.
-    pub fn new(alloc: Global) -> Progress
-        ensures { standing result ≡ begun_stand }
+    /// Before the first token of sources in a character set. It takes no memory until something is read.
+    pub fn new(alloc: Global, set: CharSet, settings: &Settings) -> Progress
+        ensures { standing result ≡ begun_stand set settings.now }
     {
         Progress {
             alloc,
             reader: Reader::new(alloc),
             actions: Vec::new(alloc),
-            work: Work::new(alloc),
+            work: Work::new(alloc, set, settings),
         }
     }
 
@@ -131,12 +133,12 @@ fn gather(
 ) -> Result<(), AllocError>
     requires { IsSome (name_of (spelled token.now)) → length token.now.bytes.now ≤ 32 }
     ensures { let before = work_of work.old in OnOk result (work_of work.new
-        ≡ record before { gathered = gathering head (spelled token.now) before.gathered }) }
+        ≡ record before { gathered = gathering before.set head (spelled token.now) before.gathered }) }
 {
     if let (Some(Head::Directive(..)), TokenKind::Text) = (head, token.kind) {
         return work.gather_quoted(token.bytes);
     }
-    let text = text_of(alloc, token)?;
+    let text = text_of(alloc, work.set(), token)?;
     work.gather(name_of(token), text);
     Ok(())
 }

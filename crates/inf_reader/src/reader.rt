@@ -3,7 +3,7 @@ ghost use Rattle.std.specs.Prelude.{◌≡◌, [], IfOk, OnOk, false, true};
 ghost use Rattle.inf_grammar.specs.Language.{grammar, known};
 ghost use Rattle.inf_machine.specs.Machine.{fits, taken};
 ghost use Rattle.inf_reader.specs.Reading.{between, passed, skip_of, piece_begun};
-ghost use Rattle.inf_reader.specs.Sessions.{reading};
+ghost use Rattle.inf_reader.specs.Standing.{reading};
 ghost use Rattle.inf_reader.specs.declared.mode.Mode.TheVariants as mode;
 
 use crate::mode::{Mode, passed};

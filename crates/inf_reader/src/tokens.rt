@@ -44,14 +44,14 @@ pub fn complaint_of<'t>(token: &Spelled<'t>) -> Message<'t>
     }
 }
 
-/// The characters of a token, where it is a text.
-pub fn text_of(alloc: Global, token: &Spelled<'_>) -> Result<Option<Text>, AllocError>
-    ensures { IfOk result (λ o. o ≡ read_of (spelled token.now)) }
+/// The characters of a token of a source in a character set, where it is a text.
+pub fn text_of(alloc: Global, set: CharSet, token: &Spelled<'_>) -> Result<Option<Text>, AllocError>
+    ensures { IfOk result (λ o. o ≡ read_of set (spelled token.now)) }
 {
     if !matches!(token.kind, TokenKind::Text) {
         return Ok(None);
     }
-    match read_text(alloc, token.bytes, CharSet::Latin1, Mode::Text) {
+    match read_text(alloc, token.bytes, set, Mode::Text) {
         Ok(text) => Ok(Some(text)),
         Err(TextFault::Memory) => Err(AllocError),
         Err(TextFault::UnknownEscape | TextFault::NoZscii | TextFault::BadCode) => Ok(None),

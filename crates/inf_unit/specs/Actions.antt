@@ -1,6 +1,6 @@
 -- What the actions of the grammar do. While a unit is read they gather its parts, and at its end it acts, as a whole.
 use Rattle.std.specs.Prelude.{ℕ, List, [], ◌∷◌, ◌++◌, length, Bool, false, if◌then◌else◌, Option, Some, None, is_some, option_map}
-use Rattle.inf_characters.specs.declared.characters.CharSet.TheVariants as set
+use Rattle.inf_characters.specs.declared.characters.CharSet.{CharSet}
 use Rattle.inf_characters.specs.declared.texts.TextItem.{TextItem}
 use Rattle.inf_scanner.specs.declared.tokens.Place.{Place}
 use Rattle.inf_opcode.specs.declared.opcodes.Opcode.TheVariants as opcode
@@ -9,7 +9,10 @@ use Rattle.inf_opcode.specs.Instructions.{Parts, bare}
 use Rattle.inf_assembler.specs.declared.routines.RoutineKind.TheVariants as routine_kind
 use Rattle.inf_assembler.specs.declared.routines.Setting.{Setting as CodeSetting}
 use Rattle.inf_assembler.specs.Routines.{fresh}
+use Rattle.inf_settings.specs.Settings.{number_of}
 use Rattle.inf_settings.specs.declared.setting.Setting.{Setting}
+use Rattle.inf_settings.specs.declared.setting.Setting.TheVariants as setting
+use Rattle.inf_settings.specs.declared.settings.Settings.{Settings}
 use Rattle.inf_names.specs.Symbols.{Table, declare_fault}
 use Rattle.inf_report.specs.Messages.{UnusedLocal}
 use Rattle.inf_report.specs.OwnWords.{Words}
@@ -48,16 +51,21 @@ pub record Output : Type 0 where
   pub code : Routines
   pub is_lost : Bool
 
--- the settings: the most labels, branches and jumps of a routine, bytes of code, and references
-abbrev pub default_limits : CodeLimits
-default_limits = record { labels = 1000; code = 262144; refs = 50000 }
+-- what code may hold, as the settings say: the labels, branches and jumps of a routine, bytes, and references
+abbrev pub limits_of : Settings → CodeLimits
+limits_of settings = record {
+  labels = number_of setting.Labels settings;
+  code = number_of setting.Code settings;
+  refs = number_of setting.References settings;
+}
 
-abbrev pub no_output : Output
-no_output = record { code = no_routines default_limits; is_lost = false }
+abbrev pub no_output : Settings → Output
+no_output settings = record { code = no_routines (limits_of settings); is_lost = false }
 
--- What was compiled so far: the parts of the unit at hand, the locals of the open routine, the names of the source, the code, the
--- messages, and what a directive asks of the reading.
+-- What was compiled so far: the character set of the sources, the parts of the unit at hand, the locals of the open routine, the
+-- names of the source, the code, the messages, and what a directive asks of the reading.
 pub record Work : Type 0 where
+  pub set : CharSet
   pub gathered : Gathered
   pub locals : List Local
   pub names : Table Place
@@ -65,8 +73,17 @@ pub record Work : Type 0 where
   pub report : Reported
   pub asked : Asked
 
-abbrev pub no_work : Work
-no_work = record { gathered = nothing_gathered; locals = []; names = no_symbols; output = no_output; report = nothing_reported; asked = Nothing }
+-- before the first unit of sources in a character set
+abbrev pub no_work : CharSet → Settings → Work
+no_work set settings = record {
+  set = set;
+  gathered = nothing_gathered;
+  locals = [];
+  names = no_symbols settings;
+  output = no_output settings;
+  report = nothing_reported;
+  asked = Nothing;
+}
 
 -- The parts of a unit
 
@@ -211,13 +228,13 @@ statement_end files _ w = w
 
 -- Directives, which begin at a place
 
--- the text of the unit, whose character set is ISO Latin-1
-abbrev pub words_of : Gathered → Words
-words_of g = record { bytes = g.quoted; set = set.Latin1 }
+-- the text of the unit, in the character set of the sources
+abbrev pub words_of : CharSet → Gathered → Words
+words_of set g = record { bytes = g.quoted; set = set }
 
 abbrev pub carried_out : Directive → FileNames → Place → List Name → Work → Work
 carried_out directive.Include files unit names w = record w { gathered = record w.gathered { quoted = [] }; asked = Include w.gathered.quoted unit }
-carried_out directive.Message files unit names w = record w { report = with_words (location files unit) (weight_of names) (words_of w.gathered) w.report }
+carried_out directive.Message files unit names w = record w { report = with_words (location files unit) (weight_of names) (words_of w.set w.gathered) w.report }
 carried_out directive.End files unit names w = record w { asked = End }
 carried_out directive.SystemFile files unit names w = record w { asked = SystemFile }
 

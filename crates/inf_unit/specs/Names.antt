@@ -7,14 +7,14 @@ use Rattle.inf_names.specs.declared.meanings.Meaning.TheVariants as meaning
 use Rattle.inf_names.specs.declared.symbols.Found.{Found}
 use Rattle.inf_names.specs.declared.symbols.Found.TheVariants as found
 use Rattle.inf_report.specs.Messages.{Undeclared}
+use Rattle.inf_settings.specs.Settings.{number_of}
+use Rattle.inf_settings.specs.declared.setting.Setting.TheVariants as setting
+use Rattle.inf_settings.specs.declared.settings.Settings.{Settings}
 use Rattle.inf_unit.specs.Messages.{FileNames, Reported, location, with_error}
 
--- how many names there may be
-abbrev pub most_names : ℕ
-most_names = 10000
-
-abbrev pub no_symbols : Table Place
-no_symbols = no_names most_names false
+-- none, of which there may be as many as the settings say
+abbrev pub no_symbols : Settings → Table Place
+no_symbols settings = no_names (number_of setting.Symbols settings) false
 
 -- The place of a routine among the routines of the source, in bytes. Another name has none; it is an error, and no story comes
 -- of it.

@@ -21,6 +21,7 @@ output o = record { code = o.code; is_lost = o.is_lost }
 
 abbrev pub work : CodeWork → Work
 work w = record {
+  set = w.set;
   gathered = gathered w.gathered;
   locals = listed w.locals;
   names = w.names;

@@ -10,16 +10,15 @@ use inf_lexer::{Place, Stack};
 use inf_names::meanings::Meaning;
 use inf_names::symbols::{Found, Symbols};
 use inf_report::messages::Message;
+use inf_settings::setting::Setting;
+use inf_settings::settings::Settings;
 use std::alloc::{AllocError, Global};
 
-/// How many names there may be. No word changes it yet.
-const MOST_NAMES: u32 = 10_000;
-
-/// No names. It takes no memory until the first one comes.
-pub fn no_symbols(alloc: Global) -> Symbols<Place>
-    ensures { result ≡ no_symbols }
+/// No names, of which there may be as many as the settings say. It takes no memory until the first one comes.
+pub fn no_symbols(alloc: Global, settings: &Settings) -> Symbols<Place>
+    ensures { result ≡ no_symbols settings.now }
 {
-    Symbols::new(alloc, MOST_NAMES, false)
+    Symbols::new(alloc, settings.of(Setting::Symbols), false)
 }
 
 /// The place of the routine with which a story begins, among the routines of the source.

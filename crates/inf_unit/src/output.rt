@@ -4,24 +4,30 @@ ghost use Rattle.inf_opcode.specs.Cells.{label_count};
 ghost use Rattle.inf_opcode.specs.Instructions.{IsProper, bare, instruction_cells};
 ghost use Rattle.inf_opcode.specs.PartsOf.{parts_of};
 ghost use Rattle.inf_assembler.specs.declared.routines.GrowFault.TheVariants as grow_fault;
-ghost use Rattle.inf_assembler.specs.declared.routines.Setting.{Setting};
-ghost use Rattle.inf_unit.specs.Actions.{no_output, opened, emitted, printed, closed};
+ghost use Rattle.inf_assembler.specs.declared.routines.Setting.{Setting as CodeSetting};
+ghost use Rattle.inf_unit.specs.Actions.{limits_of, no_output, opened, emitted, printed, closed};
 ghost use Rattle.inf_unit.specs.Works.{output};
 ghost use Rattle.inf_unit.specs.Units.{printing};
 
 use crate::instructions::printing;
-use inf_assembler::{GrowFault, RoutineKind, Setting};
+use inf_assembler::{GrowFault, RoutineKind, Setting as CodeSetting};
 use inf_layout::code::{Code, CodeLimits};
 use inf_opcode::{Instruction, Opcode};
+use inf_settings::setting::Setting;
+use inf_settings::settings::Settings;
 use inf_text::{Text, pack};
 use std::alloc::{AllocError, Global};
 
-/// The settings that bound the code. No word changes them yet.
-const DEFAULT_LIMITS: CodeLimits = CodeLimits {
-    labels: 1_000,
-    code: 262_144,
-    refs: 50_000,
-};
+/// What code may hold, as the settings say.
+fn limits_of(settings: &Settings) -> CodeLimits
+    ensures { result ≡ limits_of settings.now }
+{
+    CodeLimits {
+        labels: settings.of(Setting::Labels) as usize,
+        code: settings.of(Setting::Code) as usize,
+        refs: settings.of(Setting::References) as usize,
+    }
+}
 
 /// The finished routines, and the open one.
 ///
@@ -35,12 +41,12 @@ pub struct Output {
 }
 
 impl Output {
-    /// No code. It takes no memory until the first routine is opened.
-    pub fn new(alloc: Global) -> Output
-        ensures { output result ≡ no_output }
+    /// No code, which may hold as much as the settings say. It takes no memory until the first routine is opened.
+    pub fn new(alloc: Global, settings: &Settings) -> Output
+        ensures { output result ≡ no_output settings.now }
     {
         Output {
-            code: Code::new(alloc, DEFAULT_LIMITS),
+            code: Code::new(alloc, limits_of(settings)),
             is_lost: false,
         }
     }
@@ -51,7 +57,7 @@ impl Output {
         alloc: Global,
         locals: u8,
         is_lost: bool,
-    ) -> Result<Option<Setting>, AllocError>
+    ) -> Result<Option<CodeSetting>, AllocError>
         requires { locals ≤ 15 }
         ensures output { IfOk result (λ _. output self.new ≡ (opened locals is_lost (output self.old)).output) }
         ensures full { IfOk result (λ full. full ≡ (opened locals is_lost (output self.old)).full) }
@@ -61,7 +67,7 @@ impl Output {
     }
 
     /// Appends an instruction without a branch or jump to the open routine, if there is one.
-    pub fn emit(&mut self, instruction: &Instruction<'_>) -> Result<Option<Setting>, AllocError>
+    pub fn emit(&mut self, instruction: &Instruction<'_>) -> Result<Option<CodeSetting>, AllocError>
         requires proper { IsProper (parts_of instruction.now) }
         requires straight { label_count (instruction_cells (parts_of instruction.now)) ≡ 0 }
         ensures output { IfOk result (λ _. output self.new ≡ (emitted (parts_of instruction.now) (output self.old)).output) }
@@ -71,7 +77,7 @@ impl Output {
     }
 
     /// Appends the instruction of an opcode alone, which has no branch or jump.
-    pub fn emit_bare(&mut self, opcode: Opcode) -> Result<Option<Setting>, AllocError>
+    pub fn emit_bare(&mut self, opcode: Opcode) -> Result<Option<CodeSetting>, AllocError>
         requires proper { IsProper (bare opcode) }
         requires straight { label_count (instruction_cells (bare opcode)) ≡ 0 }
         ensures output { IfOk result (λ _. output self.new ≡ (emitted (bare opcode) (output self.old)).output) }
@@ -85,7 +91,7 @@ impl Output {
         &mut self,
         alloc: Global,
         texts: &[Text],
-    ) -> Result<Option<Setting>, AllocError>
+    ) -> Result<Option<CodeSetting>, AllocError>
         ensures output { IfOk result (λ _. output self.new ≡ (printed texts.now (output self.old)).output) }
         ensures full { IfOk result (λ full. full ≡ (printed texts.now (output self.old)).full) }
     {
@@ -98,7 +104,7 @@ impl Output {
     }
 
     /// Appends the instruction that prints a text (Z-Machine Standard 1.1, section 4.8).
-    fn print(&mut self, alloc: Global, text: &Text) -> Result<Option<Setting>, AllocError>
+    fn print(&mut self, alloc: Global, text: &Text) -> Result<Option<CodeSetting>, AllocError>
         ensures output { IfOk result (λ _. output self.new ≡ (emitted (printing text.now) (output self.old)).output) }
         ensures full { IfOk result (λ full. full ≡ (emitted (printing text.now) (output self.old)).full) }
     {
@@ -107,7 +113,7 @@ impl Output {
     }
 
     /// Finishes the open routine, if there is one. Its code stays unless its header had an error.
-    pub fn close(&mut self) -> Result<Option<Setting>, AllocError>
+    pub fn close(&mut self) -> Result<Option<CodeSetting>, AllocError>
         ensures output { IfOk result (λ _. output self.new ≡ (closed (output self.old)).output) }
         ensures full { IfOk result (λ full. full ≡ (closed (output self.old)).full) }
     {
@@ -120,9 +126,9 @@ impl Output {
 }
 
 /// The setting for which code did not grow, if any. Else it grew, or no memory was left.
-fn full_in(grown: Result<(), GrowFault>) -> Result<Option<Setting>, AllocError>
+fn full_in(grown: Result<(), GrowFault>) -> Result<Option<CodeSetting>, AllocError>
     ensures full { IfOk result (λ full. MatchResult grown (λ _. full ≡ None)
-        (λ fault. (setting : Setting) × (full ≡ Some setting) × (fault ≡ grow_fault.Full setting))) }
+        (λ fault. (setting : CodeSetting) × (full ≡ Some setting) × (fault ≡ grow_fault.Full setting))) }
     ensures memory { OnErr result (grown ≡ Err grow_fault.Memory) }
 {
     match grown {

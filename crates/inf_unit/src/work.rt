@@ -28,6 +28,7 @@ use inf_opcode::Opcode;
 use inf_report::messages::{Countable, Message};
 use inf_report::own_words::OwnWords;
 use inf_settings::setting::Setting;
+use inf_settings::settings::Settings;
 use inf_symbol::locals::{Headed, Locals, Repeated};
 use inf_symbol::spellings::Name;
 use inf_text::{CharSet, Text};
@@ -102,6 +103,8 @@ impl Gathered {
 #[derive(Drop)]
 pub struct Work {
     alloc: Global,
+    /// The character set of the sources.
+    set: CharSet,
     gathered: Gathered,
     /// The locals of the routine that was opened last.
     locals: Locals,
@@ -117,19 +120,27 @@ impl Work {
     ghost use Rattle.inf_unit.specs.Directives.{Nothing, Include, asked, weight_of};
     ghost use Rattle.inf_unit.specs.Works.{gathered, unit, work};
 
-    /// Before the first unit. It takes no memory until something is read.
-    pub fn new(alloc: Global) -> Work
-        ensures { work result ≡ no_work }
+    /// Before the first unit of sources in a character set. It takes no memory until something is read.
+    pub fn new(alloc: Global, set: CharSet, settings: &Settings) -> Work
+        ensures { work result ≡ no_work set settings.now }
     {
         Work {
             alloc,
+            set,
             gathered: Gathered::new(alloc),
             locals: Locals::new(),
-            names: no_symbols(alloc),
-            output: Output::new(alloc),
+            names: no_symbols(alloc, settings),
+            output: Output::new(alloc, settings),
             report: Messages::new(alloc),
             asked: Asked::Nothing,
         }
+    }
+
+    /// The character set of the sources.
+    pub fn set(&self) -> CharSet
+        ensures { result ≡ (work self.now).set }
+    {
+        self.set
     }
 
     /// A token was taken, which is this name, or has these characters, if it is a name or a text.
@@ -310,12 +321,12 @@ impl Work {
     /// Tells the text of the unit, by the weight that its names say.
     fn message(&mut self, files: &Stack, unit: Place, names: &[Name]) -> Result<(), AllocError>
         ensures { let before = work self.old in OnOk result (work self.new ≡ record before {
-          report = with_words (location files.now.names unit) (weight_of (map as_name names.now)) (words_of before.gathered) before.report;
+          report = with_words (location files.now.names unit) (weight_of (map as_name names.now)) (words_of before.set before.gathered) before.report;
         }) }
     {
         let words = OwnWords {
             bytes: self.gathered.quoted.as_slice(),
-            set: CharSet::Latin1,
+            set: self.set,
         };
         self.report
             .words(location(files, unit), weight_of(names), words)
