@@ -9,35 +9,47 @@ use Rattle.inf_scanner.specs.declared.tokens.Place.{Place}
 use Rattle.inf_names.specs.SystemNames.{meaning_if, name_of, system_meaning, system_names}
 use Rattle.inf_names.specs.Symbols.{IsDeclared, IsUsed, Named, Standing, Table, declare_fault, declare_fault_by, folded, found_as, found_in, is_full, no_names, put, refer_fault, refer_fault_by, standing_of, with_declared, with_used_by}
 use Rattle.inf_names.specs.declared.meanings.Meaning.{Meaning}
-use Rattle.inf_names.specs.declared.meanings.Meaning.TheVariants as meaning
 use Rattle.inf_names.specs.declared.symbols.DeclareFault.{DeclareFault}
 use Rattle.inf_names.specs.declared.symbols.Found.{Found}
 use Rattle.inf_names.specs.declared.symbols.Found.TheVariants as found
 use Rattle.inf_names.specs.declared.symbols.ReferFault.{ReferFault}
 use Rattle.inf_names.proofs.Putting.{length-put}
 use Rattle.inf_report.specs.Messages.{Undeclared}
+use Rattle.inf_symbol.specs.Spellings.{Name}
 use Rattle.inf_unit.specs.Messages.{FileNames, Reported, location, with_error}
-use Rattle.inf_unit.specs.Names.{with_all_undeclared, with_undeclared}
-use Rattle.inf_unit.specs.Units.{name_full, used, with_name}
-use Rattle.inf_laws.specs.NameEvents.{Declares, Event, FirstDeclarationsCount, FewHaveRoom, HaveRoom, HeadersDeclare, OperandsUse, UndeclaredAreTold, Use, Uses, declares, first_declaration, is_too_many, stands_for, undeclared_use, undeclared_uses, uses, with_event, with_events, with_uses_told}
+use Rattle.inf_unit.specs.Names.{constant_in, with_all_undeclared, with_undeclared}
+use Rattle.inf_unit.specs.Units.{name_full, used, with_constant_by, with_name}
+use Rattle.inf_laws.specs.NameEvents.{Declares, Event, FirstDeclarationsCount, FewHaveRoom, HaveRoom, OperandsUse, UndeclaredAreTold, UnitsDeclare, Use, Uses, declares, first_declaration, is_too_many, stands_for, undeclared_use, undeclared_uses, uses, with_event, with_events, with_uses_told}
 use Rattle.inf_laws.proofs.Choices.{cond-again, cond-swap, either, or-assoc, or-false, or-known}
 use Rattle.inf_laws.proofs.SameNames.{bytes_eq-sym, key_same, same_key}
 
 -- What the compiler does is an event
 
-pub headers_declare : HeadersDeclare
-headers_declare n at t = go (declare_fault n.bytes t)
+pub units_declare : UnitsDeclare
+units_declare n m t = go (declare_fault n.bytes t)
   where
-    go : (o : Option (DeclareFault Place)) → with_name n at o t ≡ cond (is_some o) t (with_declared n.bytes n.place (meaning.Routine at) t)
+    go : (o : Option (DeclareFault Place)) → with_name n m o t ≡ cond (is_some o) t (with_declared n.bytes n.place m t)
     go None = refl
     go (Some fault) = refl
 
+-- a constant is known as before
+constant_stays : (f : Found Place) (number : ℕ) (n : Name) (t : Table Place) → constant_in f ≡ Some number
+    → t ≡ cond (is_some (refer_fault_by f (is_full t))) t (with_used_by f n.bytes n.place t)
+constant_stays (found.System m) number n t is = cc
+constant_stays (found.Declared m place) number n t is = refl
+constant_stays found.Used number n t is = cc
+constant_stays found.Unknown number n t is = cc
+
 pub operands_use : OperandsUse
-operands_use n o = go (refer_fault n.bytes o.names)
+operands_use n o = by_constant (constant_in (found_in n.bytes o.names)) refl
   where
     go : (r : Option ReferFault) → (used r n o).names ≡ cond (is_some r) o.names (with_used_by (found_in n.bytes o.names) n.bytes n.place o.names)
     go None = refl
     go (Some fault) = refl
+
+    by_constant : (c : Option ℕ) → constant_in (found_in n.bytes o.names) ≡ c → (with_constant_by c n o).names ≡ with_event (Uses n.bytes n.place) o.names
+    by_constant None is = go (refer_fault n.bytes o.names)
+    by_constant (Some number) is = constant_stays (found_in n.bytes o.names) number n o.names is
 
 -- Room for names
 

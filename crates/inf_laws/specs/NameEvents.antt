@@ -6,7 +6,6 @@ use Rattle.inf_scanner.specs.declared.tokens.Place.{Place}
 use Rattle.inf_names.specs.SystemNames.{system_meaning}
 use Rattle.inf_names.specs.Symbols.{Table, declare_fault, found_in, no_names, refer_fault, with_declared, with_used}
 use Rattle.inf_names.specs.declared.meanings.Meaning.{Meaning}
-use Rattle.inf_names.specs.declared.meanings.Meaning.TheVariants as meaning
 use Rattle.inf_names.specs.declared.symbols.Found.{Found}
 use Rattle.inf_names.specs.declared.symbols.Found.TheVariants as found
 use Rattle.inf_report.specs.Messages.{Undeclared}
@@ -43,10 +42,11 @@ HaveRoom (e ∷ events) t = (is_too_many e t ≡ false) × HaveRoom events (with
 abbrev pub FewHaveRoom : Type 0
 FewHaveRoom = (limit : ℕ) (debugging : Bool) (events : List Event) → length events ≤ limit → HaveRoom events (no_names limit debugging)
 
--- The header of a routine at a place in the code is such an event, and so is an operand that is no local.
-abbrev pub HeadersDeclare : Type 0
-HeadersDeclare = (n : Name) (at : ℕ) (t : Table Place)
-    → with_name n at (declare_fault n.bytes t) t ≡ with_event (Declares n.bytes (meaning.Routine at) n.place) t
+-- What a name is declared with is such an event: the place of a routine, by its header, or the number of a constant. So is an operand
+-- that is no local.
+abbrev pub UnitsDeclare : Type 0
+UnitsDeclare = (n : Name) (stands_for : Meaning) (t : Table Place)
+    → with_name n stands_for (declare_fault n.bytes t) t ≡ with_event (Declares n.bytes stands_for n.place) t
 
 abbrev pub OperandsUse : Type 0
 OperandsUse = (n : Name) (o : Operands) → (with_operand_by None n o).names ≡ with_event (Uses n.bytes n.place) o.names

@@ -1,7 +1,7 @@
 //! What the definitions give together.
 ghost use Rattle.inf_laws.specs.BadTokens.{BadTokensArePassedOver};
 ghost use Rattle.inf_laws.specs.Findings.{CallsTellTheFirst, HeadersTellTheFirst, ReturnsTellTheFirst};
-ghost use Rattle.inf_laws.specs.NameEvents.{FewHaveRoom, FirstDeclarationsCount, HeadersDeclare, OperandsUse, UndeclaredAreTold};
+ghost use Rattle.inf_laws.specs.NameEvents.{FewHaveRoom, FirstDeclarationsCount, OperandsUse, UndeclaredAreTold, UnitsDeclare};
 ghost use Rattle.inf_laws.specs.Skipping.{DirectivesAreSkipped, RoutinesAreSkipped, SourcesEnd};
 ghost use Rattle.inf_laws.specs.UnusedLocals.{HeadersMakeNew, UnusedAreWarned};
 
@@ -20,11 +20,11 @@ pub fn undeclared_names_are_told_once()
 {}
 
 /// What a name stands for is what the language has, or else its first declaration, whatever else is
-/// declared and used, as long as there is room for the names. Headers declare names and operands use
-/// them. There is room where there may be as many names as there are events.
+/// declared and used, as long as there is room for the names. Headers and constants declare names, and
+/// operands use them. There is room where there may be as many names as there are events.
 pub fn first_declarations_count()
     ensures count { FirstDeclarationsCount }
-    ensures headers { HeadersDeclare }
+    ensures declares { UnitsDeclare }
     ensures operands { OperandsUse }
     ensures room { FewHaveRoom }
 {}

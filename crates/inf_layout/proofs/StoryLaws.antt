@@ -5,7 +5,7 @@ use Rattle.byteorder.specs.Endian.{big_bytes}
 use Rattle.inf_layout.specs.Areas.{fill, gap}
 use Rattle.inf_layout.specs.Fixed.{repeated, fixed_bytes, header_front, header_sizes, header_bytes, start_bytes, code_bytes as routines_bytes, body_bytes, story_bytes}
 use Rattle.inf_layout.specs.Code.{code_bytes}
-use Rattle.inf_layout.specs.Addresses.{packed_address}
+use Rattle.inf_layout.specs.Addresses.{number_of}
 use Rattle.inf_layout.specs.StoryLaws.{TellsItself, StoriesTellThemselves}
 use Rattle.inf_layout.proofs.Fixed.{story_is}
 
@@ -64,5 +64,5 @@ bytes_tell_themselves serial main routines six =
     with_six (λ s. TellsItself (whole s (body_bytes main routines))) (six_told (body_bytes main routines) (body_length main routines)) serial six
 
 pub stories_tell_themselves : StoriesTellThemselves
-stories_tell_themselves serial main places code six =
-    subst TellsItself (sym (story_is serial main places code)) (bytes_tell_themselves serial main (code_bytes (map packed_address places) code) six)
+stories_tell_themselves serial main values code six =
+    subst TellsItself (sym (story_is serial main values code)) (bytes_tell_themselves serial main (code_bytes (map number_of values) code) six)

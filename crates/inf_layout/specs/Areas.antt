@@ -4,6 +4,8 @@ use Rattle.std.specs.Prelude.{ℕ, ◌+◌, ◌-◌, ◌/◌, ◌%◌, List, [],
 use Rattle.std.specs.List.{flat_map}
 use Rattle.byteorder.specs.Endian.{big_bytes}
 use Rattle.inf_text.specs.Packing.{packed}
+use Rattle.inf_area.specs.Words.{word as two_bytes}
+use Rattle.inf_layout.specs.Addresses.{Value, Number, RoutineAt}
 use Rattle.inf_layout.specs.Code.{CodeCell, Known, Awaited}
 use Rattle.inf_characters.specs.declared.texts.TextItem.TheVariants.{Character}
 
@@ -160,24 +162,25 @@ with_fixed_areas behind =
     ∷ area Dictionary (bytes_cells dictionary)
     ∷ behind
 
--- Where a routine lies whose place among the routines of the source is given, packed. Behind a number that no name has, which
--- no source makes, stands 0.
-abbrev pub routine_cell : Option ℕ → List Cell
-routine_cell (Some place) = Reference Code (8 + place) 4 ∷ []
-routine_cell None = bytes_cells (0 ∷ 0 ∷ [])
+-- What stands for a name: its number, or where its routine lies, packed. For a number that no name has, which no source makes,
+-- stands 0.
+abbrev pub value_cells : Option Value → List Cell
+value_cells (Some (Number number)) = bytes_cells (two_bytes number)
+value_cells (Some (RoutineAt place)) = Reference Code (8 + place) 4 ∷ []
+value_cells None = bytes_cells (0 ∷ 0 ∷ [])
 
--- a cell of the code, with the places of the routines of all names
-abbrev pub cells_of : List ℕ → CodeCell → List Cell
-cells_of places (Known byte) = Byte byte ∷ []
-cells_of places (Awaited r) = routine_cell (slice_get places r.number)
+-- a cell of the code, with what all names are
+abbrev pub cells_of : List Value → CodeCell → List Cell
+cells_of values (Known byte) = Byte byte ∷ []
+cells_of values (Awaited r) = value_cells (slice_get values r.number)
 
 -- The code with the routines of the source, the first routine calling the one at a place among them, and the strings.
 -- Both begin at multiples of 4 (section 1.2.3).
-abbrev pub code_areas : ℕ → List ℕ → List CodeCell → List Area
-code_areas main places code =
-    record { name = Code; alignment = 4; cells = start_routine (8 + main) ++ flat_map (cells_of places) code }
+abbrev pub code_areas : ℕ → List Value → List CodeCell → List Area
+code_areas main values code =
+    record { name = Code; alignment = 4; cells = start_routine (8 + main) ++ flat_map (cells_of values) code }
     ∷ record { name = Strings; alignment = 4; cells = [] }
     ∷ []
 
-abbrev pub areas : ℕ → List ℕ → List CodeCell → List Area
-areas main places code = with_fixed_areas (code_areas main places code)
+abbrev pub areas : ℕ → List Value → List CodeCell → List Area
+areas main values code = with_fixed_areas (code_areas main values code)

@@ -1,5 +1,6 @@
 -- The story file: its header, and the bytes of its areas. Z-Machine Standard 1.1, section 11.
 use Rattle.std.specs.Prelude.{ℕ, ◌+◌, ◌/◌, ◌%◌, List, ◌∷◌, ◌++◌, length, replicate, sum, Bool, nat_lt}
+use Rattle.inf_layout.specs.Addresses.{Value}
 use Rattle.inf_layout.specs.Code.{CodeCell}
 use Rattle.inf_layout.specs.Areas.{AreaName, AbbreviationWords, PropertyDefaults, Globals, Grammar, Dictionary, Code, base_from, bytes_from, areas, word}
 
@@ -33,19 +34,19 @@ header base serial body =
     ++ (word ((header_size + length body) / 4) ++ word (checksum body))
     ++ replicate 34 0
 
--- where each area of a story lies, with the routine at a place called first, the places of all names and the code
-abbrev pub base_of : ℕ → List ℕ → List CodeCell → AreaName → ℕ
-base_of main places code name = base_from header_size (areas main places code) name
+-- where each area of a story lies, with the routine at a place called first, what all names are and the code
+abbrev pub base_of : ℕ → List Value → List CodeCell → AreaName → ℕ
+base_of main values code name = base_from header_size (areas main values code) name
 
 -- the bytes behind the header
-unfoldable pub body : ℕ → List ℕ → List CodeCell → List ℕ
-body main places code = bytes_from (base_of main places code) header_size (areas main places code)
+unfoldable pub body : ℕ → List Value → List CodeCell → List ℕ
+body main values code = bytes_from (base_of main values code) header_size (areas main values code)
 
 -- the story
-unfoldable pub story : List ℕ → ℕ → List ℕ → List CodeCell → List ℕ
-story serial main places code =
-    let behind = body main places code in header (base_of main places code) serial behind ++ behind
+unfoldable pub story : List ℕ → ℕ → List Value → List CodeCell → List ℕ
+story serial main values code =
+    let behind = body main values code in header (base_of main values code) serial behind ++ behind
 
 -- a story that would be longer than a story may be
-abbrev pub is_too_long : ℕ → List ℕ → List CodeCell → Bool
-is_too_long main places code = nat_lt most_bytes (header_size + length (body main places code))
+abbrev pub is_too_long : ℕ → List Value → List CodeCell → Bool
+is_too_long main values code = nat_lt most_bytes (header_size + length (body main values code))

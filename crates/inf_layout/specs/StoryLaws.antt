@@ -1,6 +1,7 @@
 -- What the header of a story says of the story.
 use Rattle.std.specs.Prelude.{◌≡◌, ℕ, ◌/◌, ◌%◌, List, length, take, drop, sum}
 use Rattle.byteorder.specs.Endian.{big_bytes}
+use Rattle.inf_layout.specs.Addresses.{Value}
 use Rattle.inf_layout.specs.Code.{CodeCell}
 use Rattle.inf_layout.specs.Story.{story}
 
@@ -17,4 +18,4 @@ pub record TellsItself (bytes : List ℕ) : Type 0 where
 
 -- each story with a serial number of six digits, whatever its routines are
 abbrev pub StoriesTellThemselves : Type 0
-StoriesTellThemselves = (serial : List ℕ) (main : ℕ) (places : List ℕ) (code : List CodeCell) → length serial ≡ 6 → TellsItself (story serial main places code)
+StoriesTellThemselves = (serial : List ℕ) (main : ℕ) (values : List Value) (code : List CodeCell) → length serial ≡ 6 → TellsItself (story serial main values code)

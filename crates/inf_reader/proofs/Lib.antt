@@ -2,3 +2,4 @@ pub mod Misfits
 pub mod Turns
 pub mod PieceLaws
 pub mod ReadingLaws
+pub mod Constants

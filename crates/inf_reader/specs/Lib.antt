@@ -5,3 +5,4 @@ pub mod Reading
 pub mod Pieces
 pub mod Standing
 pub mod ReadingLaws
+pub mod Constants

@@ -7,14 +7,14 @@ use Rattle.inf_characters.specs.declared.characters.CharSet.{CharSet}
 use Rattle.inf_scanner.specs.declared.tokens.Mark.TheVariants as mark
 use Rattle.inf_scanner.specs.declared.tokens.TokenKind.{TokenKind}
 use Rattle.inf_scanner.specs.declared.tokens.TokenKind.TheVariants as kind
-use Rattle.inf_settings.specs.Settings.{number_of}
+use Rattle.inf_settings.specs.Settings.{number_of as setting_number}
 use Rattle.inf_settings.specs.declared.setting.Setting.TheVariants.{QuotedText}
 use Rattle.inf_settings.specs.declared.settings.Settings.{Settings}
 use Rattle.inf_report.specs.Messages.{Location, Message, kind_of}
 use Rattle.inf_report.specs.declared.messages.Kind.{Kind}
 use Rattle.inf_report.specs.declared.messages.Kind.TheVariants as weight
 use Rattle.inf_unit.specs.Messages.{FileNames, Reported, location, with_error, with_fatal}
-use Rattle.inf_unit.specs.Tokens.{Spelled, is_end, is_mark}
+use Rattle.inf_unit.specs.Tokens.{Spelled, is_end, is_mark, number_of}
 use Rattle.inf_grammar.specs.declared.actions.Action.{Action}
 use Rattle.inf_machine.specs.declared.symbols.Symbol.{Symbol}
 use Rattle.inf_machine.specs.declared.symbols.Symbol.TheVariants.{Rule}
@@ -60,7 +60,7 @@ begun_stand set settings = record { reading = between mode.Reads; work = no_work
 -- before the first turn all of the source is still to come; the settings say how many bytes a text or quote may have
 abbrev pub start : CharSet → Settings → List ℕ → State
 start set settings source = record {
-  cursor = front set (number_of QuotedText settings) 0 source;
+  cursor = front set (setting_number QuotedText settings) 0 source;
   reading = between mode.Reads;
   work = no_work set settings;
 }
@@ -117,8 +117,8 @@ is_quoted _ _ = false
 -- what is gathered behind a token that was taken, of a unit that begins so, in a character set
 abbrev pub gathering : CharSet → Option Head → Spelled → Gathered → Gathered
 gathering set h t g =
-    if is_quoted h t.kind then record g { named = None; read = None; quoted = t.bytes }
-    else record g { named = name_of t; read = read_of set t }
+    if is_quoted h t.kind then record g { named = None; read = None; number = None; quoted = t.bytes }
+    else record g { named = name_of t; read = read_of set t; number = number_of t.kind }
 
 -- A token that fits is taken: first the actions on the way to it act.
 abbrev pub took : FileNames → Spelled → Reading → Work → Stand

@@ -3,20 +3,22 @@
 -- has come, and a statement if it is one of these:
 --     ";" | "print" Text {"," Text} ";" | ("new_line" | "quit" | "rtrue" | "rfalse") ";" | "return" [Name] ";"
 --     | Name "(" [Name {"," Name}] ")" ";"
--- A token that would lead to anything else is bad. So the words of all statements are keywords where a statement begins.
-use Rattle.std.specs.Prelude.{ℕ, List, [], ◌∷◌, codes, Bool, true, false, not, ◌||◌, ◌&&◌, if◌then◌else◌, Option, Some, None}
+-- and a constant is `"Constant" Name [["="] Number] ";"`. A token that would lead to anything else is bad. So the words of all statements are keywords where a statement begins.
+use Rattle.std.specs.Prelude.{ℕ, List, [], ◌∷◌, codes, Bool, true, false, not, ◌||◌, ◌&&◌, if◌then◌else◌, Option, Some, None, is_some}
 use Rattle.std.specs.List.{list_any}
 use Rattle.std.specs.Str.{str_eq_ignore_ascii_case}
 use Rattle.inf_scanner.specs.declared.tokens.Mark.TheVariants as mark
 use Rattle.inf_scanner.specs.declared.tokens.TokenKind.{TokenKind}
 use Rattle.inf_scanner.specs.declared.tokens.TokenKind.TheVariants as kind
-use Rattle.inf_unit.specs.Tokens.{Spelled, is_mark}
+use Rattle.inf_unit.specs.Tokens.{Spelled, is_mark, number_of}
+use Rattle.inf_unit.specs.declared.directives.Directive.{Directive}
+use Rattle.inf_unit.specs.declared.directives.Directive.TheVariants as directive
 use Rattle.inf_unit.specs.Statements.{Unit, no_unit, unit_behind}
 use Rattle.inf_unit.specs.declared.unit.Head.{Head}
 use Rattle.inf_unit.specs.declared.unit.Head.TheVariants as head
 use Rattle.inf_unit.specs.declared.unit.Statement.{Statement}
 use Rattle.inf_unit.specs.declared.unit.Statement.TheVariants as statement
-use Rattle.inf_reader.specs.Tests.{is_operand}
+use Rattle.inf_reader.specs.Tests.{is_name, is_operand}
 
 -- the words of the statements that have not come
 abbrev pub later_words : List (List ℕ)
@@ -58,7 +60,7 @@ goes_on _ u t = is_mark mark.Semicolon t.kind
 
 -- the words of the directives that have come
 abbrev pub directive_words : List (List ℕ)
-directive_words = codes "include" ∷ codes "message" ∷ codes "end" ∷ codes "system_file" ∷ []
+directive_words = codes "include" ∷ codes "message" ∷ codes "end" ∷ codes "constant" ∷ codes "system_file" ∷ []
 
 abbrev pub is_directive_word : List ℕ → Bool
 is_directive_word bytes = list_any (λ word. str_eq_ignore_ascii_case bytes word) directive_words
@@ -76,11 +78,22 @@ begins_piece t = begins_piece_by t.kind t.bytes
 abbrev pub begins_unit : Unit → Spelled → Bool
 begins_unit u t = if u.is_outer then begins_piece t else begins_statement t.kind t.bytes
 
--- whether a token may go on with a unit that begins so, as far as what has come goes; in a header and a directive all may
+-- right behind `Constant` only a name has come, behind a number only the end
+abbrev pub goes_on_constant : Unit → Spelled → Bool
+goes_on_constant u t =
+    if not u.has_more then is_name t.kind else
+    if u.is_numbered then is_mark mark.Semicolon t.kind
+    else is_some (number_of t.kind) || is_mark mark.Assign t.kind || is_mark mark.Semicolon t.kind
+
+abbrev pub goes_on_directive : Directive → Unit → Spelled → Bool
+goes_on_directive directive.Constant u t = goes_on_constant u t
+goes_on_directive _ u t = true
+
+-- whether a token may go on with a unit that begins so, as far as what has come goes; in a header all may
 abbrev pub has_come_behind : Option Head → Unit → Spelled → Bool
 has_come_behind None u t = begins_unit u t
 has_come_behind (Some (head.Header place)) u t = true
-has_come_behind (Some (head.Directive d place)) u t = true
+has_come_behind (Some (head.Directive d place)) u t = goes_on_directive d u t
 has_come_behind (Some (head.Statement s place)) u t = goes_on s u t
 
 abbrev pub has_come : Unit → Spelled → Bool

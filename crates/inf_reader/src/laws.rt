@@ -1,4 +1,5 @@
 //! What the definitions give together.
+ghost use Rattle.inf_reader.specs.Constants.{ConstantsAreRefused, NumbersAreKnown, NumbersAreWritten};
 ghost use Rattle.inf_reader.specs.Pieces.{FaultyTokensFitNothing, FrontsBegin, PiecesAreRead, PiecesBegin, TurnsAreRead};
 ghost use Rattle.inf_reader.specs.ReadingLaws.{SourcesAreRead};
 
@@ -15,4 +16,11 @@ pub fn pieces_are_read()
     ensures pieces_begin { PiecesBegin }
     ensures fronts_begin { FrontsBegin }
     ensures faulty_tokens_fit_nothing { FaultyTokensFitNothing }
+{}
+
+/// The numbers of some constants, and what is wrong with others.
+pub fn constants_have_these_numbers()
+    ensures known { NumbersAreKnown }
+    ensures written { NumbersAreWritten }
+    ensures refused { ConstantsAreRefused }
 {}

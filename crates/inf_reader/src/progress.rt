@@ -18,7 +18,7 @@ use inf_scanner::TokenKind;
 use inf_settings::settings::Settings;
 use inf_text::CharSet;
 use inf_unit::messages::{Messages, location};
-use inf_unit::tokens::{Spelled, is_end};
+use inf_unit::tokens::{Spelled, is_end, number_of};
 use inf_unit::unit::{Head, name_of};
 use inf_unit::work::Work;
 use std::alloc::{AllocError, Global};
@@ -139,7 +139,7 @@ fn gather(
         return work.gather_quoted(token.bytes);
     }
     let text = text_of(alloc, work.set(), token)?;
-    work.gather(name_of(token), text);
+    work.gather(name_of(token), text, number_of(token.kind));
     Ok(())
 }
 

@@ -2,13 +2,14 @@
 ghost use Rattle.std.specs.Prelude.{◌≡◌};
 ghost use Rattle.std.specs.List.{list_any};
 ghost use Rattle.std.specs.Str.{str_eq_ignore_ascii_case};
-ghost use Rattle.inf_reader.specs.Selection.{is_directive_word, is_later_word, begins_statement, begins_unit, goes_on, goes_on_print, goes_on_call, has_come, begins_piece};
+ghost use Rattle.inf_reader.specs.Selection.{is_directive_word, is_later_word, begins_statement, begins_unit, goes_on, goes_on_constant, goes_on_directive, goes_on_print, goes_on_call, has_come, begins_piece};
 ghost use Rattle.inf_unit.specs.Works.{unit};
 ghost use Rattle.inf_unit.specs.Tokens.{spelled};
 
 use crate::tokens::is_operand;
 use inf_scanner::{Mark, TokenKind};
-use inf_unit::tokens::{Spelled, is_mark};
+use inf_unit::directives::Directive;
+use inf_unit::tokens::{Spelled, is_mark, number_of};
 use inf_unit::unit::{Head, Statement, Unit};
 
 /// The words of the statements that have not come.
@@ -33,7 +34,7 @@ const LATER_WORDS: [&str; 17] = [
 ];
 
 /// The words of the directives that have come.
-const DIRECTIVE_WORDS: [&str; 4] = ["include", "message", "end", "system_file"];
+const DIRECTIVE_WORDS: [&str; 5] = ["include", "message", "end", "constant", "system_file"];
 
 /// Whether a token begins a piece of a source that has come: it is a semicolon alone, the bracket of a
 /// routine, the word of a directive, or a `#` before these.
@@ -101,9 +102,36 @@ pub fn has_come(at_hand: &Unit, token: &Spelled<'_>) -> bool
 {
     match at_hand.head {
         None => begins_unit(at_hand, token),
-        Some(Head::Header(_) | Head::Directive(..)) => true,
+        Some(Head::Header(_)) => true,
+        Some(Head::Directive(directive, _)) => goes_on_directive(directive, at_hand, token),
         Some(Head::Statement(statement, _)) => goes_on(statement, at_hand, token),
     }
+}
+
+/// Whether a token may go on with a directive.
+fn goes_on_directive(directive: Directive, at_hand: &Unit, token: &Spelled<'_>) -> bool
+    ensures { result ≡ goes_on_directive directive (unit at_hand.now) (spelled token.now) }
+{
+    match directive {
+        Directive::Constant => goes_on_constant(at_hand, token),
+        Directive::Include | Directive::Message | Directive::End | Directive::SystemFile => true,
+    }
+}
+
+/// Whether a token may go on with a constant: right behind the word only a name may, and behind a
+/// number only the end.
+fn goes_on_constant(at_hand: &Unit, token: &Spelled<'_>) -> bool
+    ensures { result ≡ goes_on_constant (unit at_hand.now) (spelled token.now) }
+{
+    if !at_hand.has_more {
+        return matches!(token.kind, TokenKind::Name);
+    }
+    if at_hand.is_numbered {
+        return is_mark(token.kind, Mark::Semicolon);
+    }
+    number_of(token.kind).is_some()
+        || is_mark(token.kind, Mark::Assign)
+        || is_mark(token.kind, Mark::Semicolon)
 }
 
 /// Whether a token may go on with a statement.

@@ -1,5 +1,5 @@
 -- What the actions of the grammar do. While a unit is read they gather its parts, and at its end it acts, as a whole.
-use Rattle.std.specs.Prelude.{ℕ, List, [], ◌∷◌, ◌++◌, length, Bool, false, if◌then◌else◌, Option, Some, None, is_some, option_map}
+use Rattle.std.specs.Prelude.{ℕ, List, [], ◌∷◌, ◌++◌, length, Bool, false, if◌then◌else◌, Option, Some, None, is_some, option_map, unwrap_or}
 use Rattle.inf_characters.specs.declared.characters.CharSet.{CharSet}
 use Rattle.inf_characters.specs.declared.texts.TextItem.{TextItem}
 use Rattle.inf_scanner.specs.declared.tokens.Place.{Place}
@@ -14,6 +14,7 @@ use Rattle.inf_settings.specs.declared.setting.Setting.{Setting}
 use Rattle.inf_settings.specs.declared.setting.Setting.TheVariants as setting
 use Rattle.inf_settings.specs.declared.settings.Settings.{Settings}
 use Rattle.inf_names.specs.Symbols.{Table, declare_fault}
+use Rattle.inf_names.specs.declared.meanings.Meaning.TheVariants as meaning
 use Rattle.inf_report.specs.Messages.{UnusedLocal}
 use Rattle.inf_report.specs.OwnWords.{Words}
 use Rattle.inf_symbol.specs.Spellings.{Name}
@@ -34,17 +35,18 @@ use Rattle.inf_unit.specs.declared.unit.Head.TheVariants as head
 use Rattle.inf_unit.specs.declared.unit.Statement.{Statement}
 use Rattle.inf_unit.specs.declared.unit.Statement.TheVariants as statement
 
--- What the unit at hand gathered: its operands, its texts, and its last token: the name, if it is one, and the characters, if it
--- is a text; of a text of a directive the bytes between its quotes.
+-- What the unit at hand gathered: its operands, its texts, and its last token: the name, if it is one, the characters, if it is a
+-- text, and the number, if it is one; of a text of a directive the bytes between its quotes.
 pub record Gathered : Type 0 where
   pub operands : List Name
   pub texts : List (List TextItem)
   pub named : Option Name
   pub read : Option (List TextItem)
+  pub number : Option ℕ
   pub quoted : List ℕ
 
 abbrev pub nothing_gathered : Gathered
-nothing_gathered = record { operands = []; texts = []; named = None; read = None; quoted = [] }
+nothing_gathered = record { operands = []; texts = []; named = None; read = None; number = None; quoted = [] }
 
 -- The finished routines and the open one, if any, and whether the header of the one opened last had an error.
 pub record Output : Type 0 where
@@ -158,7 +160,7 @@ header_with files unit name h w =
     let fault = header_fault files unit (name_fault files name refused) h in
     let g = opened (length h.locals) (is_some fault) w.output in
     record w {
-      names = with_name name (size w.output.code.finished) refused w.names;
+      names = with_name name (meaning.Routine (size w.output.code.finished)) refused w.names;
       locals = h.locals;
       output = g.output;
       report = with_full files unit (first_full (name_full refused) (option_map setting_of g.full)) (with_fault files unit fault w.report);
@@ -232,10 +234,21 @@ statement_end files _ w = w
 abbrev pub words_of : CharSet → Gathered → Words
 words_of set g = record { bytes = g.quoted; set = set }
 
+-- a constant gets the known number that is the last token of its unit, or 0 where that is none
+abbrev pub constant : FileNames → Place → List Name → Work → Work
+constant files unit [] w = w
+constant files unit (name ∷ names) w =
+    let refused = declare_fault name.bytes w.names in
+    record w {
+      names = with_name name (meaning.Number (unwrap_or w.gathered.number 0)) refused w.names;
+      report = with_full files unit (name_full refused) (with_fault files unit (name_fault files name refused) w.report);
+    }
+
 abbrev pub carried_out : Directive → FileNames → Place → List Name → Work → Work
 carried_out directive.Include files unit names w = record w { gathered = record w.gathered { quoted = [] }; asked = Include w.gathered.quoted unit }
 carried_out directive.Message files unit names w = record w { report = with_words (location files unit) (weight_of names) (words_of w.set w.gathered) w.report }
 carried_out directive.End files unit names w = record w { asked = End }
+carried_out directive.Constant files unit names w = constant files unit names w
 carried_out directive.SystemFile files unit names w = record w { asked = SystemFile }
 
 -- a directive ends that began so, with these names

@@ -31,7 +31,8 @@ abbrev pub directive_of : Spelled → Directive
 directive_of t =
     if is_word (codes "include") t then directive.Include else
     if is_word (codes "message") t then directive.Message else
-    if is_word (codes "end") t then directive.End else directive.SystemFile
+    if is_word (codes "end") t then directive.End else
+    if is_word (codes "constant") t then directive.Constant else directive.SystemFile
 
 -- the weight of a message, by the word behind `Message`
 abbrev pub weight_of_word : List ℕ → Kind

@@ -1,12 +1,12 @@
 -- The unit at hand, how it begins, and what a statement is.
-use Rattle.std.specs.Prelude.{ℕ, List, [], ◌∷◌, ◌++◌, codes, Bool, true, false, ◌||◌, if◌then◌else◌, Option, Some, None, unwrap_or}
+use Rattle.std.specs.Prelude.{ℕ, List, [], ◌∷◌, ◌++◌, codes, Bool, true, false, ◌||◌, if◌then◌else◌, Option, Some, None, is_some, unwrap_or}
 use Rattle.inf_scanner.specs.declared.tokens.Mark.TheVariants as mark
 use Rattle.inf_scanner.specs.declared.tokens.Place.{Place}
 use Rattle.inf_scanner.specs.declared.tokens.TokenKind.{TokenKind}
 use Rattle.inf_scanner.specs.declared.tokens.TokenKind.TheVariants as kind
 use Rattle.inf_symbol.specs.Spellings.{Name}
 use Rattle.inf_unit.specs.Directives.{directive_of}
-use Rattle.inf_unit.specs.Tokens.{Spelled, is_mark, is_word}
+use Rattle.inf_unit.specs.Tokens.{Spelled, is_mark, is_word, number_of}
 use Rattle.inf_unit.specs.declared.unit.Head.{Head}
 use Rattle.inf_unit.specs.declared.unit.Head.TheVariants as head
 use Rattle.inf_unit.specs.declared.unit.Statement.{Statement}
@@ -14,7 +14,7 @@ use Rattle.inf_unit.specs.declared.unit.Statement.TheVariants as statement
 
 -- What is known of the unit at hand: whether it stands at the front of a piece; where a `#` stands before it; how it begins; of a
 -- header or a directive the names behind its first token; whether it has more than one token so far; and whether the last of them
--- closes a parenthesis. A unit goes up to a semicolon or a closing bracket.
+-- closes a parenthesis, or is a number. A unit goes up to a semicolon or a closing bracket.
 pub record Unit : Type 0 where
   pub is_outer : Bool
   pub sign : Option Place
@@ -22,10 +22,11 @@ pub record Unit : Type 0 where
   pub names : List Name
   pub has_more : Bool
   pub is_closed : Bool
+  pub is_numbered : Bool
 
 -- at the front of a piece
 abbrev pub no_unit : Unit
-no_unit = record { is_outer = true; sign = None; head = None; names = []; has_more = false; is_closed = false }
+no_unit = record { is_outer = true; sign = None; head = None; names = []; has_more = false; is_closed = false; is_numbered = false }
 
 -- behind another unit of the piece
 abbrev pub next_unit : Unit
@@ -77,7 +78,12 @@ begun t u = if is_mark mark.Hash t.kind then record u { sign = Some t.place } el
 -- a unit that began so, behind a token that does not end it
 abbrev pub grown : Option Head → Spelled → Unit → Unit
 grown None t u = begun t u
-grown (Some h) t u = record u { names = names_behind h t u.names; has_more = true; is_closed = is_mark mark.CloseParenthesis t.kind }
+grown (Some h) t u = record u {
+  names = names_behind h t u.names;
+  has_more = true;
+  is_closed = is_mark mark.CloseParenthesis t.kind;
+  is_numbered = is_some (number_of t.kind);
+}
 
 -- the unit behind one token more
 abbrev pub unit_behind : Spelled → Unit → Unit

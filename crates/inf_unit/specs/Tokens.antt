@@ -1,5 +1,5 @@
 -- A token as a source spells it, and tests of one.
-use Rattle.std.specs.Prelude.{ℕ, List, ◌==◌, Bool, true, false}
+use Rattle.std.specs.Prelude.{ℕ, List, ◌==◌, Bool, true, false, Option, Some, None}
 use Rattle.std.specs.Str.{str_eq_ignore_ascii_case}
 use Rattle.inf_grammar.specs.Atoms.{mark_atom}
 use Rattle.inf_scanner.specs.declared.tokens.Mark.{Mark}
@@ -26,6 +26,11 @@ is_mark m _ = false
 abbrev pub is_end : TokenKind → Bool
 is_end kind.End = true
 is_end _ = false
+
+-- the number that it is, if it is one
+abbrev pub number_of : TokenKind → Option ℕ
+number_of (kind.Number number) = Some number
+number_of _ = None
 
 -- a word of the language, in any case
 abbrev pub is_word_kind : List ℕ → TokenKind → List ℕ → Bool

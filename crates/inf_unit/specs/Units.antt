@@ -12,8 +12,8 @@ use Rattle.inf_scanner.specs.declared.tokens.Place.{Place}
 use Rattle.inf_settings.specs.declared.setting.Setting.{Setting}
 use Rattle.inf_settings.specs.declared.setting.Setting.TheVariants as setting
 use Rattle.inf_names.specs.SystemNames.{system_meaning}
-use Rattle.inf_names.specs.Symbols.{Table, with_declared, with_used, number_of as symbol_number, refer_fault}
-use Rattle.inf_names.specs.declared.meanings.Meaning.TheVariants as meaning
+use Rattle.inf_names.specs.Symbols.{Table, found_in, with_declared, with_used, number_of as symbol_number, refer_fault}
+use Rattle.inf_names.specs.declared.meanings.Meaning.{Meaning}
 use Rattle.inf_names.specs.declared.symbols.DeclareFault.{DeclareFault}
 use Rattle.inf_names.specs.declared.symbols.DeclareFault.TheVariants as declaring
 use Rattle.inf_names.specs.declared.symbols.ReferFault.{ReferFault}
@@ -22,6 +22,7 @@ use Rattle.inf_report.specs.declared.messages.Countable.TheVariants as countable
 use Rattle.inf_symbol.specs.Spellings.{Name}
 use Rattle.inf_symbol.specs.Locals.{Local, Headed, Repeated, number_of}
 use Rattle.inf_unit.specs.Messages.{FileNames, Blame, location}
+use Rattle.inf_unit.specs.Names.{constant_in}
 
 -- The header of a routine
 
@@ -41,10 +42,10 @@ abbrev pub name_full : Option (DeclareFault Place) → Option Setting
 name_full (Some declaring.Full) = Some setting.Symbols
 name_full _ = None
 
--- the names after one is declared, if nothing is wrong with it: it is the routine at a place in the code
-abbrev pub with_name : Name → ℕ → Option (DeclareFault Place) → Table Place → Table Place
-with_name n at None names = with_declared n.bytes n.place (meaning.Routine at) names
-with_name n at (Some fault) names = names
+-- the names after one is declared with what it stands for, if nothing is wrong with it
+abbrev pub with_name : Name → Meaning → Option (DeclareFault Place) → Table Place → Table Place
+with_name n m None names = with_declared n.bytes n.place m names
+with_name n m (Some fault) names = names
 
 abbrev pub first_fault : Option Blame → Option Blame → Option Blame
 first_fault (Some b) later = Some b
@@ -120,7 +121,7 @@ pub record Operands : Type 0 where
   pub operands : List Operand
   pub full : Option Setting
 
--- a name is used, and is a reference to its routine
+-- a name is used, and is a reference to what it stands for
 abbrev pub used : Option ReferFault → Name → Operands → Operands
 used (Some fault) n o = record o { full = Some setting.Symbols }
 used None n o = record o {
@@ -128,10 +129,19 @@ used None n o = record o {
   operands = o.operands ++ operand.Later (record { kind = reference.PackedAddress; number = unwrap_or (symbol_number n.bytes o.names) 0 }) ∷ [];
 }
 
--- a local is a variable, every other name is used
+-- a known number, in one byte where it fits
+abbrev pub known_number : ℕ → Operand
+known_number number = if nat_lt number 256 then operand.Small number else operand.Large number
+
+-- a name that was declared as a constant is its number, every other name is used
+abbrev pub with_constant_by : Option ℕ → Name → Operands → Operands
+with_constant_by (Some number) n o = record o { operands = o.operands ++ known_number number ∷ [] }
+with_constant_by None n o = used (refer_fault n.bytes o.names) n o
+
+-- a local is a variable
 abbrev pub with_operand_by : Option ℕ → Name → Operands → Operands
 with_operand_by (Some number) n o = record o { operands = o.operands ++ operand.Variable number ∷ [] }
-with_operand_by None n o = used (refer_fault n.bytes o.names) n o
+with_operand_by None n o = with_constant_by (constant_in (found_in n.bytes o.names)) n o
 
 abbrev pub with_operand : List Local → Name → Operands → Operands
 with_operand locals n o = with_operand_by (number_of n.bytes locals) n o

@@ -11,10 +11,25 @@ use Rattle.inf_unit.specs.declared.work.Work.{Work as CodeWork}
 use Rattle.inf_unit.specs.declared.output.Output.{Output as CodeOutput}
 
 abbrev pub unit : CodeUnit → Unit
-unit u = record { is_outer = u.is_outer; sign = u.sign; head = u.head; names = map as_name u.names.items; has_more = u.has_more; is_closed = u.is_closed }
+unit u = record {
+  is_outer = u.is_outer;
+  sign = u.sign;
+  head = u.head;
+  names = map as_name u.names.items;
+  has_more = u.has_more;
+  is_closed = u.is_closed;
+  is_numbered = u.is_numbered;
+}
 
 abbrev pub gathered : CodeGathered → Gathered
-gathered g = record { operands = map as_name g.operands.items; texts = g.texts.items; named = option_map as_name g.named; read = g.read; quoted = g.quoted.items }
+gathered g = record {
+  operands = map as_name g.operands.items;
+  texts = g.texts.items;
+  named = option_map as_name g.named;
+  read = g.read;
+  number = g.number;
+  quoted = g.quoted.items;
+}
 
 abbrev pub output : CodeOutput → Output
 output o = record { code = o.code; is_lost = o.is_lost }

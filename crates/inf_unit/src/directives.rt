@@ -15,6 +15,7 @@ pub enum Directive {
     Include,
     Message,
     End,
+    Constant,
     SystemFile,
 }
 
@@ -40,6 +41,8 @@ pub(crate) fn directive_of(token: &Spelled<'_>) -> Directive
         Directive::Message
     } else if is_word(token, b"end") {
         Directive::End
+    } else if is_word(token, b"constant") {
+        Directive::Constant
     } else {
         Directive::SystemFile
     }

@@ -1,8 +1,8 @@
-//! The names of a source, and the routines that they are.
-ghost use Rattle.std.specs.Prelude.{◌≡◌, IfOk, OnOk, map};
-ghost use Rattle.inf_layout.specs.Addresses.{packed_address};
-ghost use Rattle.inf_names.specs.Symbols.{meaning_in, standing_at};
-ghost use Rattle.inf_unit.specs.Names.{main_of, no_symbols, place_among, places, routine_of, with_all_undeclared};
+//! The names of a source, and the routines and constants that they are.
+ghost use Rattle.std.specs.Prelude.{◌≡◌, ◌≤◌, IfOk, OnOk, length, map};
+ghost use Rattle.inf_layout.specs.Addresses.{number_of, packed_address};
+ghost use Rattle.inf_names.specs.Symbols.{found_in, meaning_in, standing_at};
+ghost use Rattle.inf_unit.specs.Names.{constant_in, main_of, no_symbols, routine_of, value_among, values, with_all_undeclared};
 
 use crate::messages::{Messages, location};
 use inf_layout::addresses::packed_address;
@@ -58,23 +58,35 @@ pub fn tell_undeclared(
     Ok(())
 }
 
-/// The packed addresses of the routines of all names, by their numbers.
-pub fn packed_addresses(alloc: Global, names: &Symbols<Place>) -> Result<Vec<u16>, AllocError>
-    ensures { IfOk result (λ numbers. numbers.items ≡ map packed_address (places names.now.names)) }
+/// The known number of a name, where it was declared as a constant.
+pub fn constant_named(names: &Symbols<Place>, name: &[u8]) -> Option<u16>
+    requires { length name.now ≤ 35 }
+    ensures { result ≡ constant_in (found_in name.now names.now) }
 {
-    let mut addresses = Vec::with_capacity(alloc, names.len())?;
-    for number in 0..names.len() {
-        addresses.push(packed_address(place_at(names, number)))?;
+    match names.look(name) {
+        Found::Declared(Meaning::Number(number), _) => Some(number),
+        _ => None,
     }
-    Ok(addresses)
 }
 
-/// The place of the routine that the name of a number is; 0 where it is none.
-fn place_at(names: &Symbols<Place>, number: usize) -> usize
-    ensures { result ≡ place_among (standing_at number names.now.names) }
+/// The numbers that stand for all names in a story: of a constant its number, of a routine its packed address.
+pub fn numbers_of(alloc: Global, names: &Symbols<Place>) -> Result<Vec<u16>, AllocError>
+    ensures { IfOk result (λ numbers. numbers.items ≡ map number_of (values names.now.names)) }
 {
-    match names.meaning_at(number) {
-        Some(meaning) => routine_of(meaning).unwrap_or(0),
-        None => 0,
+    let mut numbers = Vec::with_capacity(alloc, names.len())?;
+    for place in 0..names.len() {
+        numbers.push(number_at(names, place))?;
+    }
+    Ok(numbers)
+}
+
+/// The number that stands for the name at a place; 0 where it is neither a constant nor a routine.
+fn number_at(names: &Symbols<Place>, place: usize) -> u16
+    ensures { result ≡ number_of (value_among (standing_at place names.now.names)) }
+{
+    match names.meaning_at(place) {
+        Some(Meaning::Number(number)) => number,
+        Some(Meaning::Routine(at)) => packed_address(at),
+        _ => 0,
     }
 }

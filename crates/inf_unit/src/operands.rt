@@ -4,9 +4,10 @@ ghost use Rattle.inf_opcode.specs.Instructions.{has_no_offset};
 ghost use Rattle.inf_symbol.specs.LocalList.{listed};
 ghost use Rattle.inf_symbol.specs.Spellings.{as_name};
 ghost use Rattle.inf_unit.specs.Blames.{blamed};
-ghost use Rattle.inf_unit.specs.Units.{Operands, call_fault, is_system_name, operand_fault, operands_fault, with_operand, with_operands};
+ghost use Rattle.inf_unit.specs.Units.{Operands, call_fault, is_system_name, known_number, operand_fault, operands_fault, with_operand, with_operands};
 
 use crate::messages::Blame;
+use crate::names::constant_named;
 use arrayvec::ArrayVec;
 use inf_area::{Reference, ReferenceKind};
 use inf_lexer::Place;
@@ -78,8 +79,8 @@ pub fn call_fault<'t>(
     operands_fault(locals, arguments)
 }
 
-/// Puts the operands that at most eight names are behind none: a local is a variable, every other name is used and
-/// is a reference to its routine. None is an offset to a label. It ends before a name that is one too many, and answers the
+/// Puts the operands that at most eight names are behind none: a local is a variable, a constant its number, and every other
+/// name is used and is a reference to what it stands for. None is an offset to a label. It ends before a name that is one too many, and answers the
 /// setting that this would pass.
 pub fn add_operands(
     locals: &Locals,
@@ -105,6 +106,18 @@ pub fn add_operands(
     Ok(None)
 }
 
+/// A known number as an operand, in one byte where it fits.
+fn known_number(number: u16) -> Operand
+    ensures value { result ≡ known_number number }
+    ensures plain { IsTrue (has_no_offset (result ∷ [])) }
+{
+    if number <= u8::MAX as u16 {
+        Operand::Small(number as u8)
+    } else {
+        Operand::Large(number)
+    }
+}
+
 /// The operand that a name is, unless it is one too many.
 fn operand_of(
     locals: &Locals,
@@ -121,6 +134,9 @@ fn operand_of(
 {
     if let Some(number) = locals.number(name.bytes()) {
         return Ok(Operand::Variable(number));
+    }
+    if let Some(number) = constant_named(known, name.bytes()) {
+        return Ok(known_number(number));
     }
     let number = known.refer(name.bytes(), name.place)?;
     Ok(Operand::Later(Reference {

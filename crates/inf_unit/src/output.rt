@@ -5,7 +5,7 @@ ghost use Rattle.inf_opcode.specs.Instructions.{IsProper, bare, instruction_cell
 ghost use Rattle.inf_opcode.specs.PartsOf.{parts_of};
 ghost use Rattle.inf_assembler.specs.declared.routines.GrowFault.TheVariants as grow_fault;
 ghost use Rattle.inf_assembler.specs.declared.routines.Setting.{Setting as CodeSetting};
-ghost use Rattle.inf_unit.specs.Actions.{limits_of, no_output, opened, emitted, printed, closed};
+ghost use Rattle.inf_unit.specs.Actions.{no_output, opened, emitted, printed, closed};
 ghost use Rattle.inf_unit.specs.Works.{output};
 ghost use Rattle.inf_unit.specs.Units.{printing};
 
@@ -17,17 +17,6 @@ use inf_settings::setting::Setting;
 use inf_settings::settings::Settings;
 use inf_text::{Text, pack};
 use std::alloc::{AllocError, Global};
-
-/// What code may hold, as the settings say.
-fn limits_of(settings: &Settings) -> CodeLimits
-    ensures { result ≡ limits_of settings.now }
-{
-    CodeLimits {
-        labels: settings.of(Setting::Labels) as usize,
-        code: settings.of(Setting::Code) as usize,
-        refs: settings.of(Setting::References) as usize,
-    }
-}
 
 /// The finished routines, and the open one.
 ///
@@ -45,8 +34,13 @@ impl Output {
     pub fn new(alloc: Global, settings: &Settings) -> Output
         ensures { output result ≡ no_output settings.now }
     {
+        let limits = CodeLimits {
+            labels: settings.of(Setting::Labels) as usize,
+            code: settings.of(Setting::Code) as usize,
+            refs: settings.of(Setting::References) as usize,
+        };
         Output {
-            code: Code::new(alloc, limits_of(settings)),
+            code: Code::new(alloc, limits),
             is_lost: false,
         }
     }

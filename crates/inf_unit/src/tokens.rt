@@ -1,7 +1,7 @@
 //! A token, as units see it, and tests of one.
 ghost use Rattle.std.specs.Prelude.{◌≡◌};
 ghost use Rattle.inf_report.specs.Meant.{named};
-ghost use Rattle.inf_unit.specs.Tokens.{is_end, is_mark, is_word, spelled, told};
+ghost use Rattle.inf_unit.specs.Tokens.{is_end, is_mark, is_word, number_of, spelled, told};
 
 use inf_report::messages::Told;
 use inf_scanner::{Mark, Place, TokenKind};
@@ -30,6 +30,16 @@ pub fn is_end(kind: TokenKind) -> bool
     ensures { result ≡ is_end kind }
 {
     matches!(kind, TokenKind::End)
+}
+
+/// The number that a token of this kind is, if it is one.
+pub fn number_of(kind: TokenKind) -> Option<u16>
+    ensures { result ≡ number_of kind }
+{
+    match kind {
+        TokenKind::Number(number) => Some(number),
+        _ => None,
+    }
 }
 
 /// Whether a token is a word of the language, in any case.

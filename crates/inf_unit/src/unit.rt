@@ -6,7 +6,7 @@ ghost use Rattle.inf_unit.specs.Works.{unit};
 ghost use Rattle.inf_symbol.specs.Spellings.{as_name};
 
 use crate::directives::{Directive, directive_of};
-use crate::tokens::{Spelled, is_mark, is_word};
+use crate::tokens::{Spelled, is_mark, is_word, number_of};
 use inf_scanner::{Mark, Place, TokenKind};
 use inf_symbol::spellings::Name;
 use std::alloc::{AllocError, Global};
@@ -50,6 +50,8 @@ pub struct Unit {
     pub has_more: bool,
     /// Whether the last of them closes a parenthesis.
     pub is_closed: bool,
+    /// Whether the last of them is a number.
+    pub is_numbered: bool,
 }
 
 /// What a statement is that begins with a token.
@@ -96,6 +98,7 @@ impl Unit {
             names: Vec::new(alloc),
             has_more: false,
             is_closed: false,
+            is_numbered: false,
         }
     }
 
@@ -117,6 +120,7 @@ impl Unit {
         self.names.clear();
         self.has_more = false;
         self.is_closed = false;
+        self.is_numbered = false;
     }
 
     /// How it begins where a token is its first, or the first behind its `#`.
@@ -163,6 +167,7 @@ impl Unit {
         }
         self.has_more = true;
         self.is_closed = is_mark(token.kind, Mark::CloseParenthesis);
+        self.is_numbered = number_of(token.kind).is_some();
         Ok(())
     }
 

@@ -44,6 +44,8 @@ pub struct Gathered {
     named: Option<Name>,
     /// The characters of the last token, if it is a text.
     read: Option<Text>,
+    /// The last token, if it is a number.
+    number: Option<u16>,
     /// The bytes between the quotes of the last text, where it is one of a directive.
     quoted: Vec<u8>,
 }
@@ -61,6 +63,7 @@ impl Gathered {
             texts: Vec::new(alloc),
             named: None,
             read: None,
+            number: None,
             quoted: Vec::new(alloc),
         }
     }
@@ -73,6 +76,7 @@ impl Gathered {
         self.texts.clear();
         self.named = None;
         self.read = None;
+        self.number = None;
         self.quoted.clear();
     }
 
@@ -116,7 +120,7 @@ pub struct Work {
 }
 
 impl Work {
-    ghost use Rattle.inf_unit.specs.Actions.{no_work, directive_end, words_of, header, header_with, close, statement_end, call, return_of, with_instruction, checked, printed, act, acted};
+    ghost use Rattle.inf_unit.specs.Actions.{no_work, directive_end, constant, words_of, header, header_with, close, statement_end, call, return_of, with_instruction, checked, printed, act, acted};
     ghost use Rattle.inf_unit.specs.Directives.{Nothing, Include, asked, weight_of};
     ghost use Rattle.inf_unit.specs.Works.{gathered, unit, work};
 
@@ -143,21 +147,23 @@ impl Work {
         self.set
     }
 
-    /// A token was taken, which is this name, or has these characters, if it is a name or a text.
-    pub fn gather(&mut self, named: Option<Name>, text: Option<Text>)
-        ensures { let before = work self.old in work self.new
-            ≡ record before { gathered = record before.gathered { named = option_map as_name named; read = text } } }
+    /// A token was taken, which is this name or number, or has these characters, if it is a name, a number or a text.
+    pub fn gather(&mut self, named: Option<Name>, text: Option<Text>, number: Option<u16>)
+        ensures { let before = work self.old in work self.new ≡ record before {
+          gathered = record before.gathered { named = option_map as_name named; read = text; number = number };
+        } }
     {
         self.gathered.named = named;
         self.gathered.read = text;
+        self.gathered.number = number;
     }
 
     /// A text of a directive was taken, which has these bytes between its quotes.
     pub fn gather_quoted(&mut self, bytes: &[u8]) -> Result<(), AllocError>
         ensures { let before = work self.old in OnOk result (work self.new
-            ≡ record before { gathered = record before.gathered { named = None; read = None; quoted = bytes.now } }) }
+            ≡ record before { gathered = record before.gathered { named = None; read = None; number = None; quoted = bytes.now } }) }
     {
-        self.gather(None, None);
+        self.gather(None, None, None);
         self.gathered.quoted.clear();
         self.gathered.quoted.extend_from_slice(bytes)
     }
@@ -247,7 +253,11 @@ impl Work {
         ensures { OnOk result (work self.new
             ≡ header_with files.now.names unit (as_name name.now) (as_headed headed.entry) (work self.old)) }
     {
-        let refused = declare(&mut self.names, name, self.output.code.len())?;
+        let refused = declare(
+            &mut self.names,
+            name,
+            Meaning::Routine(self.output.code.len()),
+        )?;
         let of_name = name_fault(files, name, refused);
         let fault = header_fault(files, unit, of_name, &headed);
         let full = self
@@ -303,9 +313,25 @@ impl Work {
             Directive::Include => self.asked = self.inclusion(unit),
             Directive::Message => return self.message(files, unit, names),
             Directive::End => self.asked = Asked::End,
+            Directive::Constant => return self.constant(files, unit, names),
             Directive::SystemFile => self.asked = Asked::SystemFile,
         }
         Ok(())
+    }
+
+    /// Declares the first of these names as a constant, with the number that is the last token of the unit, or 0.
+    fn constant(&mut self, files: &Stack, unit: Place, names: &[Name]) -> Result<(), AllocError>
+        ensures { OnOk result (work self.new
+            ≡ constant files.now.names unit (map as_name names.now) (work self.old)) }
+    {
+        let Some(name) = names.first() else {
+            return Ok(());
+        };
+        let number = self.gathered.number.unwrap_or(0);
+        let refused = declare(&mut self.names, name, Meaning::Number(number))?;
+        self.report
+            .fault(files, unit, name_fault(files, name, refused))?;
+        self.report.full(files, unit, name_full(refused))
     }
 
     /// That the file is read whose name is the text of the unit, which is given away.
@@ -453,16 +479,16 @@ fn tell_unused(
     Ok(())
 }
 
-/// Declares a name as the routine at a place in the code, unless something is wrong with it, which is answered.
+/// Declares a name with what it stands for, unless something is wrong with it, which is answered.
 fn declare(
     names: &mut Symbols<Place>,
     name: &Name,
-    at: usize,
+    meaning: Meaning,
 ) -> Result<Option<DeclareFault<Place>>, AllocError>
     ensures { let fault = declare_fault (as_name name.now).bytes names.old in IfOk result (λ refused.
-        (refused ≡ fault) × (names.new ≡ with_name (as_name name.now) at fault names.old)) }
+        (refused ≡ fault) × (names.new ≡ with_name (as_name name.now) meaning fault names.old)) }
 {
-    match names.declare(name.bytes(), name.place, Meaning::Routine(at)) {
+    match names.declare(name.bytes(), name.place, meaning) {
         Ok(_) => Ok(None),
         Err(DeclareFault::Memory) => Err(AllocError),
         Err(fault) => Ok(Some(fault)),

@@ -1,0 +1,39 @@
+-- Worked examples of constants, in sources by the name `t.inf`.
+use Rattle.std.specs.Prelude.{◌≡◌, ℕ, List, [], ◌∷◌, codes, map}
+use Rattle.inf_characters.specs.declared.characters.CharSet.TheVariants as set
+use Rattle.inf_settings.specs.Settings.{defaults}
+use Rattle.inf_layout.specs.Addresses.{number_of}
+use Rattle.inf_layout.specs.Code.{code_bytes}
+use Rattle.inf_unit.specs.Actions.{Work}
+use Rattle.inf_unit.specs.Names.{values}
+use Rattle.inf_reader.specs.Reading.{compiled}
+
+-- what is compiled of a source
+abbrev pub work_of : List ℕ → Work
+work_of source = (compiled set.Latin1 defaults (codes "t.inf" ∷ []) source).work
+
+-- the bytes of its code, with the numbers of its names, and the lines of its messages
+abbrev pub bytes_of : List ℕ → List ℕ
+bytes_of source = let w = work_of source in code_bytes (map number_of (values w.names.names)) w.output.code.finished
+
+abbrev pub lines_of : List ℕ → List ℕ
+lines_of source = (work_of source).report.lines
+
+-- A constant that is declared behind its use is a number of two bytes, and one that is declared before and is less than 256 one of one
+-- byte: `call_2n` with a routine and 3, and `rtrue`; then `ret` with 3, and a zero to a multiple of 4.
+abbrev pub NumbersAreKnown : Type 0
+NumbersAreKnown =
+    bytes_of (codes "[ Main; F(K); ]; Constant K = 3; [ F x; return K; ];")
+    ≡ 0x00 ∷ 0xDA ∷ 0x0F ∷ 0x00 ∷ 0xF4 ∷ 0x00 ∷ 0x03 ∷ 0xB0 ∷ 0x01 ∷ 0x9B ∷ 0x03 ∷ 0x00 ∷ []
+
+-- `ret` with 256 in two bytes, and with 0 where no number is given; `call_1n` with a constant that is called
+abbrev pub NumbersAreWritten : Type 0
+NumbersAreWritten =
+    bytes_of (codes "Constant K 256; #Constant Z; [ Main; return K; ]; [ F; return Z; ]; [ G; z(); ];")
+    ≡ 0x00 ∷ 0x8B ∷ 0x01 ∷ 0x00 ∷ 0x00 ∷ 0x9B ∷ 0x00 ∷ 0x00 ∷ 0x00 ∷ 0x9F ∷ 0x00 ∷ 0xB0 ∷ []
+
+-- a name that stands already, one that the language has, and what does not stand behind a number
+abbrev pub ConstantsAreRefused : Type 0
+ConstantsAreRefused =
+    lines_of (codes "Constant K = 3;\nConstant k;\nConstant child;\nConstant L = 1\n+ 2;\n")
+    ≡ codes "t.inf(2): Error: \"k\" was declared at t.inf(1)\nt.inf(3): Error: \"child\" is a system name\nt.inf(5): Error: Syntax error at \"+\"\n"
