@@ -1,5 +1,8 @@
-//! The compiler: `compile` reads a source by a reader of files and writes its messages and its story to
-//! two devices.
+//! The compiler: `compile` reads a source and what it includes by a reader of files, and writes its messages and its
+//! story to two devices.
 #![tactic(auto)]
 
 pub mod compile;
+
+pub use inf_session::faults::Fault;
+pub use inf_session::translation::Status;

@@ -245,7 +245,7 @@ impl Stack {
     }
 
     /// The name of the innermost file: nothing where none is open.
-    fn innermost(&self) -> &str
+    pub fn innermost(&self) -> &str
         ensures { result.now ≡ innermost_name self.now }
     {
         let Some(file) = self.open_files.as_slice().last() else {

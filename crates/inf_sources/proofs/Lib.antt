@@ -1,5 +1,7 @@
 pub mod Places
 pub mod Nestings
+pub mod Counting
 pub mod Entered
 pub mod Openings
+pub mod Fronts
 pub mod Answering

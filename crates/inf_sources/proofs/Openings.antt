@@ -28,7 +28,7 @@ front_is : (s : Sources) (old : Openings) (name : List ℕ) (set : CharSet) (lim
     → cursor_of (at_front set limit number) (to_come s (with_opened name old) (at_front set limit number).window) ≡ front set limit number (unwrap_or (s name) [])
 front_is s old name set limit number = ap (λ rest. front set limit number rest) (all_unread s old name)
 
-slice_front : (xs : List Opening) (x : Opening) (i : ℕ) → i < length xs → slice_get (xs ++ x ∷ []) i ≡ slice_get xs i
+pub slice_front : (xs : List Opening) (x : Opening) (i : ℕ) → i < length xs → slice_get (xs ++ x ∷ []) i ≡ slice_get xs i
 slice_front [] x i less = absurd (omega (arith, less))
 slice_front (y ∷ xs) x zero less = refl
 slice_front (y ∷ xs) x (suc i) less = slice_front xs x i (omega (arith, less))

@@ -1,5 +1,5 @@
 -- What the code's open files stand for, with a reader that keeps to its sources.
-use Rattle.std.specs.Prelude.{◌≡◌, ℕ, suc, ◌<◌, ◌≤◌, List, [], ◌∷◌, ◌++◌, length, map, drop, reverse, get_or, false, if◌then◌else◌}
+use Rattle.std.specs.Prelude.{◌≡◌, ℕ, suc, ◌+◌, ◌<◌, ◌≤◌, List, [], ◌∷◌, ◌++◌, length, map, drop, reverse, get_or, unwrap_or, true, false, if◌then◌else◌}
 use Rattle.inf_characters.specs.declared.characters.CharSet.{CharSet}
 use Rattle.inf_scanner.specs.declared.tokens.Token.{Token}
 use Rattle.inf_token.specs.Files.{Opening, Openings, Sources, opened}
@@ -63,6 +63,34 @@ pub record IsNested (start now : Openings) (files : Open) : Type 0 where
   pub more : length start.all ≤ length now.all
   pub nested : AreNested (length now.all) (reverse now.open_places) (files.lexer ∷ reverse files.outer)
   pub others : drop (suc (length files.outer)) (reverse now.open_places) ≡ reverse start.open_places
+
+-- Behind some openings that were there before, each name is that of an opening.
+abbrev pub NamesAreOpened : ℕ → Openings → Open → Type 0
+NamesAreOpened base now files = base + length files.nest.names ≤ length now.all
+
+-- What was given of an opening is a front of its source, of at most as many bytes as a source may have.
+pub record IsGiven (sources : Sources) (o : Opening) : Type 0 where
+  pub is_cut : unwrap_or (sources o.name) [] ≡ o.given ++ unread_of sources o
+  pub fits : length o.given ≤ 16777216
+
+-- The lexer of an opening counts the bytes that were given of it, of which it has at most 4,096 in view. Where it read the end,
+-- nothing more is to come, and it is known that the source was read to its end.
+pub record IsCounted (sources : Sources) (o : Opening) (view : View) : Type 0 where
+  pub count : length o.given ≡ view.given
+  pub window : length view.left ≤ 4096
+  pub ends : view.is_over ≡ true → (unread_of sources o ≡ []) × (o.is_read_out ≡ true)
+
+-- of each open file, by the places of their openings: it was opened behind n openings, and its lexer counts
+abbrev pub AreCounted : Sources → ℕ → List Opening → List ℕ → List Reader → Type 0
+AreCounted sources n all places [] = Unit {0}
+AreCounted sources n all [] (r ∷ readers) = ⊥
+AreCounted sources n all (p ∷ places) (r ∷ readers) =
+    (n ≤ p) × (IsCounted sources (get_or all p (opened [])) r.window × AreCounted sources n all places readers)
+
+-- All that was opened behind n openings was given so.
+pub record AllGiven (sources : Sources) (n : ℕ) (now : Openings) (files : Open) : Type 0 where
+  pub each : (i : ℕ) → n ≤ i → i < length now.all → IsGiven sources (get_or now.all i (opened []))
+  pub counted : AreCounted sources n now.all (reverse now.open_places) (files.lexer ∷ reverse files.outer)
 
 -- A token was read of the innermost file, with this spelling.
 pub record Reads (token : Token) (spelling : List ℕ) (was now : Nesting) : Type 0 where

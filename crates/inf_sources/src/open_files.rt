@@ -6,7 +6,7 @@ ghost use Rattle.inf_lexer.specs.Names.{candidates, innermost_name};
 ghost use Rattle.inf_lexer.specs.Readers.{Took, at_front};
 ghost use Rattle.inf_lexer.specs.Unread.{IsAtEnd};
 ghost use Rattle.inf_sources.specs.Inclusions.{answer_of, closed, inclusion, main_opened, nested_by};
-ghost use Rattle.inf_sources.specs.Open.{IsNested, Reads, closed_to, nesting};
+ghost use Rattle.inf_sources.specs.Open.{AllGiven, IsNested, NamesAreOpened, Reads, closed_to, nesting};
 
 use crate::faults::IncludeFault;
 use inf_lexer::{EnterFault, LexFault, Lexer, Stack, Token};
@@ -70,6 +70,10 @@ impl OpenFiles {
             ≡ main_opened set limit (F.sources files.old) name.now) }
         ensures nested { IsTrue (F.is_honest files.old) →
             IfOk result (λ o. IsNested (F.openings files.old) (F.openings files.new) o) }
+        ensures names { IsTrue (F.is_honest files.old) →
+            IfOk result (λ o. NamesAreOpened (length (F.openings files.old).all) (F.openings files.new) o) }
+        ensures given_all { IsTrue (F.is_honest files.old) →
+            IfOk result (λ o. AllGiven (F.sources files.old) (length (F.openings files.old).all) (F.openings files.new) o) }
         ensures absent { IsTrue (F.is_honest files.old) → IsErrOf result EnterFault.Absent →
             (F.sources files.old name.now ≡ None) × (F.openings files.new ≡ F.openings files.old) }
         ensures empty { IsErrOf result EnterFault.BadName → length name.now ≡ 0 }
@@ -97,6 +101,13 @@ impl OpenFiles {
         &self.names
     }
 
+    /// The name of the innermost file.
+    pub fn innermost(&self) -> &str
+        ensures { result.now ≡ innermost_name self.now.nest }
+    {
+        self.names.innermost()
+    }
+
     /// The bytes of the token that was read last, as `Lexer::spelling` gives them.
     pub fn spelling(&self) -> &[u8]
         ensures { result.now ≡ self.now.lexer.kept.bytes }
@@ -119,6 +130,11 @@ impl OpenFiles {
             (nesting (F.sources files.old) start (F.openings files.new) self.new)) }
         ensures nested { IsTrue (F.is_honest files.old) → (start : Openings) → IsNested start (F.openings files.old) self.old →
             IsNested start (F.openings files.new) self.new }
+        ensures names { IsTrue (F.is_honest files.old) → (base : ℕ) → NamesAreOpened base (F.openings files.old) self.old →
+            NamesAreOpened base (F.openings files.new) self.new }
+        ensures given_all { IsTrue (F.is_honest files.old) → (start : Openings) → IsNested start (F.openings files.old) self.old →
+            AllGiven (F.sources files.old) (length start.all) (F.openings files.old) self.old →
+            OnOk result (AllGiven (F.sources files.old) (length start.all) (F.openings files.new) self.new) }
         ensures took { IfOk result (λ token. Took token.kind self.old.lexer.window self.new.lexer.window self.new.lexer.kept) }
         ensures goes { OnOk result (self.new.lexer.has_failed ≡ false) }
         ensures same { (self.new.nest ≡ self.old.nest) × (self.new.outer ≡ self.old.outer) }
@@ -164,6 +180,11 @@ impl OpenFiles {
             (inclusion (F.sources files.old) (map (λ d. d.now) directories.now) text.now was) was) }
         ensures nested { IsTrue (F.is_honest files.old) → (start : Openings) → IsNested start (F.openings files.old) self.old →
             OnOk result (IsNested start (F.openings files.new) self.new) }
+        ensures names { IsTrue (F.is_honest files.old) → (base : ℕ) → NamesAreOpened base (F.openings files.old) self.old →
+            NamesAreOpened base (F.openings files.new) self.new }
+        ensures given_all { IsTrue (F.is_honest files.old) → (start : Openings) → IsNested start (F.openings files.old) self.old →
+            AllGiven (F.sources files.old) (length start.all) (F.openings files.old) self.old →
+            AllGiven (F.sources files.old) (length start.all) (F.openings files.new) self.new }
 
         // With any reader.
         ensures entered { IfOk result (λ included. included ≡ Included.Entered →
@@ -208,6 +229,11 @@ impl OpenFiles {
             ≡ closed (nesting (F.sources files.old) start (F.openings files.old) self.old) }
         ensures nested { IsTrue (F.is_honest files.old) → (start : Openings) → IsNested start (F.openings files.old) self.old →
             IsNested start (F.openings files.new) self.new }
+        ensures names { IsTrue (F.is_honest files.old) → (base : ℕ) → NamesAreOpened base (F.openings files.old) self.old →
+            NamesAreOpened base (F.openings files.new) self.new }
+        ensures given_all { IsTrue (F.is_honest files.old) → (start : Openings) → IsNested start (F.openings files.old) self.old →
+            AllGiven (F.sources files.old) (length start.all) (F.openings files.old) self.old →
+            AllGiven (F.sources files.old) (length start.all) (F.openings files.new) self.new }
         ensures all { IsTrue (F.is_honest files.old) → (F.openings files.new).all ≡ (F.openings files.old).all }
         ensures settings { (self.new.nest.set ≡ self.old.nest.set) × (self.new.nest.limit ≡ self.old.nest.limit) }
         ensures depth { F.depth files.new + length self.old.outer ≡ F.depth files.old + length self.new.outer }
@@ -229,6 +255,7 @@ impl OpenFiles {
         requires is_open { length self.outer < F.depth files.old }
         ensures closed { IsTrue (F.is_honest files.old) → (start : Openings) → IsNested start (F.openings files.old) self →
             F.openings files.new ≡ closed_to start (F.openings files.old) }
+        ensures all { IsTrue (F.is_honest files.old) → (F.openings files.new).all ≡ (F.openings files.old).all }
         ensures depth { F.depth files.new + length self.outer + 1 ≡ F.depth files.old }
         ensures faults { F.faults files.new ≡ F.faults files.old }
         ensures given { F.given files.new ≡ F.given files.old }

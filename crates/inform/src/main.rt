@@ -1,8 +1,7 @@
 #![tactic(auto)]
 
-use inf_compile::compile::{self, Fault};
+use inf_compile::{Fault, Status, compile};
 use inf_disk::disk::{DiskFiles, OutputSink, StoryPlace, StorySink, Trouble};
-use inf_reader::outcome::Status;
 use inf_words::command_line::{self, CommandLine, Options, WordFault};
 use inf_words::dates;
 use jiff::Timestamp;

@@ -1,5 +1,5 @@
 //! Devices for tests: a sink that takes little, and a reader that gives little.
-ghost use Rattle.std.specs.Prelude.{None, [], false, if◌then◌else◌};
+ghost use Rattle.std.specs.Prelude.{None, [], false, length, if◌then◌else◌};
 
 use inf_symbol::memory_sink::MemorySink;
 use inf_symbol::sinks::{Sink, SinkFault};
@@ -149,12 +149,67 @@ impl Files for Slow<'_> {
     }
 }
 
+/// The files of a folder, of which one cannot be opened.
+#[derive(Drop)]
+pub struct Locked<'a> {
+    pub files: MemoryFiles,
+    locked: &'a str,
+    failures: Failures,
+}
+
+impl<'a> Locked<'a> {
+    pub fn new(files: MemoryFiles, locked: &'a str) -> Locked<'a> {
+        Locked {
+            files,
+            locked,
+            failures: Failures::none(),
+        }
+    }
+}
+
+impl Files for Locked<'_> {
+    ghost faults = { λ f. f.failures };
+
+    ghost given = { λ f. f.files.given };
+
+    ghost is_honest = { λ _. false };
+
+    ghost sources = { λ _ _. None };
+
+    ghost openings = { λ _. record { all = []; open_places = [] } };
+
+    ghost depth = { λ f. length f.files.openings.open_places };
+
+    fn open(&mut self, name: &str) -> Result<(), OpenFault> {
+        if name == self.locked {
+            self.failures.add();
+            return Err(OpenFault::Device);
+        }
+        self.files.open(name)
+    }
+
+    fn read(&mut self, to: &mut [u8]) -> Result<usize, ReadFault> {
+        self.files.read(to)
+    }
+
+    fn close(&mut self) {
+        self.files.close();
+    }
+}
+
+/// A folder with these files.
+pub fn folder_of(alloc: Global, files: &[(&str, &[u8])]) -> Result<MemoryFiles, Fail> {
+    let mut sources = BTreeMap::new(alloc);
+    for (name, source) in files {
+        sources.insert(
+            String::from_str(alloc, *name)?,
+            Vec::from_slice(alloc, *source)?,
+        )?;
+    }
+    Ok(MemoryFiles::new(alloc, sources))
+}
+
 /// A folder with the source `t.inf`.
 pub fn folder(alloc: Global, source: &[u8]) -> Result<MemoryFiles, Fail> {
-    let mut sources = BTreeMap::new(alloc);
-    sources.insert(
-        String::from_str(alloc, "t.inf")?,
-        Vec::from_slice(alloc, source)?,
-    )?;
-    Ok(MemoryFiles::new(alloc, sources))
+    folder_of(alloc, &[("t.inf", source)])
 }

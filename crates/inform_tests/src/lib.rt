@@ -6,4 +6,6 @@ mod compile;
 #[cfg(test)]
 mod devices;
 #[cfg(test)]
+mod including;
+#[cfg(test)]
 mod reading;

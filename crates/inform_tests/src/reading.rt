@@ -1,8 +1,7 @@
 //! How a source is read: through a window, to its end or to a fatal error, whatever a read gives.
 use crate::compile::{GREETING, GREETING_CODE, GREETING_SIZES, run, story_of, story_with};
 use crate::devices::Slow;
-use inf_compile::compile::Fault;
-use inf_reader::outcome::Status;
+use inf_compile::{Fault, Status};
 use inf_symbol::memory_sink::MemorySink;
 use std::alloc::Global;
 use std::process::Abort;

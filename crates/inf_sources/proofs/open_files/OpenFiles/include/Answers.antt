@@ -1,11 +1,13 @@
-use Rattle.std.proofs.Common.{◌≡◌, ◌≤◌, false, length, ◌++◌, [], ◌∷◌, Err, Some, None, map, sym, ap, subst, ◌∙◌}
+use Rattle.std.proofs.Common.{◌≡◌, ◌≤◌, List, false, length, ◌++◌, [], ◌∷◌, Err, Some, None, map, sym, ap, subst, ◌∙◌}
 use Rattle.inf_lexer.specs.Entering.{Leaves}
-use Rattle.inf_lexer.specs.Names.{can_name, candidates, innermost_name}
+use Rattle.inf_lexer.specs.Names.{Nest, can_name, candidates, innermost_name, number_of}
+use Rattle.inf_lexer.specs.Readers.{Reader}
 use Rattle.inf_lexer.specs.declared.enter_faults.EnterFault.TheVariants as fault
 use Rattle.inf_sources.specs.Inclusions.{answer_of, inclusion, nested_by}
-use Rattle.inf_sources.specs.Open.{IsNested, Open, nesting}
+use Rattle.inf_sources.specs.Open.{AllGiven, IsNested, Open, nesting}
 use Rattle.inf_sources.specs.declared.open_files.Included.TheVariants as included
 use Rattle.inf_sources.proofs.Answering.{is_true, deep_is, entered_fits, entered_is, entered_nested_of, first_is}
+use Rattle.inf_sources.proofs.Fronts.{entered_given, failed_given}
 use Rattle.inf_sources.proofs.open_files.OpenFiles.include.Goals as goal
 
 pub invariant_of-self-in-Ok : goal.invariant_of-self-in-Ok
@@ -127,3 +129,35 @@ returns-in-Err-TooDeep-clause-nesting g c = λ honest start nested.
     ∙ ap (λ x. nesting s start old (record { nest = x; lexer = c.self.inside.lexer; outer = c.reserve.new.self.items })) c.in-Err-TooDeep.ensures.err
     ∙ ap (λ x. nesting s start old (record { nest = c.self.inside.names; lexer = c.self.inside.lexer; outer = x })) c.in_ok-reserve.ensures.items
     ∙ ap (λ i. nested_by before.nest.set before.nest.limit s i (nesting s start old before)) (sym (deep_is s directories text start old before n c.self.invariant.0 fit full))) nested
+
+pub returns-in-Ok-clause-given_all : goal.returns-in-Ok-clause-given_all
+returns-in-Ok-clause-given_all g c = λ honest start nested given.
+    let files = g.F.Files in
+    let s = files.sources c.args.files.now in
+    let old = files.openings c.args.files.now in
+    let new = files.openings c.enter.new.files in
+    let before : Open = record { nest = c.self.inside.names; lexer = c.self.inside.lexer; outer = c.self.inside.outer.items } in
+    let after : Open = record { nest = c.enter.new.self; lexer = c.replace-waits.new.dest; outer = c.push_reserved.new.self.items } in
+    let e = c.in-Ok.ensures.ok in
+    let outer = c.push_reserved.ensures.items ∙ ap (λ r. c.reserve.new.self.items ++ r ∷ []) c.replace-waits.ensures.value ∙ ap (λ rs. rs ++ c.self.inside.lexer ∷ []) c.in_ok-reserve.ensures.items in
+    subst (λ (o : Open). IsNested start old o → AllGiven s (length start.all) old o → AllGiven s (length start.all) new after) c.self.view_is
+    (λ n all. entered_given s start old new before after e.name c.self.inside.names.set c.self.inside.names.limit (number_of e.name c.self.inside.names.names) n (e.is_opened honest)
+    (c.replace-waits.ensures.after ∙ e.is_entered.1) outer all) nested given
+
+pub returns-in-Err-Device-clause-given_all : goal.returns-in-Err-Device-clause-given_all
+returns-in-Err-Device-clause-given_all g c = λ honest start nested given.
+    let files = g.F.Files in
+    let s = files.sources c.args.files.now in
+    let old = files.openings c.args.files.now in
+    let new = files.openings c.enter.new.files in
+    let before : Open = record { nest = c.self.inside.names; lexer = c.self.inside.lexer; outer = c.self.inside.outer.items } in
+    let names = candidates (map (λ d. d.now) c.args.directories.now) (innermost_name before.nest) c.args.text.now in
+    let left : Leaves s before.nest.names names old new (Err fault.Device) =
+    subst (λ f. Leaves s before.nest.names names old new (Err f)) c.in-Err-Device.field-0-is (c.in-Err-Device.ensures.leaves honest) in
+    subst (λ (o : Open). IsNested start old o → AllGiven s (length start.all) old o
+    → AllGiven s (length start.all) new (record { nest = c.enter.new.self; lexer = c.self.inside.lexer; outer = c.reserve.new.self.items })) c.self.view_is
+    (λ n all. subst (λ (nest : Nest). AllGiven s (length start.all) new (record { nest = nest; lexer = c.self.inside.lexer; outer = c.reserve.new.self.items }))
+    (sym c.in-Err-Device.ensures.err)
+    (subst (λ (outer : List Reader). AllGiven s (length start.all) new (record { nest = c.self.inside.names; lexer = c.self.inside.lexer; outer = outer }))
+    (sym c.in_ok-reserve.ensures.items)
+    (failed_given s before.nest.names names start old new before n left all))) nested given

@@ -1,5 +1,6 @@
-use Rattle.std.proofs.Common.{refl, subst}
-use Rattle.inf_sources.specs.Open.{IsNested, Open, Reads, nesting}
+use Rattle.std.proofs.Common.{length, refl, subst}
+use Rattle.inf_sources.specs.Open.{AllGiven, IsNested, Open, Reads, nesting}
+use Rattle.inf_sources.proofs.Fronts.{read_given}
 use Rattle.inf_sources.proofs.Nestings.{nested_on, reads_on}
 use Rattle.inf_sources.proofs.open_files.OpenFiles.next.Goals as goal
 
@@ -26,3 +27,15 @@ returns-clause-nested g c = λ honest start nested.
     let along = c.next.ensures.gave honest in
     subst (λ (o : Open). IsNested start old o → IsNested start new after) c.self.view_is
     (λ n. nested_on start old new before after n along.gave.places along.gave.count refl) nested
+
+pub returns-clause-given_all : goal.returns-clause-given_all
+returns-clause-given_all g c = λ honest start nested given.
+    let files = g.F.Files in
+    let s = files.sources c.args.files.now in
+    let old = files.openings c.args.files.now in
+    let new = files.openings c.next.new.files in
+    let before : Open = record { nest = c.self.inside.names; lexer = c.self.inside.lexer; outer = c.self.inside.outer.items } in
+    let after : Open = record { nest = c.self.inside.names; lexer = c.next.new.self; outer = c.self.inside.outer.items } in
+    subst (λ (o : Open). IsNested start old o → AllGiven s (length start.all) old o → AllGiven s (length start.all) new after) c.self.view_is
+    (λ n all. read_given s start old new before after n refl (c.next.ensures.gave honest) c.in_ok-token.ensures.few c.next.ensures.window (c.next.ensures.end honest) all)
+    nested given

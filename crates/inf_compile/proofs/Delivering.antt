@@ -1,0 +1,57 @@
+-- What a story's sink takes of what was compiled.
+use Rattle.std.proofs.Common.{◌≡◌, ℕ, List, Option, ap, subst, ◌∙◌}
+use Rattle.inf_characters.specs.declared.characters.CharSet.{CharSet}
+use Rattle.inf_settings.specs.declared.settings.Settings.{Settings}
+use Rattle.inf_token.specs.Files.{Openings, Sources}
+use Rattle.inf_session.specs.Choices.{Choices}
+use Rattle.inf_session.specs.Comes.{Begins, Comes}
+use Rattle.inf_session.specs.Leading.{IsFront}
+use Rattle.inf_session.specs.Outcome.{Ending}
+use Rattle.inf_session.proofs.Leadings.{front_same}
+use Rattle.inf_session.proofs.OutcomeLaws.{outcomes_are_unique}
+use Rattle.inf_session.specs.declared.translation.Compiled.{Compiled}
+use Rattle.inf_session.specs.declared.translation.Status.{Status}
+use Rattle.inf_compile.specs.Compiling.{Compiles, DeliversPart, TakesPart, TakesStory, story_in}
+
+-- what was compiled was delivered
+pub compiles : (s : Sources) (o : Choices) (serial name : List ℕ) (old new : Openings) (before after story_old story_new : Option (List ℕ)) (c : Compiled) (status : Status)
+    → Comes s o serial name old new before after c → status ≡ c.status → TakesStory (story_in c) story_old story_new
+    → Compiles s o serial name status before after story_old story_new
+compiles s o serial name old new before after story_old story_new c status k is taken = record {
+  ending = k.ending;
+  is_outcome = k.is_outcome;
+  status_is = is ∙ k.delivers.status;
+  messages = k.delivers.messages;
+  story = subst (λ (x : Option (List ℕ)). TakesStory x story_old story_new) k.delivers.story taken;
+}
+
+-- a part of its story was
+pub delivers_part : (s : Sources) (o : Choices) (serial name : List ℕ) (old new : Openings) (before after story_old story_new : Option (List ℕ)) (c : Compiled) (n : ℕ)
+    → Comes s o serial name old new before after c → TakesPart (story_in c) n story_old story_new → DeliversPart s o serial name n before after story_old story_new
+delivers_part s o serial name old new before after story_old story_new c n k taken = record {
+  ending = k.ending;
+  is_outcome = k.is_outcome;
+  messages = k.delivers.messages;
+  story = subst (λ (x : Option (List ℕ)). TakesPart x n story_old story_new) k.delivers.story taken;
+}
+
+-- All messages are a front of those of the outcome, which is the only one.
+pub begins_whole : (s : Sources) (o p : Choices) (serial name other : List ℕ) (old new : Openings) (before after : Option (List ℕ)) (c : Compiled)
+    → o ≡ p → name ≡ other → Comes s o serial name old new before after c → Begins s p serial other before after
+begins_whole s o p serial name other old new before after c same named k =
+    subst (λ (x : Choices). Begins s x serial other before after) same
+    (subst (λ (n : List ℕ). Begins s o serial n before after) named (record {
+      front = k.ending.messages;
+      takes = k.delivers.messages;
+      begins = λ e outcome.
+          subst (λ (x : Ending). IsFront k.ending.messages x.messages) (outcomes_are_unique s o serial name k.ending e k.is_outcome outcome)
+          (front_same k.ending.messages);
+    }))
+
+-- what is chosen, by its parts
+abbrev pub made : CharSet → Settings → List (List ℕ) → Choices
+made set settings directories = record { set = set; settings = settings; directories = directories }
+
+pub chosen_is : (a b : CharSet) (s t : Settings) (d e : List (List ℕ)) → a ≡ b → s ≡ t → d ≡ e → made a s d ≡ made b t e
+chosen_is a b s t d e of_set of_settings of_directories =
+    ap (λ (x : CharSet). made x s d) of_set ∙ ap (λ (x : Settings). made b x d) of_settings ∙ ap (λ (x : List (List ℕ)). made b t x) of_directories

@@ -1,0 +1,29 @@
+-- What the ends of compilations come to: one with an error has no story.
+use Rattle.std.proofs.Common.{◌≡◌, ℕ, List, true, Option, Some, None, refl}
+use Rattle.inf_report.specs.Messages.{StoryTooLong}
+use Rattle.inf_layout.specs.Story.{is_too_long, most_bytes}
+use Rattle.inf_unit.specs.Actions.{Work}
+use Rattle.inf_unit.proofs.Cases.{of_both}
+use Rattle.inf_unit.specs.Messages.{FileNames, Reported, with_fatal}
+use Rattle.inf_unit.specs.Names.{main_of, values, with_all_undeclared}
+use Rattle.inf_session.specs.Outcome.{Ending, begun, finished, first_line, is_clean, laid, refused}
+use Rattle.inf_session.specs.declared.translation.Status.TheVariants as status
+
+-- a story that is too long is told
+pub laid_too_long : (serial : List ℕ) (files : FileNames) (main : ℕ) (w : Work) (r : Reported) → is_too_long main (values w.names.names) w.output.code.finished ≡ true
+    → laid serial files main w r ≡ refused (with_fatal (first_line files) (StoryTooLong most_bytes) r)
+laid_too_long serial files main w r long = rw long refl
+
+abbrev HasNone : Ending → Type 0
+HasNone e = e.status ≡ status.Errors → e.story ≡ None
+
+laid_none : (serial : List ℕ) (files : FileNames) (main : ℕ) (w : Work) (r : Reported) → HasNone (laid serial files main w r)
+laid_none serial files main w r = of_both HasNone (is_too_long main (values w.names.names) w.output.code.finished) _ _ (λ _ _. refl) (λ _ e. cc)
+
+begun_none : (serial : List ℕ) (files : FileNames) (w : Work) (r : Reported) (main : Option ℕ) → HasNone (begun serial files w r main)
+begun_none serial files w r None = λ _. refl
+begun_none serial files w r (Some main) =
+    of_both HasNone (is_clean r) (laid serial files main w r) (refused r) (λ _. laid_none serial files main w r) (λ _ _. refl)
+
+pub errors_none : (serial : List ℕ) (files : FileNames) (w : Work) → (finished serial files w).status ≡ status.Errors → (finished serial files w).story ≡ None
+errors_none serial files w = begun_none serial files w (with_all_undeclared files w.names.names w.report) (main_of w.names)

@@ -1,0 +1,187 @@
+-- Where turns lead: what has ended stays, turns follow one another, and what was written is only added to.
+use Rattle.std.proofs.Common.{◌≡◌, ℕ, suc, zero, List, [], ◌∷◌, ◌++◌, Bool, true, false, Option, Some, None, cond, refl, sym, ap, subst, ◌∙◌, append_assoc, append-nil, arith}
+use Rattle.inf_token.specs.Files.{Sources}
+use Rattle.inf_symbol.specs.Sinks.{Takes}
+use Rattle.inf_unit.proofs.Cases.{of_both}
+use Rattle.inf_sources.specs.Cursors.{Cursor}
+use Rattle.inf_sources.specs.Inclusions.{Inclusion, Opens, OpensNone, inclusion}
+use Rattle.inf_sources.specs.declared.open_files.Included.{Included}
+use Rattle.inf_sources.specs.declared.open_files.Included.TheVariants as answer
+use Rattle.inf_unit.specs.Directives.{Asked, Nothing, Include, End, SystemFile}
+use Rattle.inf_reader.specs.Reading.{is_mode_ended}
+use Rattle.inf_scanner.specs.declared.tokens.Place.{Place}
+use Rattle.inf_session.specs.Choices.{Choices}
+use Rattle.inf_session.specs.Leading.{CutsShort, IsFront, Writes}
+use Rattle.inf_session.specs.Session.{State, answered, asked_nothing, followed, has_ended, included_by, left, left_by, none_included, run, stepped, turn}
+
+-- Fronts
+
+pub front_same : (xs : List ℕ) → IsFront xs xs
+front_same xs = record { rest = []; is_cut = sym (append-nil xs) }
+
+pub front_more : (xs ys : List ℕ) → IsFront xs (xs ++ ys)
+front_more xs ys = record { rest = ys; is_cut = refl }
+
+pub front_then : (xs ys zs : List ℕ) → IsFront xs ys → IsFront ys zs → IsFront xs zs
+front_then xs ys zs a b = record {
+  rest = a.rest ++ b.rest;
+  is_cut = b.is_cut ∙ ap (λ l. l ++ b.rest) a.is_cut ∙ append_assoc xs a.rest b.rest;
+}
+
+pub front_cut : (xs ys zs : List ℕ) → IsFront (xs ++ ys) zs → IsFront xs zs
+front_cut xs ys zs f = front_then xs (xs ++ ys) zs (front_more xs ys) f
+
+-- What a turn leaves of what was written
+
+abbrev SameTold : State → State → Type 0
+SameTold s t = t.told ≡ s.told
+
+left_by_told : (waiting : List Cursor) (s : State) → SameTold s (left_by waiting s)
+left_by_told [] s = refl
+left_by_told (c ∷ waiting) s = refl
+
+left_told : (s : State) → SameTold s (left s)
+left_told s = left_by_told s.nesting.waiting s
+
+none_told : (unit : Place) (text : List ℕ) (why : Included) (s : State) → SameTold s (none_included unit text why s)
+none_told unit text answer.Entered s = refl
+none_told unit text answer.NotThere s = refl
+none_told unit text answer.TooDeep s = refl
+
+included_told : (sources : Sources) (o : Choices) (unit : Place) (text : List ℕ) (i : Inclusion) (s : State) → SameTold s (included_by sources o unit text i s)
+included_told sources o unit text (Opens name) s = refl
+included_told sources o unit text (OpensNone why) s = none_told unit text why s
+
+answered_told : (asked : Asked) (sources : Sources) (o : Choices) (s : State) → SameTold s (answered asked sources o s)
+answered_told (Include text unit) sources o s = included_told sources o unit text (inclusion sources o.directories text s.nesting) s
+answered_told End sources o s = refl
+answered_told SystemFile sources o s = refl
+answered_told Nothing sources o s = refl
+
+followed_told : (sources : Sources) (o : Choices) (s : State) → SameTold s (followed sources o s)
+followed_told sources o s =
+    of_both (SameTold s) s.work.report.counts.is_over s _ (λ _. refl)
+    (λ _. of_both (SameTold s) (is_mode_ended s.reading.mode) (left s) (answered s.work.asked sources o (asked_nothing s)) (λ _. left_told s)
+    (λ _. answered_told s.work.asked sources o (asked_nothing s)))
+
+pub turn_adds : (sources : Sources) (o : Choices) (s : State) → (turn sources o s).told ≡ s.told ++ (followed sources o (stepped s)).work.report.lines
+turn_adds sources o s = ap (λ told. told ++ (followed sources o (stepped s)).work.report.lines) (followed_told sources o (stepped s))
+
+pub turn_begins : (sources : Sources) (o : Choices) (s : State) → IsFront s.told (turn sources o s).told
+turn_begins sources o s = record { rest = (followed sources o (stepped s)).work.report.lines; is_cut = turn_adds sources o s }
+
+-- Runs
+
+pub run_going : (sources : Sources) (o : Choices) (n : ℕ) (s : State) → has_ended s ≡ false → run sources o (suc n) s ≡ run sources o n (turn sources o s)
+run_going sources o n s going = ap (λ b. cond b s (run sources o n (turn sources o s))) going
+
+pub run_ended : (sources : Sources) (o : Choices) (n : ℕ) (s : State) → has_ended s ≡ true → run sources o n s ≡ s
+run_ended sources o zero s e = refl
+run_ended sources o (suc n) s e = ap (λ b. cond b s (run sources o n (turn sources o s))) e
+
+-- one turn more
+more_by : (sources : Sources) (o : Choices) (n : ℕ) (s : State) (b : Bool) → has_ended s ≡ b
+    → ((m : ℕ) → n ≡ suc m → has_ended (run sources o m (turn sources o s)) ≡ false → run sources o (suc m) (turn sources o s) ≡ turn sources o (run sources o m (turn sources o s)))
+    → has_ended (run sources o n s) ≡ false → run sources o (suc n) s ≡ turn sources o (run sources o n s)
+more_by sources o n s true e later going = let never : true ≡ false = sym (ap has_ended (run_ended sources o n s e) ∙ e) ∙ going in cc
+more_by sources o zero s false e later going = run_going sources o zero s e
+more_by sources o (suc m) s false e later going =
+    let on = run_going sources o m s e in
+    run_going sources o (suc m) s e ∙ later m refl (ap has_ended (sym on) ∙ going) ∙ ap (turn sources o) (sym on)
+
+pub run_more : (sources : Sources) (o : Choices) (n : ℕ) (s : State) → has_ended (run sources o n s) ≡ false → run sources o (suc n) s ≡ turn sources o (run sources o n s)
+run_more sources o zero s going = more_by sources o zero s (has_ended s) refl (λ m never h. cc) going
+run_more sources o (suc n) s going =
+    more_by sources o (suc n) s (has_ended s) refl (λ m is h.
+    let same : n ≡ m = omega (arith, is) in
+    subst (λ k. run sources o (suc k) (turn sources o s) ≡ turn sources o (run sources o k (turn sources o s))) same
+    (run_more sources o n (turn sources o s) (ap (λ k. has_ended (run sources o k (turn sources o s))) same ∙ h))) going
+
+pub run_begins : (sources : Sources) (o : Choices) (n : ℕ) (s : State) → IsFront s.told (run sources o n s).told
+run_begins sources o zero s = front_same s.told
+run_begins sources o (suc n) s =
+    of_both (λ t. IsFront s.told t.told) (has_ended s) s (run sources o n (turn sources o s)) (λ _. front_same s.told)
+    (λ _. front_then s.told (turn sources o s).told (run sources o n (turn sources o s)).told (turn_begins sources o s) (run_begins sources o n (turn sources o s)))
+
+-- what was written after some turns begins what is at the end
+begins_by : (sources : Sources) (o : Choices) (m n : ℕ) (s : State) (b : Bool) → has_ended s ≡ b
+    → (has_ended (run sources o n (turn sources o s)) ≡ true → IsFront (run sources o m (turn sources o s)).told (run sources o n (turn sources o s)).told)
+    → has_ended (run sources o (suc n) s) ≡ true → IsFront (run sources o (suc m) s).told (run sources o (suc n) s).told
+begins_by sources o m n s true is later e =
+    subst (λ t. IsFront t.told (run sources o (suc n) s).told) (sym (run_ended sources o (suc m) s is)) (run_begins sources o (suc n) s)
+begins_by sources o m n s false is later e =
+    let on = run_going sources o n s is in
+    subst (λ t. IsFront t.told (run sources o (suc n) s).told) (sym (run_going sources o m s is))
+    (subst (λ t. IsFront (run sources o m (turn sources o s)).told t.told) (sym on) (later (ap has_ended (sym on) ∙ e)))
+
+pub end_begins : (sources : Sources) (o : Choices) (m n : ℕ) (s : State) → has_ended (run sources o n s) ≡ true → IsFront (run sources o m s).told (run sources o n s).told
+end_begins sources o zero n s e = run_begins sources o n s
+end_begins sources o (suc m) zero s e = subst (λ t. IsFront t.told s.told) (sym (run_ended sources o (suc m) s e)) (front_same s.told)
+end_begins sources o (suc m) (suc n) s e = begins_by sources o m n s (has_ended s) refl (λ later. end_begins sources o m n (turn sources o s) later) e
+
+-- two ends are the same
+same_by : (sources : Sources) (o : Choices) (m n : ℕ) (s : State) (b : Bool) → has_ended s ≡ b
+    → (has_ended (run sources o m (turn sources o s)) ≡ true → has_ended (run sources o n (turn sources o s)) ≡ true → run sources o m (turn sources o s) ≡ run sources o n (turn sources o s))
+    → has_ended (run sources o (suc m) s) ≡ true → has_ended (run sources o (suc n) s) ≡ true → run sources o (suc m) s ≡ run sources o (suc n) s
+same_by sources o m n s true is later e f = run_ended sources o (suc m) s is ∙ sym (run_ended sources o (suc n) s is)
+same_by sources o m n s false is later e f =
+    let left = run_going sources o m s is in
+    let right = run_going sources o n s is in
+    left ∙ later (ap has_ended (sym left) ∙ e) (ap has_ended (sym right) ∙ f) ∙ sym right
+
+pub same_end : (sources : Sources) (o : Choices) (m n : ℕ) (s : State) → has_ended (run sources o m s) ≡ true → has_ended (run sources o n s) ≡ true
+    → run sources o m s ≡ run sources o n s
+same_end sources o zero n s e f = sym (run_ended sources o n s e)
+same_end sources o (suc m) zero s e f = run_ended sources o (suc m) s f
+same_end sources o (suc m) (suc n) s e f =
+    same_by sources o m n s (has_ended s) refl (λ x y. same_end sources o m n (turn sources o s) x y) e f
+
+-- What a sink took
+
+pub takes_then : (old mid new : Option (List ℕ)) (xs ys : List ℕ) → Takes old mid xs → Takes mid new ys → Takes old new (xs ++ ys)
+takes_then None mid new xs ys a b = subst (λ m. Takes m new ys) a b
+takes_then (Some before) mid new xs ys a b = by_mid (subst (λ m. Takes m new ys) a b)
+  where
+    by_mid : new ≡ Some ((before ++ xs) ++ ys) → new ≡ Some (before ++ (xs ++ ys))
+    by_mid e = e ∙ ap (λ l. Some l) (append_assoc before xs ys)
+
+pub takes_none : (old : Option (List ℕ)) → Takes old old []
+takes_none None = refl
+takes_none (Some before) = ap (λ l. Some l) (sym (append-nil before))
+
+-- no turns write nothing
+pub writes_none : (sources : Sources) (o : Choices) (s : List ℕ → State) (old : Option (List ℕ)) → Writes (run sources o zero) s s old old
+writes_none sources o s old = record { lines = []; takes = takes_none old; same = λ told. ap s (append-nil told) }
+
+-- one turn more, behind others
+pub writes_then : (sources : Sources) (o : Choices) (n : ℕ) (was mid now : List ℕ → State) (old between new : Option (List ℕ)) → ((told : List ℕ) → has_ended (mid told) ≡ false)
+    → Writes (run sources o n) was mid old between → Writes (turn sources o) mid now between new → Writes (run sources o (suc n)) was now old new
+writes_then sources o n was mid now old between new going a b = record {
+  lines = a.lines ++ b.lines;
+  takes = takes_then old between new a.lines b.lines a.takes b.takes;
+  same = λ told.
+      ap now (sym (append_assoc told a.lines b.lines)) ∙ b.same (told ++ a.lines) ∙ ap (turn sources o) (a.same told)
+      ∙ sym (run_more sources o n (was told) (ap has_ended (sym (a.same told)) ∙ going (told ++ a.lines)));
+}
+
+-- a turn that was given up, behind others
+pub cuts_then : (sources : Sources) (o : Choices) (n : ℕ) (was mid : List ℕ → State) (old between new : Option (List ℕ)) → ((told : List ℕ) → has_ended (mid told) ≡ false)
+    → Writes (run sources o n) was mid old between → CutsShort (turn sources o) mid between new → CutsShort (run sources o (suc n)) was old new
+cuts_then sources o n was mid old between new going a b = record {
+  front = a.lines ++ b.front;
+  takes = takes_then old between new a.lines b.front a.takes b.takes;
+  begins = λ told.
+      let more = ap (turn sources o) (a.same told) ∙ sym (run_more sources o n (was told) (ap has_ended (sym (a.same told)) ∙ going (told ++ a.lines))) in
+      subst (λ l. IsFront l (run sources o (suc n) (was told)).told) (append_assoc told a.lines b.front)
+      (subst (λ t. IsFront ((told ++ a.lines) ++ b.front) t.told) more (b.begins (told ++ a.lines)));
+}
+
+-- nothing of a turn was written
+pub cut_at_once : (sources : Sources) (o : Choices) (was : List ℕ → State) (old new : Option (List ℕ)) → ((told : List ℕ) → (was told).told ≡ told) → new ≡ old
+    → CutsShort (turn sources o) was old new
+cut_at_once sources o was old new told_is e = record {
+  front = [];
+  takes = subst (λ n. Takes old n []) (sym e) (takes_none old);
+  begins = λ told.
+      subst (λ l. IsFront l (turn sources o (was told)).told) (told_is told ∙ sym (append-nil told)) (turn_begins sources o (was told));
+}

@@ -1,0 +1,21 @@
+-- What the words of a command choose for a compilation.
+use Rattle.std.specs.Prelude.{ℕ, List, map}
+use Rattle.inf_characters.specs.declared.characters.CharSet.{CharSet}
+use Rattle.inf_settings.specs.Settings.{number_of}
+use Rattle.inf_settings.specs.declared.setting.Setting.TheVariants.{QuotedText}
+use Rattle.inf_settings.specs.declared.settings.Settings.{Settings}
+use Rattle.inf_session.specs.declared.setup.Setup.{Setup}
+
+-- the character set of the sources, the settings, and the directories of included files
+pub record Choices : Type 0 where
+  pub set : CharSet
+  pub settings : Settings
+  pub directories : List (List ℕ)
+
+-- how many bytes a text or quote may have
+abbrev pub most_quoted : Choices → ℕ
+most_quoted o = number_of QuotedText o.settings
+
+-- what the code's setup stands for
+abbrev pub chosen : Setup → Choices
+chosen s = record { set = s.set; settings = s.settings.now; directories = map (λ d. d.now) s.directories.now }

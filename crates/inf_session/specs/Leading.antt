@@ -1,0 +1,21 @@
+-- What some turns of reading lead to, and what they write.
+use Rattle.std.specs.Prelude.{◌≡◌, ℕ, List, ◌++◌, Option}
+use Rattle.inf_symbol.specs.Sinks.{Takes}
+use Rattle.inf_session.specs.Session.{State}
+
+-- The first list is a front of the second.
+pub record IsFront (front whole : List ℕ) : Type 0 where
+  pub rest : List ℕ
+  pub is_cut : whole ≡ front ++ rest
+
+-- One step of reading leads from what was to what is now, whatever was written before, and wrote these lines.
+pub record Writes (step : State → State) (was now : List ℕ → State) (old new : Option (List ℕ)) : Type 0 where
+  pub lines : List ℕ
+  pub takes : Takes old new lines
+  pub same : (told : List ℕ) → now (told ++ lines) ≡ step (was told)
+
+-- It was given up, and wrote no more than a front of what the step writes.
+pub record CutsShort (step : State → State) (was : List ℕ → State) (old new : Option (List ℕ)) : Type 0 where
+  pub front : List ℕ
+  pub takes : Takes old new front
+  pub begins : (told : List ℕ) → IsFront (told ++ front) (step (was told)).told

@@ -1,0 +1,12 @@
+pub mod Choices
+pub mod Faults
+pub mod Session
+pub mod Given
+pub mod Standing
+pub mod Leading
+pub mod Outcome
+pub mod Endings
+pub mod Comes
+pub mod Weights
+pub mod OutcomeLaws
+pub mod Examples

@@ -1,0 +1,71 @@
+-- What comes of a compilation: the lines of its messages, its story or none, and its status.
+use Rattle.std.specs.Prelude.{◌≡◌, ℕ, List, ◌++◌, Bool, not, ◌&&◌, ◌==◌, if◌then◌else◌, Option, Some, None}
+use Rattle.inf_report.specs.Messages.{Location, NoMain, NoSource, StoryTooLong}
+use Rattle.inf_layout.specs.Story.{most_bytes, story, is_too_long}
+use Rattle.inf_unit.specs.Actions.{Work}
+use Rattle.inf_unit.specs.Messages.{FileNames, Reported, location, nothing_reported, with_closing, with_error, with_fatal}
+use Rattle.inf_unit.specs.Names.{main_of, values, with_all_undeclared}
+use Rattle.inf_token.specs.Files.{Sources}
+use Rattle.inf_session.specs.Choices.{Choices}
+use Rattle.inf_session.specs.Session.{IsRead, State, start}
+use Rattle.inf_session.specs.declared.translation.Status.{Status}
+use Rattle.inf_session.specs.declared.translation.Status.TheVariants as status
+
+-- what is written and answered
+pub record Ending : Type 0 where
+  pub messages : List ℕ
+  pub story : Option (List ℕ)
+  pub status : Status
+
+-- with an error or a fatal message no story comes
+abbrev pub refused : Reported → Ending
+refused r = record { messages = (with_closing r).lines; story = None; status = status.Errors }
+
+abbrev pub is_clean : Reported → Bool
+is_clean r = not r.counts.is_over && (r.counts.errors == 0)
+
+-- messages about a whole source stand at its first line
+abbrev pub first_line : FileNames → Location
+first_line files = location files (record { file = 0; line = 1 })
+
+-- the story of the routines, where it is not too long
+abbrev pub laid : List ℕ → FileNames → ℕ → Work → Reported → Ending
+laid serial files main w r =
+    if is_too_long main (values w.names.names) w.output.code.finished
+    then refused (with_fatal (first_line files) (StoryTooLong most_bytes) r)
+    else record {
+      messages = (with_closing r).lines;
+      story = Some (story serial main (values w.names.names) w.output.code.finished);
+      status = status.Success;
+    }
+
+-- the ending of a source that was read: without its first routine it has an error
+abbrev pub begun : List ℕ → FileNames → Work → Reported → Option ℕ → Ending
+begun serial files w r None = refused (with_error (first_line files) (first_line files) NoMain r)
+begun serial files w r (Some main) = if is_clean r then laid serial files main w r else refused r
+
+-- at the end the names are told that were used and never declared
+abbrev pub finished : List ℕ → FileNames → Work → Ending
+finished serial files w = begun serial files w (with_all_undeclared files w.names.names w.report) (main_of w.names)
+
+-- the ending of a source that is not there
+abbrev pub missing : List ℕ → Ending
+missing file = refused (with_fatal (record { file = file; line = 1 }) (NoSource file) nothing_reported)
+
+-- The ending of a compilation whose reading ended so: the messages that were written before come first.
+abbrev pub ending_of : List ℕ → State → Ending
+ending_of serial s = let e = finished serial s.nesting.names s.work in record e { messages = s.told ++ e.messages }
+
+-- What comes of a main source that is there: reading ends, and this is the ending.
+pub record IsCompiled (sources : Sources) (o : Choices) (serial name : List ℕ) (e : Ending) : Type 0 where
+  pub final : State
+  pub is_read : IsRead sources o (start sources o name) final
+  pub is_ending : e ≡ ending_of serial final
+
+abbrev pub IsOutcomeOf : Option (List ℕ) → Sources → Choices → List ℕ → List ℕ → Ending → Type 0
+IsOutcomeOf None sources o serial name e = e ≡ missing name
+IsOutcomeOf (Some source) sources o serial name e = IsCompiled sources o serial name e
+
+-- The outcome of the main source of a name, among these sources and with these choices; the story has this serial number.
+abbrev pub IsOutcome : Sources → Choices → List ℕ → List ℕ → Ending → Type 0
+IsOutcome sources o serial name e = IsOutcomeOf (sources name) sources o serial name e

@@ -1,0 +1,125 @@
+-- How a source is read with the files that it includes: token by token of the innermost file. A directive may ask for another
+-- file, which is read before what follows it, or that reading ends. Where the end of an included file was read, reading goes on in
+-- the file that includes it.
+-- Designer's Manual, fourth edition, sections 38 and 39.
+use Rattle.std.specs.Prelude.{◌≡◌, ℕ, List, [], ◌∷◌, ◌++◌, Bool, true, false, ◌||◌, if◌then◌else◌, zero, suc}
+use Rattle.inf_scanner.specs.declared.tokens.Place.{Place}
+use Rattle.inf_token.specs.Files.{Sources}
+use Rattle.inf_report.specs.Messages.{Message, NoInclude, TooManyFiles}
+use Rattle.inf_sources.specs.Cursors.{Cursor, behind, read}
+use Rattle.inf_sources.specs.Inclusions.{Inclusion, Nesting, Opens, OpensNone, inclusion, main_opened, resumed, with_opened}
+use Rattle.inf_sources.specs.declared.open_files.Included.{Included}
+use Rattle.inf_sources.specs.declared.open_files.Included.TheVariants as answer
+use Rattle.inf_unit.specs.Actions.{Work}
+use Rattle.inf_unit.specs.Directives.{Asked, Nothing, Include, End, SystemFile}
+use Rattle.inf_unit.specs.Messages.{flushed, location, with_fatal}
+use Rattle.inf_unit.specs.Tokens.{Spelled}
+use Rattle.inf_reader.specs.Reading.{Reading, Stand, begun_stand, has_ended_at, is_mode_ended, step}
+use Rattle.inf_reader.specs.declared.mode.Mode.TheVariants as mode
+use Rattle.inf_session.specs.Choices.{Choices, most_quoted}
+
+-- The files that are open with what is still to come of each; how the next token is read; what was compiled, with the messages
+-- that are not written yet; the messages that are; and whether a directive has ended all reading.
+pub record State : Type 0 where
+  pub nesting : Nesting
+  pub reading : Reading
+  pub work : Work
+  pub told : List ℕ
+  pub is_over : Bool
+
+-- before the first token of the main source of this name
+abbrev pub start : Sources → Choices → List ℕ → State
+start sources o name = record {
+  nesting = main_opened o.set (most_quoted o) sources name;
+  reading = (begun_stand o.set o.settings).reading;
+  work = (begun_stand o.set o.settings).work;
+  told = [];
+  is_over = false;
+}
+
+-- how it is read and what was compiled
+abbrev pub stand_of : State → Stand
+stand_of s = record { reading = s.reading; work = s.work }
+
+-- Nothing is read behind the end of the main source, a fatal message, or a directive that ends all.
+abbrev pub has_ended : State → Bool
+has_ended s = s.is_over || has_ended_at (stand_of s)
+
+-- the next token of the innermost file
+abbrev pub token_of : Cursor → Spelled
+token_of c = let r = read c in record { kind = r.kind; bytes = r.kept.bytes; place = record { file = c.file; line = r.line } }
+
+-- it does what the reader says
+abbrev pub stepped : State → State
+stepped s =
+    let n = step s.nesting.names (token_of s.nesting.cursor) s.reading s.work in
+    record {
+      nesting = record s.nesting { cursor = behind s.nesting.cursor (read s.nesting.cursor) };
+      reading = n.reading;
+      work = n.work;
+      told = s.told;
+      is_over = s.is_over;
+    }
+
+-- At the end of an included file the file is closed, and reading goes on in the one that includes it.
+abbrev pub left_by : List Cursor → State → State
+left_by [] s = s
+left_by (c ∷ waiting) s = record s { nesting = resumed (c ∷ waiting) s.nesting; reading = record s.reading { mode = mode.Reads } }
+
+abbrev pub left : State → State
+left s = left_by s.nesting.waiting s
+
+-- a fatal message, at the place of the unit that asks for a file
+abbrev pub refused_with : Place → Message → State → State
+refused_with unit m s = record s { work = record s.work { report = with_fatal (location s.nesting.names unit) m s.work.report } }
+
+-- why no file is opened for a text is told
+abbrev pub none_included : Place → List ℕ → Included → State → State
+none_included unit text answer.Entered s = s
+none_included unit text answer.NotThere s = refused_with unit (NoInclude text) s
+none_included unit text answer.TooDeep s = refused_with unit TooManyFiles s
+
+-- the file that an inclusion opens is the innermost
+abbrev pub included_by : Sources → Choices → Place → List ℕ → Inclusion → State → State
+included_by sources o unit text (Opens name) s = record s { nesting = with_opened o.set (most_quoted o) sources name s.nesting }
+included_by sources o unit text (OpensNone why) s = none_included unit text why s
+
+-- the file that the text of an inclusion names is entered, for a unit at a place
+abbrev pub included : Sources → Choices → Place → List ℕ → State → State
+included sources o unit text s = included_by sources o unit text (inclusion sources o.directories text s.nesting) s
+
+-- what was asked is done
+abbrev pub asked_nothing : State → State
+asked_nothing s = record s { work = record s.work { asked = Nothing } }
+
+-- what a directive asks of the reading
+abbrev pub answered : Asked → Sources → Choices → State → State
+answered (Include text unit) sources o s = included sources o unit text s
+answered End sources o s = record s { is_over = true }
+answered SystemFile sources o s = s
+answered Nothing sources o s = s
+
+-- how reading goes on behind a token: behind a fatal message not at all, and at the end of a file nothing is asked
+abbrev pub followed : Sources → Choices → State → State
+followed sources o s =
+    if s.work.report.counts.is_over then s else
+    if is_mode_ended s.reading.mode then left s else answered s.work.asked sources o (asked_nothing s)
+
+-- the messages so far are written
+abbrev pub told_out : State → State
+told_out s = record s { work = record s.work { report = flushed s.work.report }; told = s.told ++ s.work.report.lines }
+
+-- one turn takes a token, does what it asks, and writes what there is to tell
+abbrev pub turn : Sources → Choices → State → State
+turn sources o s = told_out (followed sources o (stepped s))
+
+-- at most n turns
+abbrev pub run : Sources → Choices → ℕ → State → State
+run sources o zero s = s
+run sources o (suc n) s = if has_ended s then s else run sources o n (turn sources o s)
+
+-- Reading ends here: some turns lead here, and this is an end.
+pub record IsRead (sources : Sources) (o : Choices) (s final : State) : Type 0 where
+  pub turns : ℕ
+  pub leads : run sources o turns s ≡ final
+  pub ends : has_ended final ≡ true
