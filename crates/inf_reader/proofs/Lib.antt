@@ -3,3 +3,4 @@ pub mod Turns
 pub mod PieceLaws
 pub mod ReadingLaws
 pub mod Constants
+pub mod Handing

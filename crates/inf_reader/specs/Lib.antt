@@ -6,3 +6,4 @@ pub mod Pieces
 pub mod Standing
 pub mod ReadingLaws
 pub mod Constants
+pub mod Handing

@@ -4,6 +4,7 @@ ghost use Rattle.inf_report.specs.Meant.{located};
 ghost use Rattle.inf_unit.specs.Statements.{name_of};
 ghost use Rattle.inf_unit.specs.Tokens.{spelled};
 ghost use Rattle.inf_unit.specs.Works.{work as work_of};
+ghost use Rattle.inf_reader.specs.Handing.{hash};
 ghost use Rattle.inf_reader.specs.Reading.{gathering, with_complaint};
 ghost use Rattle.inf_reader.specs.Tests.{complaint_of};
 
@@ -11,10 +12,12 @@ use crate::mode::{Mode, passed};
 use crate::reader::Reader;
 use crate::selection::{begins_piece, has_come};
 use crate::tokens::{atom_at, complaint_of, text_of};
+use inf_conditionals::conditionals::tell_lone;
+use inf_conditionals::judged::{Handed, Judged, Site};
 use inf_grammar::Action;
-use inf_lexer::Stack;
+use inf_lexer::{Place, Stack};
 use inf_report::messages::{Kind, Location};
-use inf_scanner::TokenKind;
+use inf_scanner::{Mark, TokenKind};
 use inf_settings::settings::Settings;
 use inf_text::CharSet;
 use inf_unit::messages::{Messages, location};
@@ -34,6 +37,7 @@ pub struct Progress {
 }
 
 impl Progress {
+    ghost use Rattle.inf_reader.specs.Handing.{handed_as, judged_taken, site_of};
     ghost use Rattle.inf_reader.specs.Reading.{bad, begun_stand, has_ended_at, judged, read_at, step};
     ghost use Rattle.inf_reader.specs.Standing.{reading, standing};
     ghost use Rattle.inf_unit.specs.Works.{work};
@@ -70,6 +74,49 @@ impl Progress {
                 Ok(())
             }
             Mode::Ended => Ok(()),
+        }
+    }
+
+    /// Where the next token comes to.
+    pub fn site(&self) -> Site
+        ensures { result ≡ site_of (standing self.now).reading }
+    {
+        Site {
+            is_between: matches!(self.reader.mode, Mode::Reads) && self.reader.machine.is_done(),
+            is_quiet: matches!(self.reader.mode, Mode::SkipsRoutine | Mode::SkipsDirective),
+        }
+    }
+
+    /// Takes what became of the next token of a source among conditionals. A name has at most 32 bytes.
+    pub fn take_judged(
+        &mut self,
+        files: &Stack,
+        token: &Spelled<'_>,
+        judged: Judged,
+    ) -> Result<(), AllocError>
+        requires { IsSome (name_of (spelled token.now)) → length token.now.bytes.now ≤ 32 }
+        ensures { OnOk result (standing self.new ≡ judged_taken files.now.names (spelled token.now) judged (standing self.old)) }
+    {
+        if let Some(sign) = judged.sign {
+            self.hand(files, &hash(sign.place), sign.handed)?;
+        }
+        if let Some(handed) = judged.token {
+            self.hand(files, token, handed)?;
+        }
+        if let Some(place) = judged.lone {
+            tell_lone(place, files, &mut self.work.report)?;
+        }
+        Ok(())
+    }
+
+    /// Takes a token that is kept, or one that does not fit. A name has at most 32 bytes.
+    fn hand(&mut self, files: &Stack, token: &Spelled<'_>, handed: Handed) -> Result<(), AllocError>
+        requires { IsSome (name_of (spelled token.now)) → length token.now.bytes.now ≤ 32 }
+        ensures { OnOk result (standing self.new ≡ handed_as handed files.now.names (spelled token.now) (standing self.old)) }
+    {
+        match (handed, self.reader.mode) {
+            (Handed::Unfit, Mode::Reads) => self.bad(files, token),
+            _ => self.take(files, token),
         }
     }
 
@@ -120,6 +167,17 @@ impl Progress {
     {
         self.reader.give_up(token);
         complain(&mut self.work.report, location(files, token.place), token)
+    }
+}
+
+/// A `#` at a place.
+fn hash(place: Place) -> Spelled<'static>
+    ensures { spelled result ≡ hash place }
+{
+    Spelled {
+        kind: TokenKind::Mark(Mark::Hash),
+        bytes: b"#",
+        place,
     }
 }
 

@@ -6,6 +6,7 @@ use Rattle.inf_sources.specs.Inclusions.{Nesting, main_opened}
 use Rattle.inf_sources.specs.Cursors.{Cursor}
 use Rattle.inf_lexer.specs.Unread.{View, innermost_place, unread_of}
 use Rattle.inf_sources.proofs.Places.{innermost_of, last_of}
+use Rattle.inf_conditionals.specs.Open.{Conditions, no_conditions}
 use Rattle.inf_sources.specs.Open.{AllGiven, AreCounted, AreNested, IsCounted, IsGiven, IsNested, NamesAreOpened, Open, closed_to, cursor_of, cursors_at, nesting, rest_of}
 use Rattle.inf_reader.specs.Reading.{Stand, begun_stand}
 use Rattle.inf_reader.specs.Standing.{standing}
@@ -23,7 +24,6 @@ use Rattle.inf_session.specs.Session.{IsRead, State, has_ended, run, start}
 use Rattle.inf_session.specs.Standing.{state}
 use Rattle.inf_session.specs.declared.session.Session.{Session}
 use Rattle.inf_session.specs.declared.translation.Compiled.{Compiled}
-use Rattle.inf_session.specs.declared.translation.Status.TheVariants as status
 use Rattle.inf_session.proofs.Leadings.{end_begins, front_more, front_then, same_end, takes_none, takes_then}
 
 -- fronts of what follows the same
@@ -188,14 +188,15 @@ begins_of s o serial name was before after there begun k = record {
 
 -- a session at the front of the main source
 pub begun_is : (s : Sources) (o : Choices) (name : List ℕ) (old now : Openings) (x : Session) → nesting s old now x.open_files ≡ main_opened o.set (most_quoted o) s name
-    → standing x.progress ≡ begun_stand o.set o.settings → x.is_over ≡ false → state s old now x [] ≡ start s o name
-begun_is s o name old now x files at going =
-    ap (λ (n : Nesting). made n (standing x.progress) x.is_over) files
-    ∙ ap (λ (p : Stand). made (main_opened o.set (most_quoted o) s name) p x.is_over) at
-    ∙ ap (λ (b : Bool). made (main_opened o.set (most_quoted o) s name) (begun_stand o.set o.settings) b) going
+    → standing x.progress ≡ begun_stand o.set o.settings → x.is_over ≡ false → x.conditionals ≡ no_conditions → state s old now x [] ≡ start s o name
+begun_is s o name old now x files at going none =
+    ap (λ (n : Nesting). made n x.conditionals (standing x.progress) x.is_over) files
+    ∙ ap (λ (p : Stand). made (main_opened o.set (most_quoted o) s name) x.conditionals p x.is_over) at
+    ∙ ap (λ (b : Bool). made (main_opened o.set (most_quoted o) s name) x.conditionals (begun_stand o.set o.settings) b) going
+    ∙ ap (λ (c : Conditions). made (main_opened o.set (most_quoted o) s name) c (begun_stand o.set o.settings) false) none
   where
-    made : Nesting → Stand → Bool → State
-    made n p b = record { nesting = n; reading = p.reading; work = p.work; told = []; is_over = b }
+    made : Nesting → Conditions → Stand → Bool → State
+    made n c p b = record { nesting = n; conditions = c; reading = p.reading; work = p.work; told = []; is_over = b }
 
 -- too many bytes were given
 pub gave_too_much : (base count : ℕ) (f : Open) → 16777216 < f.lexer.window.given → GivesAtLeast base f count → GaveTooMuch base count

@@ -9,7 +9,7 @@ use Rattle.inf_layout.specs.Code.{known}
 use Rattle.inf_layout.specs.Fixed.{repeated, fixed_bytes, body_bytes, story_bytes}
 use Rattle.inf_layout.specs.Story.{body, story}
 use Rattle.inf_layout.specs.StoryLaws.{HasWordAt, TellsItself}
-use Rattle.inf_session.specs.Examples.{EmptySource, FilesAreIncluded, HelloIsAStory, NamesAreUndeclared, NoSource, SixteenAreOpen, TextIsMissing}
+use Rattle.inf_session.specs.Examples.{ConditionalsChoose, EmptySource, FilesAreIncluded, HelloIsAStory, NamesAreUndeclared, NoSource, SixteenAreOpen, TextIsMissing}
 use Rattle.inf_grammar.specs.Language as language
 use Rattle.inf_names.specs.SystemNames as system
 use Rattle.inf_layout.proofs.Fixed.{story_is}
@@ -34,6 +34,10 @@ names_are_undeclared serial = record { final = _; is_read = record { turns = 40;
 pub files_are_included : FilesAreIncluded
 unfolding digits text_of piece_at escape_piece spelled spellings zscii_of zscii_of_unicode accented language.grammar language.known system.system_names
 files_are_included serial = record { final = _; is_read = record { turns = 40; leads = refl; ends = refl }; is_ending = refl }
+
+pub conditionals_choose : ConditionalsChoose
+unfolding digits text_of piece_at escape_piece spelled spellings zscii_of zscii_of_unicode accented language.grammar language.known system.system_names
+conditionals_choose serial = record { final = _; is_read = record { turns = 80; leads = refl; ends = refl }; is_ending = refl }
 
 pub sixteen_are_open : SixteenAreOpen
 unfolding digits text_of piece_at escape_piece spelled spellings zscii_of zscii_of_unicode accented language.grammar language.known system.system_names

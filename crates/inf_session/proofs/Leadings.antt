@@ -12,7 +12,7 @@ use Rattle.inf_reader.specs.Reading.{is_mode_ended}
 use Rattle.inf_scanner.specs.declared.tokens.Place.{Place}
 use Rattle.inf_session.specs.Choices.{Choices}
 use Rattle.inf_session.specs.Leading.{CutsShort, IsFront, Writes}
-use Rattle.inf_session.specs.Session.{State, answered, asked_nothing, followed, has_ended, included_by, left, left_by, none_included, run, stepped, turn}
+use Rattle.inf_session.specs.Session.{State, answered, asked_nothing, file_closed, followed, has_ended, heeded, included_by, is_resting, left, left_by, none_included, piece_closed, rested, run, stepped, turn}
 
 -- Fronts
 
@@ -41,7 +41,7 @@ left_by_told [] s = refl
 left_by_told (c ∷ waiting) s = refl
 
 left_told : (s : State) → SameTold s (left s)
-left_told s = left_by_told s.nesting.waiting s
+left_told s = left_by_told s.nesting.waiting (file_closed s)
 
 none_told : (unit : Place) (text : List ℕ) (why : Included) (s : State) → SameTold s (none_included unit text why s)
 none_told unit text answer.Entered s = refl
@@ -58,11 +58,18 @@ answered_told End sources o s = refl
 answered_told SystemFile sources o s = refl
 answered_told Nothing sources o s = refl
 
-followed_told : (sources : Sources) (o : Choices) (s : State) → SameTold s (followed sources o s)
-followed_told sources o s =
+heeded_told : (sources : Sources) (o : Choices) (s : State) → SameTold s (heeded sources o s)
+heeded_told sources o s =
     of_both (SameTold s) s.work.report.counts.is_over s _ (λ _. refl)
     (λ _. of_both (SameTold s) (is_mode_ended s.reading.mode) (left s) (answered s.work.asked sources o (asked_nothing s)) (λ _. left_told s)
     (λ _. answered_told s.work.asked sources o (asked_nothing s)))
+
+rested_told : (s : State) → SameTold s (rested s)
+rested_told s =
+    of_both (SameTold s) (has_ended s) s _ (λ _. refl) (λ _. of_both (SameTold s) (is_resting s) (piece_closed s) s (λ _. refl) (λ _. refl))
+
+followed_told : (sources : Sources) (o : Choices) (s : State) → SameTold s (followed sources o s)
+followed_told sources o s = rested_told (heeded sources o s) ∙ heeded_told sources o s
 
 pub turn_adds : (sources : Sources) (o : Choices) (s : State) → (turn sources o s).told ≡ s.told ++ (followed sources o (stepped s)).work.report.lines
 turn_adds sources o s = ap (λ told. told ++ (followed sources o (stepped s)).work.report.lines) (followed_told sources o (stepped s))

@@ -5,3 +5,4 @@ pub mod Standings
 pub mod Concluding
 pub mod OutcomeLaws
 pub mod Examples
+pub mod Stepping

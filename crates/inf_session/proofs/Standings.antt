@@ -1,6 +1,6 @@
 -- What the session stands for behind a file that was left or entered, a refused inclusion, and a turn.
-use Rattle.std.proofs.Common.{◌≡◌, ◌⊎◌, inl, inr, ℕ, ◌+◌, ◌≤◌, List, [], ◌∷◌, ◌++◌, length, drop, reverse, get_or, cond, Bool, true, false, not, ◌||◌, Option, refl, sym, ap, subst, ◌∙◌, arith, append_assoc, leb-true}
-use Rattle.std.specs.Prelude.{nat_le, if◌then◌else◌}
+use Rattle.std.proofs.Common.{◌≡◌, ◌⊎◌, inl, inr, ℕ, ◌+◌, ◌≤◌, List, [], ◌∷◌, ◌++◌, length, drop, reverse, get_or, Bool, true, false, not, ◌||◌, Option, refl, sym, ap, subst, ◌∙◌, arith, append_assoc, leb-true}
+use Rattle.std.specs.Prelude.{nat_le}
 use Rattle.std.specs.Str.{bytes_eq}
 use Rattle.std.proofs.lemmas.List.Sums.{prefix_len-le-length}
 use Rattle.inf_token.specs.Files.{Openings, Sources, opened}
@@ -12,13 +12,15 @@ use Rattle.inf_sources.specs.Inclusions.{Nesting, closed, resumed}
 use Rattle.inf_sources.specs.Open.{AreNested, IsNested, Open, cursor_of, cursors_at, nesting, rest_of}
 use Rattle.inf_sources.proofs.Places.{innermost_of, reverse_last}
 use Rattle.inf_symbol.specs.Sinks.{Takes}
-use Rattle.inf_unit.specs.Messages.{flushed}
+use Rattle.inf_conditionals.specs.Ends.{file_left, file_told}
+use Rattle.inf_conditionals.specs.Open.{Conditions}
+use Rattle.inf_unit.specs.Messages.{Reported, flushed}
 use Rattle.inf_reader.specs.declared.mode.Mode.TheVariants as mode
 use Rattle.inf_session.specs.Choices.{Choices}
 use Rattle.inf_session.specs.Faults.{IfRead}
 use Rattle.inf_session.specs.Given.{GivesAtLeast, given_to}
 use Rattle.inf_session.specs.Leading.{CutsShort, Writes}
-use Rattle.inf_session.specs.Session.{State, followed, left, left_by, stepped, told_out, turn}
+use Rattle.inf_session.specs.Session.{State, file_closed, followed, left, left_by, stepped, told_out, turn}
 use Rattle.inf_session.specs.Standing.{state}
 use Rattle.inf_session.specs.declared.faults.Fault.{Fault}
 use Rattle.inf_session.specs.declared.session.Session.{Session}
@@ -63,12 +65,25 @@ resumes : (waiting : List Cursor) (first : Cursor) (others : List Cursor) (s : S
 resumes [] first others s e = cc
 resumes (c ∷ waiting) first others s e = refl
 
-pub left_is : (s : State) (n : Nesting) → n ≡ closed s.nesting → Waiting s.nesting.waiting → going_on n s ≡ left s
-left_is s n e w = ap (λ (m : Nesting). going_on m s) e ∙ resumes s.nesting.waiting w.first w.others s w.is
+-- with the conditionals of the file
+abbrev closed_as : Conditions → Reported → State → State
+closed_as c r s = record s { conditions = c; work = record s.work { report = r } }
+
+closed_is : (s : State) (c : Conditions) (r : Reported) → c ≡ file_left s.conditions → r ≡ file_told s.nesting.names s.conditions s.work.report → closed_as c r s ≡ file_closed s
+closed_is s c r left told = ap (λ (x : Conditions). closed_as x r s) left ∙ ap (λ (x : Reported). closed_as (file_left s.conditions) x s) told
+
+pub left_is : (s : State) (n : Nesting) (c : Conditions) (r : Reported) → c ≡ file_left s.conditions → r ≡ file_told s.nesting.names s.conditions s.work.report
+    → n ≡ closed s.nesting → Waiting s.nesting.waiting → going_on n (closed_as c r s) ≡ left s
+left_is s n c r left told e w =
+    ap (λ (x : State). going_on n x) (closed_is s c r left told)
+    ∙ ap (λ (m : Nesting). going_on m (file_closed s)) e ∙ resumes s.nesting.waiting w.first w.others (file_closed s) w.is
 
 -- nothing was left
-pub stays : (s : State) (n : Nesting) → n ≡ s.nesting → s.nesting.waiting ≡ [] → record s { nesting = n } ≡ left s
-stays s n e none = ap (λ (m : Nesting). record s { nesting = m }) e ∙ sym (ap (λ (waiting : List Cursor). left_by waiting s) none)
+pub stays : (s : State) (n : Nesting) (c : Conditions) (r : Reported) → c ≡ file_left s.conditions → r ≡ file_told s.nesting.names s.conditions s.work.report
+    → n ≡ s.nesting → s.nesting.waiting ≡ [] → record (closed_as c r s) { nesting = n } ≡ left s
+stays s n c r left told e none =
+    ap (λ (x : State). record x { nesting = n }) (closed_is s c r left told)
+    ∙ ap (λ (m : Nesting). record (file_closed s) { nesting = m }) e ∙ sym (ap (λ (waiting : List Cursor). left_by waiting (file_closed s)) none)
 
 -- What was given
 

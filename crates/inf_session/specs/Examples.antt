@@ -52,6 +52,12 @@ FilesAreIncluded =
     Refuses (with_source (codes "c.h") (codes "\nMessage \"c\";") (only (codes "Include \"c\";\nInclude \">c\"; Message \"b\"; 5;")))
     (codes "c\nc\nb\nt.inf(2): Error: Syntax error at \"5\"\nt.inf(1): Error: No routine \"Main\"\nErrors: 2, warnings: 0 (no output)\n")
 
+-- a name of an included file is known, one that is declared later is not, and a conditional ends with its file
+abbrev pub ConditionalsChoose : Type 0
+ConditionalsChoose =
+    Refuses (with_source (codes "c.h") (codes "Constant K;") (only (codes "Include \"c.h\";\nIfdef K; Message \"yes\"; Ifnot; Message \"no\"; Endif;\n[ Main; #Ifdef L; new_line; #Endif; ];\nConstant L;\nIfdef M;")))
+    (codes "yes\nt.inf(5): Error: Conditional without its other end\nErrors: 1, warnings: 0 (no output)\n")
+
 -- a text so many times
 abbrev pub times : ℕ → List ℕ → List ℕ
 times zero bytes = []

@@ -1,10 +1,13 @@
--- How a source is read with the files that it includes: token by token of the innermost file. A directive may ask for another
--- file, which is read before what follows it, or that reading ends. Where the end of an included file was read, reading goes on in
--- the file that includes it.
+-- How a source is read with the files that it includes: token by token of the innermost file. Conditionals choose which tokens
+-- the grammar sees. A directive may ask for another file, which is read before what follows it, or that reading ends. Where the
+-- end of an included file was read, reading goes on in the file that includes it.
 -- Designer's Manual, fourth edition, sections 38 and 39.
-use Rattle.std.specs.Prelude.{◌≡◌, ℕ, List, [], ◌∷◌, ◌++◌, Bool, true, false, ◌||◌, if◌then◌else◌, zero, suc}
+use Rattle.std.specs.Prelude.{◌≡◌, ℕ, List, [], ◌∷◌, ◌++◌, Bool, true, false, ◌&&◌, ◌||◌, if◌then◌else◌, zero, suc}
 use Rattle.inf_scanner.specs.declared.tokens.Place.{Place}
 use Rattle.inf_token.specs.Files.{Sources}
+use Rattle.inf_conditionals.specs.Ends.{file_entered, file_left, file_told, piece_ended, piece_told}
+use Rattle.inf_conditionals.specs.Judging.{is_none_pending, judged}
+use Rattle.inf_conditionals.specs.Open.{Conditions, no_conditions}
 use Rattle.inf_report.specs.Messages.{Message, NoInclude, TooManyFiles}
 use Rattle.inf_sources.specs.Cursors.{Cursor, behind, read}
 use Rattle.inf_sources.specs.Inclusions.{Inclusion, Nesting, Opens, OpensNone, inclusion, main_opened, resumed, with_opened}
@@ -14,14 +17,16 @@ use Rattle.inf_unit.specs.Actions.{Work}
 use Rattle.inf_unit.specs.Directives.{Asked, Nothing, Include, End, SystemFile}
 use Rattle.inf_unit.specs.Messages.{flushed, location, with_fatal}
 use Rattle.inf_unit.specs.Tokens.{Spelled}
-use Rattle.inf_reader.specs.Reading.{Reading, Stand, begun_stand, has_ended_at, is_mode_ended, step}
+use Rattle.inf_reader.specs.Handing.{judged_taken, site_of}
+use Rattle.inf_reader.specs.Reading.{Reading, Stand, begun_stand, has_ended_at, is_mode_ended}
 use Rattle.inf_reader.specs.declared.mode.Mode.TheVariants as mode
 use Rattle.inf_session.specs.Choices.{Choices, most_quoted}
 
--- The files that are open with what is still to come of each; how the next token is read; what was compiled, with the messages
--- that are not written yet; the messages that are; and whether a directive has ended all reading.
+-- The files that are open with what is still to come of each; the conditionals; how the next token is read; what was compiled,
+-- with the messages that are not written yet; the messages that are; and whether a directive has ended all reading.
 pub record State : Type 0 where
   pub nesting : Nesting
+  pub conditions : Conditions
   pub reading : Reading
   pub work : Work
   pub told : List ℕ
@@ -31,6 +36,7 @@ pub record State : Type 0 where
 abbrev pub start : Sources → Choices → List ℕ → State
 start sources o name = record {
   nesting = main_opened o.set (most_quoted o) sources name;
+  conditions = no_conditions;
   reading = (begun_stand o.set o.settings).reading;
   work = (begun_stand o.set o.settings).work;
   told = [];
@@ -49,25 +55,32 @@ has_ended s = s.is_over || has_ended_at (stand_of s)
 abbrev pub token_of : Cursor → Spelled
 token_of c = let r = read c in record { kind = r.kind; bytes = r.kept.bytes; place = record { file = c.file; line = r.line } }
 
--- it does what the reader says
+-- the conditionals say what becomes of it, and the reader takes what is handed on
 abbrev pub stepped : State → State
 stepped s =
-    let n = step s.nesting.names (token_of s.nesting.cursor) s.reading s.work in
+    let t = token_of s.nesting.cursor in
+    let b = judged (site_of s.reading) s.work.names t s.conditions in
+    let n = judged_taken s.nesting.names t b.judged (stand_of s) in
     record {
       nesting = record s.nesting { cursor = behind s.nesting.cursor (read s.nesting.cursor) };
+      conditions = b.now;
       reading = n.reading;
       work = n.work;
       told = s.told;
       is_over = s.is_over;
     }
 
--- At the end of an included file the file is closed, and reading goes on in the one that includes it.
+-- At the end of a file the conditionals are told that are open in it.
+abbrev pub file_closed : State → State
+file_closed s = record s { conditions = file_left s.conditions; work = record s.work { report = file_told s.nesting.names s.conditions s.work.report } }
+
+-- An included file is closed then, and reading goes on in the one that includes it.
 abbrev pub left_by : List Cursor → State → State
 left_by [] s = s
 left_by (c ∷ waiting) s = record s { nesting = resumed (c ∷ waiting) s.nesting; reading = record s.reading { mode = mode.Reads } }
 
 abbrev pub left : State → State
-left s = left_by s.nesting.waiting s
+left s = left_by s.nesting.waiting (file_closed s)
 
 -- a fatal message, at the place of the unit that asks for a file
 abbrev pub refused_with : Place → Message → State → State
@@ -81,7 +94,7 @@ none_included unit text answer.TooDeep s = refused_with unit TooManyFiles s
 
 -- the file that an inclusion opens is the innermost
 abbrev pub included_by : Sources → Choices → Place → List ℕ → Inclusion → State → State
-included_by sources o unit text (Opens name) s = record s { nesting = with_opened o.set (most_quoted o) sources name s.nesting }
+included_by sources o unit text (Opens name) s = record s { nesting = with_opened o.set (most_quoted o) sources name s.nesting; conditions = file_entered s.conditions }
 included_by sources o unit text (OpensNone why) s = none_included unit text why s
 
 -- the file that the text of an inclusion names is entered, for a unit at a place
@@ -99,11 +112,29 @@ answered End sources o s = record s { is_over = true }
 answered SystemFile sources o s = s
 answered Nothing sources o s = s
 
--- how reading goes on behind a token: behind a fatal message not at all, and at the end of a file nothing is asked
-abbrev pub followed : Sources → Choices → State → State
-followed sources o s =
+-- behind a fatal message nothing is done, and at the end of a file nothing is asked
+abbrev pub heeded : Sources → Choices → State → State
+heeded sources o s =
     if s.work.report.counts.is_over then s else
     if is_mode_ended s.reading.mode then left s else answered s.work.asked sources o (asked_nothing s)
+
+-- between the directives, and in no conditional one
+abbrev pub is_resting : State → Bool
+is_resting s = (site_of s.reading).is_between && is_none_pending s.conditions.pending
+
+-- Behind a directive the conditionals are told that are open in it.
+abbrev pub piece_closed : State → State
+piece_closed s = record s {
+  conditions = piece_ended s.work.names.declared s.conditions;
+  work = record s.work { report = piece_told s.nesting.names s.conditions s.work.report };
+}
+
+abbrev pub rested : State → State
+rested s = if has_ended s then s else if is_resting s then piece_closed s else s
+
+-- how reading goes on behind a token
+abbrev pub followed : Sources → Choices → State → State
+followed sources o s = rested (heeded sources o s)
 
 -- the messages so far are written
 abbrev pub told_out : State → State

@@ -13,6 +13,7 @@ use Rattle.inf_session.specs.declared.session.Session.{Session}
 abbrev pub state : Sources → Openings → Openings → Session → List ℕ → State
 state sources start now s told = record {
   nesting = nesting sources start now s.open_files;
+  conditions = s.conditionals;
   reading = reading s.progress.reader;
   work = work_of s.progress.work;
   told = told;

@@ -1,5 +1,5 @@
 //! What the definitions give together.
-ghost use Rattle.inf_session.specs.Examples.{EmptySource, FilesAreIncluded, HelloIsAStory, NamesAreUndeclared, NoSource, SixteenAreOpen, TextIsMissing};
+ghost use Rattle.inf_session.specs.Examples.{ConditionalsChoose, EmptySource, FilesAreIncluded, HelloIsAStory, NamesAreUndeclared, NoSource, SixteenAreOpen, TextIsMissing};
 ghost use Rattle.inf_session.specs.OutcomeLaws.{OutcomesAreUnique};
 
 /// The same sources, choices, serial number and name have one outcome.
@@ -14,6 +14,7 @@ pub fn sources_have_these_outcomes()
     ensures text_is_missing { TextIsMissing }
     ensures names_are_undeclared { NamesAreUndeclared }
     ensures files_are_included { FilesAreIncluded }
+    ensures conditionals_choose { ConditionalsChoose }
     ensures sixteen_are_open { SixteenAreOpen }
     ensures hello_is_a_story { HelloIsAStory }
 {}

@@ -1,6 +1,6 @@
 //! The reading of a main source and of the files that it includes.
 ghost use Rattle.std.specs.Prelude.{◌≡◌, ℕ, ◌+◌, ◌<◌, ◌≤◌, ◌⊎◌, List, OnOk, OnErr, IfErr, IsTrue, false, true, length};
-ghost use Rattle.inf_token.specs.Files.{Openings, Rose};
+ghost use Rattle.inf_token.specs.Files.{Openings, Rose, Sources};
 ghost use Rattle.inf_reader.specs.Reading.{has_ended_at, is_mode_ended, begun_stand};
 ghost use Rattle.inf_reader.specs.Standing.{standing};
 ghost use Rattle.inf_sources.specs.Open.{AllGiven, IsNested, NamesAreOpened};
@@ -8,12 +8,14 @@ ghost use Rattle.inf_session.specs.Choices.{chosen};
 ghost use Rattle.inf_session.specs.Faults.{IfMessages, IfRead, IfStory, IsOfReading};
 ghost use Rattle.inf_session.specs.Given.{GivesAtLeast, IsUnreadable};
 ghost use Rattle.inf_session.specs.Leading.{CutsShort, Writes};
-ghost use Rattle.inf_session.specs.Session.{followed, included, left, run, stepped, turn};
+ghost use Rattle.inf_conditionals.specs.Open.{no_conditions};
+ghost use Rattle.inf_session.specs.Session.{followed, heeded, included, left, rested, run, stepped, turn};
 ghost use Rattle.inf_session.specs.Standing.{IsSet, ended, state};
 ghost use Rattle.inf_session.specs.Weights.{GoesOn, room, weight};
 
 use crate::faults::{Fault, unread};
 use crate::setup::Setup;
+use inf_conditionals::conditionals::Conditionals;
 use inf_lexer::{LexFault, Place};
 use inf_reader::mode::Mode;
 use inf_reader::progress::Progress;
@@ -25,7 +27,7 @@ use inf_token::files::Files;
 use inf_unit::directives::Asked;
 use inf_unit::messages::location;
 use inf_unit::tokens::Spelled;
-use std::alloc::Global;
+use std::alloc::{AllocError, Global};
 
 /// The reading of a main source and of the files that it includes, and what was compiled of them so far.
 #[derive(Drop)]
@@ -33,6 +35,7 @@ pub struct Session<'a> {
     alloc: Global,
     setup: Setup<'a>,
     pub open_files: OpenFiles,
+    conditionals: Conditionals,
     pub progress: Progress,
     /// Whether a directive has ended all reading.
     is_over: bool,
@@ -44,12 +47,14 @@ impl<'a> Session<'a> {
         ensures files { result.open_files ≡ open_files }
         ensures standing { standing result.progress ≡ begun_stand setup.entry.set setup.entry.settings.now }
         ensures going { result.is_over ≡ false }
+        ensures conditionals { result.conditionals ≡ no_conditions }
         ensures setup { result.setup ≡ setup.entry }
     {
         Session {
             alloc,
             setup,
             open_files,
+            conditionals: Conditionals::new(alloc),
             progress: Progress::new(alloc, setup.set, setup.settings),
             is_over: false,
         }
@@ -182,12 +187,17 @@ impl<'a> Session<'a> {
             bytes: self.open_files.spelling(),
             place: token.place,
         };
-        self.progress.take(self.open_files.names(), &spelled)?;
+        let site = self.progress.site();
+        let judged = self
+            .conditionals
+            .take(site, &self.progress.work.names, &spelled)?;
+        self.progress
+            .take_judged(self.open_files.names(), &spelled, judged)?;
         Ok(())
     }
 
-    /// Does what a directive asks of the reading that ended with the last token. At the end of an included file reading goes
-    /// on in the file that includes it.
+    /// Goes on behind a token: does what a directive asks, or leaves a file that has ended, and tells the conditionals that had
+    /// to end here.
     fn follow<F: Files>(&mut self, files: &mut F) -> Result<(), Fault>
         requires is_open { length self.old.open_files.outer < F.depth files.old }
         requires goes { self.old.open_files.lexer.has_failed ≡ false }
@@ -214,12 +224,44 @@ impl<'a> Session<'a> {
         ensures sources { F.sources files.new ≡ F.sources files.old }
         ensures honesty { F.is_honest files.new ≡ F.is_honest files.old }
     {
+        self.heed(files)?;
+        self.rest()?;
+        Ok(())
+    }
+
+    /// Does what a directive asks of the reading that ended with the last token. At the end of an included file reading goes
+    /// on in the file that includes it.
+    fn heed<F: Files>(&mut self, files: &mut F) -> Result<(), Fault>
+        requires is_open { length self.old.open_files.outer < F.depth files.old }
+        requires goes { self.old.open_files.lexer.has_failed ≡ false }
+        requires set { IsSet self.old }
+        ensures heeded { IsTrue (F.is_honest files.old) → (start : Openings) → IsNested start (F.openings files.old) self.old.open_files →
+            OnOk result ((told : List ℕ) → state (F.sources files.old) start (F.openings files.new) self.new told
+            ≡ heeded (F.sources files.old) (chosen self.old.setup) (state (F.sources files.old) start (F.openings files.old) self.old told)) }
+        ensures nested { IsTrue (F.is_honest files.old) → (start : Openings) → IsNested start (F.openings files.old) self.old.open_files →
+            OnOk result (IsNested start (F.openings files.new) self.new.open_files) }
+        ensures goes_on { OnOk result ((ended self.new ≡ true) ⊎ GoesOn (is_mode_ended self.old.progress.reader.mode) self.old.open_files self.new.open_files) }
+        ensures goes { OnOk result (self.new.open_files.lexer.has_failed ≡ false) }
+        ensures setup { self.new.setup ≡ self.old.setup }
+        ensures set { IsSet self.new }
+        ensures kind { IfErr result (λ fault. IsOfReading fault) }
+        ensures cause { IfErr result (λ fault. IfRead fault (λ name. IsUnreadable (F.faults files.old) (F.faults files.new) self.new.open_files)) }
+        ensures given_all { IsTrue (F.is_honest files.old) → (start : Openings) → IsNested start (F.openings files.old) self.old.open_files →
+            AllGiven (F.sources files.old) (length start.all) (F.openings files.old) self.old.open_files →
+            OnOk result (AllGiven (F.sources files.old) (length start.all) (F.openings files.new) self.new.open_files) }
+        ensures names { IsTrue (F.is_honest files.old) → (base : ℕ) → NamesAreOpened base (F.openings files.old) self.old.open_files →
+            NamesAreOpened base (F.openings files.new) self.new.open_files }
+        ensures given { (base : ℕ) → GivesAtLeast base self.old.open_files (F.given files.old) → GivesAtLeast base self.new.open_files (F.given files.new) }
+        ensures depth { F.depth files.new + length self.old.open_files.outer ≡ F.depth files.old + length self.new.open_files.outer }
+        ensures faults { F.faults files.old ≤ F.faults files.new }
+        ensures sources { F.sources files.new ≡ F.sources files.old }
+        ensures honesty { F.is_honest files.new ≡ F.is_honest files.old }
+    {
         if self.progress.work.report.is_over() {
             return Ok(());
         }
         if matches!(self.progress.reader.mode, Mode::Ended) {
-            self.leave(files);
-            return Ok(());
+            return self.leave(files);
         }
         match self.progress.work.take_asked() {
             Asked::Include { text, unit } => self.include(files, text.as_slice(), unit),
@@ -229,6 +271,25 @@ impl<'a> Session<'a> {
             }
             Asked::Nothing | Asked::SystemFile => Ok(()),
         }
+    }
+
+    /// Tells the conditionals that are open in a directive, behind its end.
+    fn rest(&mut self) -> Result<(), AllocError>
+        ensures rested { (sources : Sources) → (start now : Openings) →
+            OnOk result ((told : List ℕ) → state sources start now self.new told ≡ rested (state sources start now self.old told)) }
+        ensures ends { ended self.old ≡ true → ended self.new ≡ true }
+        ensures files { self.new.open_files ≡ self.old.open_files }
+        ensures setup { self.new.setup ≡ self.old.setup }
+    {
+        if self.has_ended() || !self.progress.site().is_between || !self.conditionals.is_resting() {
+            return Ok(());
+        }
+        let declared = self.progress.work.names.declared();
+        self.conditionals.end_piece(
+            declared,
+            self.open_files.names(),
+            &mut self.progress.work.report,
+        )
     }
 
     /// Enters the file that the text of an inclusion names, or tells, at the place of its unit, why there is none.
@@ -258,7 +319,7 @@ impl<'a> Session<'a> {
         ensures honesty { F.is_honest files.new ≡ F.is_honest files.old }
     {
         let message = match self.open_files.include(files, self.setup.directories, text) {
-            Ok(Included::Entered) => return Ok(()),
+            Ok(Included::Entered) => return Ok(self.conditionals.enter_file()?),
             Ok(Included::NotThere) => Message::NoInclude(text),
             Ok(Included::TooDeep) => Message::TooManyFiles,
             Err(IncludeFault::Memory) => return Err(Fault::Memory),
@@ -269,17 +330,20 @@ impl<'a> Session<'a> {
         Ok(())
     }
 
-    /// At the end of an included file, closes the file, and goes on in the one that includes it.
-    fn leave<F: Files>(&mut self, files: &mut F)
+    /// At the end of a file, tells the conditionals that are open in it. An included file is closed, and reading goes on in the
+    /// one that includes it.
+    fn leave<F: Files>(&mut self, files: &mut F) -> Result<(), Fault>
         requires is_open { length self.old.open_files.outer < F.depth files.old }
         requires set { IsSet self.old }
         requires at_end { is_mode_ended self.old.progress.reader.mode ≡ true }
         ensures left { IsTrue (F.is_honest files.old) → (start : Openings) → IsNested start (F.openings files.old) self.old.open_files →
-            (told : List ℕ) → state (F.sources files.old) start (F.openings files.new) self.new told
-            ≡ left (state (F.sources files.old) start (F.openings files.old) self.old told) }
+            OnOk result ((told : List ℕ) → state (F.sources files.old) start (F.openings files.new) self.new told
+            ≡ left (state (F.sources files.old) start (F.openings files.old) self.old told)) }
         ensures nested { IsTrue (F.is_honest files.old) → (start : Openings) → IsNested start (F.openings files.old) self.old.open_files →
             IsNested start (F.openings files.new) self.new.open_files }
-        ensures goes_on { (ended self.new ≡ true) ⊎ GoesOn true self.old.open_files self.new.open_files }
+        ensures goes_on { OnOk result ((ended self.new ≡ true) ⊎ GoesOn true self.old.open_files self.new.open_files) }
+        ensures kind { IfErr result (λ fault. IsOfReading fault) }
+        ensures cause { IfErr result (λ fault. IfRead fault (λ name. IsUnreadable (F.faults files.old) (F.faults files.new) self.new.open_files)) }
         ensures goes { self.old.open_files.lexer.has_failed ≡ false → self.new.open_files.lexer.has_failed ≡ false }
         ensures setup { self.new.setup ≡ self.old.setup }
         ensures set { IsSet self.new }
@@ -294,9 +358,13 @@ impl<'a> Session<'a> {
         ensures sources { F.sources files.new ≡ F.sources files.old }
         ensures honesty { F.is_honest files.new ≡ F.is_honest files.old }
     {
-        if self.open_files.leave(files) {
-            self.progress.reader.mode = Mode::Reads;
+        self.conditionals
+            .end_file(self.open_files.names(), &mut self.progress.work.report)?;
+        if !self.open_files.leave(files) {
+            return Ok(());
         }
+        self.progress.reader.mode = Mode::Reads;
+        Ok(())
     }
 }
 

@@ -4,6 +4,8 @@
 #[cfg(test)]
 mod compile;
 #[cfg(test)]
+mod conditionals;
+#[cfg(test)]
 mod devices;
 #[cfg(test)]
 mod including;

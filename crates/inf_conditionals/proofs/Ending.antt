@@ -1,0 +1,49 @@
+-- The end of a file is always handed on.
+use Rattle.std.proofs.Common.{◌≡◌, ℕ, List, [], ◌∷◌, Bool, true, false, Option, Some, None, refl}
+use Rattle.inf_scanner.specs.declared.tokens.Place.{Place}
+use Rattle.inf_scanner.specs.declared.tokens.TokenKind.TheVariants as kind
+use Rattle.inf_names.specs.Symbols.{Table}
+use Rattle.inf_unit.specs.Tokens.{Spelled}
+use Rattle.inf_conditionals.specs.Judging.{awaited, judged, judged_by, offered_to}
+use Rattle.inf_conditionals.specs.Open.{Conditions}
+use Rattle.inf_conditionals.specs.declared.judged.Handed.{Handed}
+use Rattle.inf_conditionals.specs.declared.judged.Handed.TheVariants as handed
+use Rattle.inf_conditionals.specs.declared.judged.Judged.{Judged}
+use Rattle.inf_conditionals.specs.declared.judged.Site.{Site}
+use Rattle.inf_conditionals.specs.declared.open.LeftOut.{LeftOut}
+use Rattle.inf_conditionals.specs.declared.pending.Awaits.{Awaits}
+use Rattle.inf_conditionals.specs.declared.pending.Awaits.TheVariants as awaits
+use Rattle.inf_conditionals.specs.declared.pending.Pending.{Pending}
+
+abbrev pub end_of : List ℕ → Place → Spelled
+end_of bytes place = record { kind = kind.End; bytes = bytes; place = place }
+
+-- a token is handed on, in some way
+pub record IsHanded (j : Judged) : Type 0 where
+  pub handed : Handed
+  pub is : j.token ≡ Some handed
+
+as_kept : (j : Judged) → j.token ≡ Some handed.Kept → IsHanded j
+as_kept j e = record { handed = handed.Kept; is = e }
+
+as_unfit : (j : Judged) → j.token ≡ Some handed.Unfit → IsHanded j
+as_unfit j e = record { handed = handed.Unfit; is = e }
+
+to_awaited : (a : Awaits) (q : Bool) (names : Table Place) (bytes : List ℕ) (place : Place) (p : Pending) (c : Conditions) → IsHanded (awaited a q names (end_of bytes place) p c).judged
+to_awaited awaits.Word q names bytes place p c = as_kept _ refl
+to_awaited (awaits.Name b) q names bytes place p c = as_unfit _ refl
+to_awaited (awaits.End e) q names bytes place p c = as_unfit _ refl
+
+to_offered : (ps : List Pending) (front q : Bool) (names : Table Place) (bytes : List ℕ) (place : Place) (c : Conditions) → IsHanded (offered_to ps front q names (end_of bytes place) c).judged
+to_offered [] true q names bytes place c = as_kept _ refl
+to_offered [] false q names bytes place c = as_kept _ refl
+to_offered (p ∷ ps) front q names bytes place c = to_awaited p.awaits q names bytes place p (record c { pending = ps })
+
+end_by : (side : Option LeftOut) (sign : Option Place) (site : Site) (names : Table Place) (bytes : List ℕ) (place : Place) (c : Conditions)
+    → IsHanded (judged_by side sign site names (end_of bytes place) c).judged
+end_by (Some side) sign site names bytes place c = to_offered c.pending false site.is_quiet names bytes place (record c { left_out = None; sign = None })
+end_by None (Some at) site names bytes place c = as_kept _ refl
+end_by None None site names bytes place c = to_offered c.pending _ site.is_quiet names bytes place c
+
+pub end_is_handed : (site : Site) (names : Table Place) (bytes : List ℕ) (place : Place) (c : Conditions) → IsHanded (judged site names (end_of bytes place) c).judged
+end_is_handed site names bytes place c = end_by c.left_out c.sign site names bytes place c

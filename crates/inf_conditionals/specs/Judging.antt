@@ -1,0 +1,159 @@
+-- What becomes of a token. Between directives a conditional directive stands as any other does, with a `#` before it or not; inside
+-- a directive it has a `#`, and may stand at any token. Its own tokens are not kept. One that does not fit it is the bad token of
+-- the directive around it. In a side that is left out only the words of conditionals are looked at.
+use Rattle.std.specs.Prelude.{ℕ, ◌&&◌, ◌==◌, List, [], ◌∷◌, Bool, true, false, not, if◌then◌else◌, Option, Some, None, unwrap_or}
+use Rattle.inf_scanner.specs.declared.tokens.Mark.TheVariants as mark
+use Rattle.inf_scanner.specs.declared.tokens.Place.{Place}
+use Rattle.inf_scanner.specs.declared.tokens.TokenKind.{TokenKind}
+use Rattle.inf_scanner.specs.declared.tokens.TokenKind.TheVariants as kind
+use Rattle.inf_names.specs.Symbols.{Table, declared_before}
+use Rattle.inf_unit.specs.Tokens.{Spelled, is_end, is_mark}
+use Rattle.inf_conditionals.specs.declared.judged.Handed.TheVariants as handed
+use Rattle.inf_conditionals.specs.declared.judged.Judged.{Judged}
+use Rattle.inf_conditionals.specs.declared.judged.Site.{Site}
+use Rattle.inf_conditionals.specs.declared.open.LeftOut.{LeftOut}
+use Rattle.inf_conditionals.specs.declared.pending.Awaits.{Awaits}
+use Rattle.inf_conditionals.specs.declared.pending.Awaits.TheVariants as awaits
+use Rattle.inf_conditionals.specs.declared.pending.Effect.{Effect}
+use Rattle.inf_conditionals.specs.declared.pending.Effect.TheVariants as effect
+use Rattle.inf_conditionals.specs.declared.pending.Pending.{Pending}
+use Rattle.inf_conditionals.specs.declared.words.ConditionalWord.{ConditionalWord}
+use Rattle.inf_conditionals.specs.Words.{awaits_of, word_of}
+use Rattle.inf_conditionals.specs.Open.{Conditions, closed, ended_by, ends_at, is_none_open, is_second, latest, levels_behind, opened, turned}
+
+-- the conditionals behind a token, and what becomes of it
+pub record Behind : Type 0 where
+  pub now : Conditions
+  pub judged : Judged
+
+abbrev pub none_handed : Judged
+none_handed = record { sign = None; token = None; lone = None }
+
+-- it belongs to a conditional
+abbrev pub passed : Conditions → Behind
+passed c = record { now = c; judged = none_handed }
+
+-- it is kept
+abbrev pub kept : Conditions → Behind
+kept c = record { now = c; judged = record none_handed { token = Some handed.Kept } }
+
+-- it does not fit the conditional directives that are being read
+abbrev pub unfit : Conditions → Behind
+unfit c = record { now = record c { pending = [] }; judged = record none_handed { token = Some handed.Unfit } }
+
+-- The end of a conditional directive
+
+-- the directive has no conditional to end or to turn; among tokens that are passed over this is not told
+abbrev pub lone : Bool → Place → Conditions → Behind
+lone is_quiet place c = record { now = c; judged = record none_handed { lone = if is_quiet then None else Some place } }
+
+-- The second side of the latest conditional, whose first side was kept, is left out.
+abbrev pub turning : Bool → Place → Conditions → Behind
+turning is_quiet place c =
+    if is_second (latest c) then lone is_quiet place c
+    else passed (record (turned c) { left_out = Some (record { is_inner = not (is_none_open c.inner); levels = 0 }) })
+
+abbrev pub closing : Bool → Place → Conditions → Behind
+closing is_quiet place c = if is_none_open (latest c) then lone is_quiet place c else passed (closed c)
+
+abbrev pub effected : Effect → Bool → Pending → Conditions → Behind
+effected (effect.Opens is_kept) is_quiet p c = passed (opened is_kept p c)
+effected effect.Turns is_quiet p c = turning is_quiet p.place c
+effected effect.Closes is_quiet p c = closing is_quiet p.place c
+effected effect.Nothing is_quiet p c = passed c
+
+-- The tokens of a conditional directive
+
+-- one is being read, inside the others
+abbrev pub awaiting : Place → Bool → Awaits → Conditions → Conditions
+awaiting place is_inner a c = record c { pending = record { place = place; is_inner = is_inner; awaits = a } ∷ c.pending }
+
+abbrev pub begun_with : Option Awaits → Place → Bool → Conditions → Behind
+begun_with None place is_inner c = unfit c
+begun_with (Some a) place is_inner c = passed (awaiting place is_inner a c)
+
+-- it begins with a word, at a place, inside another or not
+abbrev pub begun : ConditionalWord → Place → Bool → Conditions → Behind
+begun word place is_inner c = begun_with (awaits_of word) place is_inner c
+
+-- behind a `#` at the front of a piece: another directive than a conditional one is kept, with its `#`
+abbrev pub behind_front : Option ConditionalWord → Pending → Conditions → Behind
+behind_front None p c = record { now = c; judged = record none_handed { sign = Some (record { place = p.place; handed = handed.Kept }); token = Some handed.Kept } }
+behind_front (Some word) p c = begun word p.place p.is_inner c
+
+-- whether the first side is kept, which is so where the name of these bytes was declared by the directives before the one at hand,
+-- or where it was not
+abbrev pub is_kept : Bool → Table Place → ℕ → List ℕ → Bool
+is_kept if_declared names declared bytes = if if_declared then declared_before bytes declared names else not (declared_before bytes declared names)
+
+abbrev pub named : TokenKind → List ℕ → Bool → Table Place → Pending → Conditions → Behind
+named kind.Name bytes if_declared names p c = passed (awaiting p.place p.is_inner (awaits.End (effect.Opens (is_kept if_declared names c.declared bytes))) c)
+named _ bytes if_declared names p c = unfit c
+
+-- a token comes to a directive that waits so; the conditions are those without it
+abbrev pub awaited : Awaits → Bool → Table Place → Spelled → Pending → Conditions → Behind
+awaited awaits.Word is_quiet names t p c = behind_front (word_of t) p c
+awaited (awaits.Name if_declared) is_quiet names t p c = named t.kind t.bytes if_declared names p c
+awaited (awaits.End e) is_quiet names t p c = if is_mark mark.Semicolon t.kind then effected e is_quiet p c else unfit c
+
+-- A token of a kept side
+
+-- a `#` is held back
+abbrev pub held : Bool → Place → Conditions → Conditions
+held true place c = awaiting place false awaits.Word c
+held false place c = record c { sign = Some place }
+
+-- a token at the front of a piece
+abbrev pub at_front : Option ConditionalWord → Place → Conditions → Behind
+at_front None place c = kept c
+at_front (Some word) place c = begun word place false c
+
+-- a token where no side is left out and no `#` is held back, at the front of a piece or not
+abbrev pub offered_to : List Pending → Bool → Bool → Table Place → Spelled → Conditions → Behind
+offered_to [] is_front is_quiet names t c = if is_front then at_front (word_of t) t.place c else kept c
+offered_to (p ∷ pending) is_front is_quiet names t c = awaited p.awaits is_quiet names t p (record c { pending = pending })
+
+abbrev pub offered : Bool → Bool → Table Place → Spelled → Conditions → Behind
+offered is_front is_quiet names t c =
+    if is_mark mark.Hash t.kind then passed (held is_front t.place c) else offered_to c.pending is_front is_quiet names t c
+
+abbrev pub is_none_pending : List Pending → Bool
+is_none_pending [] = true
+is_none_pending (p ∷ pending) = false
+
+-- A token behind a `#` that was held back inside a directive. Where it is no word of a conditional the `#` is kept, or does not
+-- fit the conditional directive in which it stands.
+abbrev pub behind_sign : Option ConditionalWord → Place → Bool → Table Place → Spelled → Conditions → Behind
+behind_sign (Some word) place is_quiet names t c = begun word place true (record c { sign = None })
+behind_sign None place is_quiet names t c =
+    let b = offered false is_quiet names t (record c { sign = None; pending = [] }) in
+    record b { judged = record b.judged { sign = Some (record { place = place; handed = if is_none_pending c.pending then handed.Kept else handed.Unfit }) } }
+
+-- A token of a side that is left out
+
+-- A word of a conditional. One that ends the side begins a directive, which has no effect of its own any more.
+abbrev pub word_passed : ConditionalWord → Place → LeftOut → Conditions → Conditions
+word_passed word place side c =
+    if (side.levels == 0) && ends_at word (is_second (latest c))
+    then awaiting (unwrap_or c.sign place) false (awaits.End effect.Nothing) (record (ended_by word c) { left_out = None; sign = None })
+    else record c { left_out = Some (record side { levels = levels_behind word side.levels }); sign = None }
+
+abbrev pub passed_by : Option ConditionalWord → Spelled → LeftOut → Conditions → Conditions
+passed_by None t side c = record c { sign = if is_mark mark.Hash t.kind then Some t.place else None }
+passed_by (Some word) t side c = word_passed word t.place side c
+
+-- at the end of the file nothing is left out any more
+abbrev pub in_side : Bool → Table Place → Spelled → LeftOut → Conditions → Behind
+in_side is_quiet names t side c =
+    if is_end t.kind then offered false is_quiet names t (record c { left_out = None; sign = None })
+    else passed (passed_by (word_of t) t side c)
+
+-- Any token
+
+abbrev pub judged_by : Option LeftOut → Option Place → Site → Table Place → Spelled → Conditions → Behind
+judged_by (Some side) sign site names t c = in_side site.is_quiet names t side c
+judged_by None (Some place) site names t c = behind_sign (word_of t) place site.is_quiet names t c
+judged_by None None site names t c = offered (site.is_between && is_none_pending c.pending) site.is_quiet names t c
+
+abbrev pub judged : Site → Table Place → Spelled → Conditions → Behind
+judged site names t c = judged_by c.left_out c.sign site names t c

@@ -1,0 +1,4 @@
+pub mod Words
+pub mod Open
+pub mod Judging
+pub mod Ends

@@ -1,0 +1,544 @@
+//! The conditionals of the files that are open.
+ghost use Rattle.std.specs.Prelude.{◌≡◌, ◌≤◌, length, IfOk, OnOk, IsSome, Some, false, not, reverse, true};
+ghost use Rattle.inf_conditionals.specs.Ends.{with_all_lone, with_lone};
+ghost use Rattle.inf_conditionals.specs.Open.{ends_at, levels_behind, turned_first};
+ghost use Rattle.inf_conditionals.specs.Words.{word_of};
+ghost use Rattle.inf_unit.specs.Statements.{name_of};
+ghost use Rattle.inf_unit.specs.Tokens.{spelled};
+
+use crate::judged::{Handed, Judged, Sign, Site};
+use crate::open::{Conditional, LeftOut};
+use crate::pending::{Awaits, Effect, Pending};
+use crate::words::{ConditionalWord, word_of};
+use inf_lexer::Stack;
+use inf_names::symbols::Symbols;
+use inf_report::messages::Message;
+use inf_scanner::{Mark, Place, TokenKind};
+use inf_unit::messages::{Messages, location};
+use inf_unit::tokens::{Spelled, is_end, is_mark};
+use std::alloc::{AllocError, Global};
+use std::marker::Model;
+use std::mem;
+
+/// The conditionals that are open, and what is known of the conditional directive at hand.
+#[derive(Drop)]
+pub struct Conditionals {
+    alloc: Global,
+    /// Those of the innermost file that were opened between its directives, the latest last.
+    among: Vec<Conditional>,
+    /// Those that were opened inside the directive at hand, the latest last.
+    inner: Vec<Conditional>,
+    /// Those of the files that wait, the inner files last.
+    waiting: Vec<Vec<Conditional>>,
+    /// The conditional directives that are being read, the inner ones last.
+    pending: Vec<Pending>,
+    /// The side that is left out.
+    left_out: Option<LeftOut>,
+    /// A `#` that is held back until the token behind it is known.
+    sign: Option<Place>,
+    /// How many names were declared before the directive at hand.
+    declared: usize,
+}
+
+impl Model for Conditionals {
+    ghost use Rattle.std.specs.Prelude.{map, reverse};
+    ghost use Rattle.inf_conditionals.specs.Open.{Conditions};
+
+    ghost Value = { Conditions };
+
+    ghost view = { λ c. record {
+      among = reverse c.among.items;
+      inner = reverse c.inner.items;
+      waiting = reverse (map (λ v. reverse v.items) c.waiting.items);
+      pending = reverse c.pending.items;
+      left_out = c.left_out;
+      sign = c.sign;
+      declared = c.declared;
+    } };
+}
+
+/// Nothing is handed on.
+const NONE: Judged = Judged {
+    sign: None,
+    token: None,
+    lone: None,
+};
+
+/// The token is kept.
+const KEPT: Judged = Judged {
+    sign: None,
+    token: Some(Handed::Kept),
+    lone: None,
+};
+
+impl Conditionals {
+    ghost use Rattle.inf_conditionals.specs.Ends.{file_entered, file_left, file_told, piece_ended, piece_told};
+    ghost use Rattle.inf_conditionals.specs.Judging.{awaited, awaiting, begun, behind_front, behind_sign, effected, held, in_side, is_none_pending, judged, offered, unfit, word_passed};
+    ghost use Rattle.inf_conditionals.specs.Open.{closed, is_none_open, is_second, latest, no_conditions, opened, turned};
+
+    /// None. It takes no memory until one is read.
+    pub fn new(alloc: Global) -> Conditionals
+        ensures { result ≡ no_conditions }
+    {
+        Conditionals {
+            alloc,
+            among: Vec::new(alloc),
+            inner: Vec::new(alloc),
+            waiting: Vec::new(alloc),
+            pending: Vec::new(alloc),
+            left_out: None,
+            sign: None,
+            declared: 0,
+        }
+    }
+
+    /// Takes the next token of the innermost file, and answers what becomes of it. A name has at most 32 bytes.
+    pub fn take(
+        &mut self,
+        site: Site,
+        names: &Symbols<Place>,
+        token: &Spelled<'_>,
+    ) -> Result<Judged, AllocError>
+        requires { IsSome (name_of (spelled token.now)) → length token.now.bytes.now ≤ 32 }
+        ensures { IfOk result (λ j. record { now = self.new; judged = j } ≡ judged site names.now (spelled token.now) self.old) }
+    {
+        if let Some(side) = self.left_out {
+            return self.take_in_side(side, site.is_quiet, names, token);
+        }
+        if let Some(place) = self.sign {
+            return self.take_behind_sign(place, site.is_quiet, names, token);
+        }
+        let is_front = site.is_between && self.pending.is_empty();
+        self.offer(is_front, site.is_quiet, names, token)
+    }
+
+    /// Whether no conditional directive is being read.
+    pub fn is_resting(&self) -> bool
+        ensures { result ≡ is_none_pending self.now.pending }
+    {
+        self.pending.is_empty()
+    }
+
+    /// A file is entered, in which no conditional is open yet.
+    pub fn enter_file(&mut self) -> Result<(), AllocError>
+        ensures { OnOk result (self.new ≡ file_entered self.old) }
+    {
+        let among = mem::replace(&mut self.among, Vec::new(self.alloc));
+        self.waiting.push(among)?;
+        Ok(())
+    }
+
+    /// The innermost file has ended: tells the conditionals that are open in it, and forgets them.
+    pub fn end_file(&mut self, files: &Stack, report: &mut Messages) -> Result<(), AllocError>
+        ensures told { OnOk result (report.new ≡ file_told files.now.names self.old report.old) }
+        ensures left { OnOk result (self.new ≡ file_left self.old) }
+    {
+        tell_all(self.inner.as_slice(), files, report)?;
+        tell_all(self.among.as_slice(), files, report)?;
+        self.inner.clear();
+        self.among = match self.waiting.pop() {
+            Some(among) => among,
+            None => Vec::new(self.alloc),
+        };
+        Ok(())
+    }
+
+    /// The directive at hand has ended: tells the conditionals that are open in it, and forgets them. So many names were
+    /// declared.
+    pub fn end_piece(
+        &mut self,
+        declared: usize,
+        files: &Stack,
+        report: &mut Messages,
+    ) -> Result<(), AllocError>
+        ensures told { OnOk result (report.new ≡ piece_told files.now.names self.old report.old) }
+        ensures ended { OnOk result (self.new ≡ piece_ended declared self.old) }
+    {
+        tell_all(self.inner.as_slice(), files, report)?;
+        self.inner.clear();
+        if self.left_out.is_some_and(|side| side.is_inner) {
+            self.left_out = None;
+        }
+        self.declared = declared;
+        Ok(())
+    }
+
+    /// A token of a side that is left out.
+    fn take_in_side(
+        &mut self,
+        side: LeftOut,
+        is_quiet: bool,
+        names: &Symbols<Place>,
+        token: &Spelled<'_>,
+    ) -> Result<Judged, AllocError>
+        requires { IsSome (name_of (spelled token.now)) → length token.now.bytes.now ≤ 32 }
+        ensures { IfOk result (λ j. record { now = self.new; judged = j } ≡ in_side is_quiet names.now (spelled token.now) side self.old) }
+    {
+        if is_end(token.kind) {
+            self.left_out = None;
+            self.sign = None;
+            return self.offer(false, is_quiet, names, token);
+        }
+        if let Some(word) = word_of(token) {
+            self.pass_word(word, token.place, side)?;
+            return Ok(NONE);
+        }
+        self.sign = if is_mark(token.kind, Mark::Hash) {
+            Some(token.place)
+        } else {
+            None
+        };
+        Ok(NONE)
+    }
+
+    /// A word of a conditional in a side that is left out: one that ends the side acts at once, and begins a directive that
+    /// has no effect of its own any more.
+    fn pass_word(
+        &mut self,
+        word: ConditionalWord,
+        place: Place,
+        side: LeftOut,
+    ) -> Result<(), AllocError>
+        ensures { OnOk result (self.new ≡ word_passed word place side self.old) }
+    {
+        let place = self.sign.take().unwrap_or(place);
+        if side.levels > 0 || !ends_side(word, self.is_second()) {
+            self.left_out = Some(LeftOut {
+                is_inner: side.is_inner,
+                levels: levels_behind(word, side.levels),
+            });
+            return Ok(());
+        }
+        self.left_out = None;
+        match word {
+            ConditionalWord::Endif => self.close(),
+            _ => self.turn(),
+        }
+        self.wait(place, false, Awaits::End(Effect::Nothing))
+    }
+
+    /// A token behind a `#` that was held back inside a directive.
+    fn take_behind_sign(
+        &mut self,
+        place: Place,
+        is_quiet: bool,
+        names: &Symbols<Place>,
+        token: &Spelled<'_>,
+    ) -> Result<Judged, AllocError>
+        requires { IsSome (name_of (spelled token.now)) → length token.now.bytes.now ≤ 32 }
+        ensures { IfOk result (λ j. record { now = self.new; judged = j } ≡
+            behind_sign (word_of (spelled token.now)) place is_quiet names.now (spelled token.now) self.old) }
+    {
+        self.sign = None;
+        if let Some(word) = word_of(token) {
+            return self.begin(word, place, true);
+        }
+        let handed = if self.pending.is_empty() {
+            Handed::Kept
+        } else {
+            Handed::Unfit
+        };
+        self.pending.clear();
+        let judged = self.offer(false, is_quiet, names, token)?;
+        Ok(Judged {
+            sign: Some(Sign { place, handed }),
+            ..judged
+        })
+    }
+
+    /// A token where no side is left out and no `#` is held back, at the front of a piece or not.
+    fn offer(
+        &mut self,
+        is_front: bool,
+        is_quiet: bool,
+        names: &Symbols<Place>,
+        token: &Spelled<'_>,
+    ) -> Result<Judged, AllocError>
+        requires { IsSome (name_of (spelled token.now)) → length token.now.bytes.now ≤ 32 }
+        ensures { IfOk result (λ j. record { now = self.new; judged = j } ≡ offered is_front is_quiet names.now (spelled token.now) self.old) }
+    {
+        if is_mark(token.kind, Mark::Hash) {
+            self.hold(is_front, token.place)?;
+            return Ok(NONE);
+        }
+        if let Some(pending) = self.pending.pop() {
+            return self.go_on(pending, is_quiet, names, token);
+        }
+        match word_of(token) {
+            Some(word) if is_front => self.begin(word, token.place, false),
+            _ => Ok(KEPT),
+        }
+    }
+
+    /// Holds a `#` back, at the front of a piece or not.
+    fn hold(&mut self, is_front: bool, place: Place) -> Result<(), AllocError>
+        ensures { OnOk result (self.new ≡ held is_front place self.old) }
+    {
+        if is_front {
+            return self.wait(place, false, Awaits::Word);
+        }
+        self.sign = Some(place);
+        Ok(())
+    }
+
+    /// A token comes to the innermost conditional directive, which was taken off.
+    fn go_on(
+        &mut self,
+        pending: Pending,
+        is_quiet: bool,
+        names: &Symbols<Place>,
+        token: &Spelled<'_>,
+    ) -> Result<Judged, AllocError>
+        requires { IsSome (name_of (spelled token.now)) → length token.now.bytes.now ≤ 32 }
+        ensures { IfOk result (λ j. record { now = self.new; judged = j } ≡
+            awaited pending.awaits is_quiet names.now (spelled token.now) pending self.old) }
+    {
+        match pending.awaits {
+            Awaits::Word => self.name_directive(pending, token),
+            Awaits::Name(if_declared) if matches!(token.kind, TokenKind::Name) => {
+                let is_declared = names.declared_before(token.bytes, self.declared);
+                let effect = Effect::Opens(is_declared == if_declared);
+                self.wait(pending.place, pending.is_inner, Awaits::End(effect))?;
+                Ok(NONE)
+            }
+            Awaits::End(effect) if is_mark(token.kind, Mark::Semicolon) => {
+                self.carry_out(effect, is_quiet, pending)
+            }
+            Awaits::Name(_) | Awaits::End(_) => Ok(self.give_up()),
+        }
+    }
+
+    /// A token behind a `#` at the front of a piece.
+    fn name_directive(
+        &mut self,
+        pending: Pending,
+        token: &Spelled<'_>,
+    ) -> Result<Judged, AllocError>
+        ensures { IfOk result (λ j. record { now = self.new; judged = j } ≡
+            behind_front (word_of (spelled token.now)) pending self.old) }
+    {
+        if let Some(word) = word_of(token) {
+            return self.begin(word, pending.place, pending.is_inner);
+        }
+        Ok(Judged {
+            sign: Some(Sign {
+                place: pending.place,
+                handed: Handed::Kept,
+            }),
+            ..KEPT
+        })
+    }
+
+    /// A conditional directive begins with a word, at a place, inside another or not.
+    fn begin(
+        &mut self,
+        word: ConditionalWord,
+        place: Place,
+        is_inner: bool,
+    ) -> Result<Judged, AllocError>
+        ensures { IfOk result (λ j. record { now = self.new; judged = j } ≡ begun word place is_inner self.old) }
+    {
+        match word.awaits() {
+            Some(awaits) => {
+                self.wait(place, is_inner, awaits)?;
+                Ok(NONE)
+            }
+            None => Ok(self.give_up()),
+        }
+    }
+
+    /// The conditional directives that are being read are given up for a token that does not fit.
+    fn give_up(&mut self) -> Judged
+        ensures { record { now = self.new; judged = result } ≡ unfit self.old }
+    {
+        self.pending.clear();
+        Judged {
+            token: Some(Handed::Unfit),
+            ..NONE
+        }
+    }
+
+    /// A conditional directive is being read, inside the others.
+    fn wait(&mut self, place: Place, is_inner: bool, awaits: Awaits) -> Result<(), AllocError>
+        ensures { OnOk result (self.new ≡ awaiting place is_inner awaits self.old) }
+    {
+        self.pending.push(Pending {
+            place,
+            is_inner,
+            awaits,
+        })?;
+        Ok(())
+    }
+
+    /// A conditional directive has ended.
+    fn carry_out(
+        &mut self,
+        effect: Effect,
+        is_quiet: bool,
+        directive: Pending,
+    ) -> Result<Judged, AllocError>
+        ensures { IfOk result (λ j. record { now = self.new; judged = j } ≡ effected effect is_quiet directive self.old) }
+    {
+        let is_lone = match effect {
+            Effect::Opens(is_kept) => {
+                self.open(is_kept, directive)?;
+                false
+            }
+            Effect::Turns => self.leave_second_out(),
+            Effect::Closes => self.close_latest(),
+            Effect::Nothing => false,
+        };
+        Ok(Judged {
+            lone: if is_lone && !is_quiet {
+                Some(directive.place)
+            } else {
+                None
+            },
+            ..NONE
+        })
+    }
+
+    /// A conditional is opened by a directive.
+    fn open(&mut self, is_kept: bool, directive: Pending) -> Result<(), AllocError>
+        ensures { OnOk result (self.new ≡ opened is_kept directive self.old) }
+    {
+        let new = Conditional {
+            place: directive.place,
+            is_second: false,
+        };
+        if directive.is_inner {
+            self.inner.push(new)?;
+        } else {
+            self.among.push(new)?;
+        }
+        self.left_out = if is_kept {
+            None
+        } else {
+            Some(LeftOut {
+                is_inner: directive.is_inner,
+                levels: 0,
+            })
+        };
+        Ok(())
+    }
+
+    /// Leaves the second side of the latest conditional out, whose first side was kept. Answers whether there is none such.
+    fn leave_second_out(&mut self) -> bool
+        ensures lone { result ≡ is_second (latest self.old) }
+        ensures same { result ≡ true → self.new ≡ self.old }
+        ensures turned { result ≡ false → self.new ≡
+            record (turned self.old) { left_out = Some (record { is_inner = not (is_none_open self.old.inner); levels = 0 }) } }
+    {
+        if self.is_second() {
+            return true;
+        }
+        self.turn();
+        self.left_out = Some(LeftOut {
+            is_inner: !self.inner.is_empty(),
+            levels: 0,
+        });
+        false
+    }
+
+    /// Closes the latest conditional. Answers whether there is none.
+    fn close_latest(&mut self) -> bool
+        ensures lone { result ≡ is_none_open (latest self.old) }
+        ensures same { result ≡ true → self.new ≡ self.old }
+        ensures closed { result ≡ false → self.new ≡ closed self.old }
+    {
+        if self.inner.is_empty() && self.among.is_empty() {
+            return true;
+        }
+        self.close();
+        false
+    }
+
+    /// Whether the latest conditional is in its second side, or there is none.
+    fn is_second(&self) -> bool
+        ensures { result ≡ is_second (latest self.now) }
+    {
+        if let Some(latest) = self.inner.last() {
+            return latest.is_second;
+        }
+        match self.among.last() {
+            Some(latest) => latest.is_second,
+            None => true,
+        }
+    }
+
+    /// The second side of the latest conditional begins.
+    fn turn(&mut self)
+        ensures { self.new ≡ turned self.old }
+    {
+        if self.inner.is_empty() {
+            turn_last(&mut self.among);
+        } else {
+            turn_last(&mut self.inner);
+        }
+    }
+
+    /// The latest conditional is closed.
+    fn close(&mut self)
+        ensures { self.new ≡ closed self.old }
+    {
+        if self.inner.pop().is_none() {
+            self.among.pop();
+        }
+    }
+}
+
+/// The second side of the last of these begins.
+fn turn_last(conditionals: &mut Vec<Conditional>)
+    ensures { reverse conditionals.new.items ≡ turned_first (reverse conditionals.old.items) }
+{
+    if let Some(last) = conditionals.last_mut() {
+        last.is_second = true;
+    }
+}
+
+/// How many levels are open in a side that is left out, behind a word.
+fn levels_behind(word: ConditionalWord, levels: u32) -> u32
+    ensures { result ≡ levels_behind word levels }
+{
+    match word {
+        ConditionalWord::Endif => levels.saturating_sub(1),
+        ConditionalWord::Ifnot => levels,
+        ConditionalWord::Ifdef
+        | ConditionalWord::Ifndef
+        | ConditionalWord::Iftrue
+        | ConditionalWord::Iffalse => levels.saturating_add(1),
+    }
+}
+
+/// Whether a word ends a side that is left out, at its own level.
+fn ends_side(word: ConditionalWord, is_second: bool) -> bool
+    ensures { result ≡ ends_at word is_second }
+{
+    match word {
+        ConditionalWord::Endif => true,
+        ConditionalWord::Ifnot => !is_second,
+        _ => false,
+    }
+}
+
+/// Tells some conditionals that have no other end.
+fn tell_all(
+    unclosed: &[Conditional],
+    files: &Stack,
+    report: &mut Messages,
+) -> Result<(), AllocError>
+    ensures { OnOk result (report.new ≡ with_all_lone files.now.names unclosed.now report.old) }
+{
+    for conditional in unclosed {
+        tell_lone(conditional.place, files, report)?;
+    }
+    Ok(())
+}
+
+/// Tells a conditional directive without its other end, where it begins.
+pub fn tell_lone(place: Place, files: &Stack, report: &mut Messages) -> Result<(), AllocError>
+    ensures { OnOk result (report.new ≡ with_lone files.now.names place report.old) }
+{
+    let at = location(files, place);
+    report.error(at, at, &Message::LoneConditional)
+}

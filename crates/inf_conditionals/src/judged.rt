@@ -1,0 +1,37 @@
+//! What becomes of a token.
+
+use inf_scanner::Place;
+
+/// How a token is handed on to the machine of the grammar.
+#[derive(Clone, Copy, Debug, PartialEq, Eq)]
+pub enum Handed {
+    /// As one that is kept.
+    Kept,
+    /// As one that does not fit.
+    Unfit,
+}
+
+/// A `#` that was held back until the token behind it was known.
+#[derive(Clone, Copy, Debug, PartialEq, Eq)]
+pub struct Sign {
+    pub place: Place,
+    pub handed: Handed,
+}
+
+/// What a token comes to: what is handed on, first the `#` before it and then the token itself; and where a directive begins
+/// that ends or turns a conditional which is not there.
+#[derive(Clone, Copy, Debug, PartialEq, Eq)]
+pub struct Judged {
+    pub sign: Option<Sign>,
+    pub token: Option<Handed>,
+    pub lone: Option<Place>,
+}
+
+/// Where a token comes to the reading.
+#[derive(Clone, Copy, Debug, PartialEq, Eq)]
+pub struct Site {
+    /// Between the pieces of a source.
+    pub is_between: bool,
+    /// Among tokens that are passed over behind a bad one.
+    pub is_quiet: bool,
+}

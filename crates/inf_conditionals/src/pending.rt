@@ -1,0 +1,36 @@
+//! The conditional directives that are being read.
+
+use inf_scanner::Place;
+
+/// What a conditional directive does when its semicolon is read.
+#[derive(Clone, Copy, Debug, PartialEq, Eq)]
+pub enum Effect {
+    /// It opens a conditional, whose first side is kept if this is so.
+    Opens(bool),
+    /// The other side of the latest conditional begins.
+    Turns,
+    /// The latest conditional is closed.
+    Closes,
+    /// Nothing: its word ended a side that was left out.
+    Nothing,
+}
+
+/// What a directive that is being read waits for.
+#[derive(Clone, Copy, Debug, PartialEq, Eq)]
+pub enum Awaits {
+    /// Its word, behind a `#` at the front of a piece.
+    Word,
+    /// A name; the first side is kept if it was declared or if not.
+    Name(bool),
+    /// Its semicolon.
+    End(Effect),
+}
+
+/// A conditional directive that is being read, from its place on, or a `#` at the front of a piece.
+#[derive(Clone, Copy, Debug, PartialEq, Eq)]
+pub struct Pending {
+    pub place: Place,
+    /// Whether it stands inside another directive.
+    pub is_inner: bool,
+    pub awaits: Awaits,
+}

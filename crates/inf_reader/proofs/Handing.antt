@@ -1,0 +1,38 @@
+-- The end of a source ends the reading, however it is handed on.
+use Rattle.std.proofs.Common.{◌≡◌, ℕ, List, Option, Some, None, refl, ap, ◌∙◌}
+use Rattle.inf_scanner.specs.declared.tokens.Place.{Place}
+use Rattle.inf_scanner.specs.declared.tokens.TokenKind.TheVariants as kind
+use Rattle.inf_unit.specs.Messages.{FileNames}
+use Rattle.inf_unit.specs.Tokens.{Spelled}
+use Rattle.inf_conditionals.specs.declared.judged.Handed.{Handed}
+use Rattle.inf_conditionals.specs.declared.judged.Handed.TheVariants as handed
+use Rattle.inf_conditionals.specs.declared.judged.Judged.{Judged}
+use Rattle.inf_reader.specs.Handing.{handed_as, judged_taken, lone_told, sign_taken, token_taken, unfit_in}
+use Rattle.inf_reader.specs.Reading.{Stand}
+use Rattle.inf_reader.specs.declared.mode.Mode.{Mode}
+use Rattle.inf_reader.specs.declared.mode.Mode.TheVariants as mode
+use Rattle.inf_reader.proofs.Turns.{end_at}
+
+abbrev end_of : List ℕ → Place → Spelled
+end_of bytes place = record { kind = kind.End; bytes = bytes; place = place }
+
+unfit_end : (m : Mode) (files : FileNames) (bytes : List ℕ) (place : Place) (s : Stand) → s.reading.mode ≡ m → (unfit_in m files (end_of bytes place) s).reading.mode ≡ mode.Ended
+unfit_end mode.Reads files bytes place s e = refl
+unfit_end mode.SkipsRoutine files bytes place s e = end_at s.reading.mode files kind.End bytes place s.reading s.work refl refl
+unfit_end mode.SkipsDirective files bytes place s e = end_at s.reading.mode files kind.End bytes place s.reading s.work refl refl
+unfit_end mode.Ended files bytes place s e = end_at s.reading.mode files kind.End bytes place s.reading s.work refl refl
+
+end_handed : (h : Handed) (files : FileNames) (bytes : List ℕ) (place : Place) (s : Stand) → (handed_as h files (end_of bytes place) s).reading.mode ≡ mode.Ended
+end_handed handed.Kept files bytes place s = end_at s.reading.mode files kind.End bytes place s.reading s.work refl refl
+end_handed handed.Unfit files bytes place s = unfit_end s.reading.mode files bytes place s refl
+
+lone_mode : (lone : Option Place) (files : FileNames) (s : Stand) → (lone_told lone files s).reading.mode ≡ s.reading.mode
+lone_mode None files s = refl
+lone_mode (Some place) files s = refl
+
+pub end_taken : (files : FileNames) (bytes : List ℕ) (place : Place) (j : Judged) (h : Handed) (s : Stand) → j.token ≡ Some h
+    → (judged_taken files (end_of bytes place) j s).reading.mode ≡ mode.Ended
+end_taken files bytes place j h s e =
+    lone_mode j.lone files (token_taken j.token files (end_of bytes place) (sign_taken j.sign files s))
+    ∙ ap (λ o. (token_taken o files (end_of bytes place) (sign_taken j.sign files s)).reading.mode) e
+    ∙ end_handed h files bytes place (sign_taken j.sign files s)

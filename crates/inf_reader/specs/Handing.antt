@@ -1,0 +1,68 @@
+-- What the machine of the grammar gets of a token, by what becomes of it among conditionals.
+use Rattle.std.specs.Prelude.{List, [], ◌∷◌, codes, Bool, true, false, ◌&&◌, Option, Some, None}
+use Rattle.inf_scanner.specs.declared.tokens.Mark.TheVariants as mark
+use Rattle.inf_scanner.specs.declared.tokens.Place.{Place}
+use Rattle.inf_scanner.specs.declared.tokens.TokenKind.TheVariants as kind
+use Rattle.inf_machine.specs.declared.symbols.Symbol.{Symbol}
+use Rattle.inf_grammar.specs.declared.actions.Action.{Action}
+use Rattle.inf_unit.specs.Messages.{FileNames}
+use Rattle.inf_unit.specs.Tokens.{Spelled}
+use Rattle.inf_conditionals.specs.Ends.{with_lone}
+use Rattle.inf_conditionals.specs.declared.judged.Handed.{Handed}
+use Rattle.inf_conditionals.specs.declared.judged.Handed.TheVariants as handed
+use Rattle.inf_conditionals.specs.declared.judged.Judged.{Judged}
+use Rattle.inf_conditionals.specs.declared.judged.Sign.{Sign}
+use Rattle.inf_conditionals.specs.declared.judged.Site.{Site}
+use Rattle.inf_reader.specs.Reading.{Reading, Stand, bad, step}
+use Rattle.inf_reader.specs.declared.mode.Mode.{Mode}
+use Rattle.inf_reader.specs.declared.mode.Mode.TheVariants as mode
+
+-- Where a token comes to the reading
+
+abbrev pub is_empty : List (Symbol Action) → Bool
+is_empty [] = true
+is_empty (_ ∷ _) = false
+
+abbrev pub reads : Mode → Bool
+reads mode.Reads = true
+reads _ = false
+
+abbrev pub skips : Mode → Bool
+skips mode.SkipsRoutine = true
+skips mode.SkipsDirective = true
+skips _ = false
+
+-- between the pieces, or among tokens that are passed over
+abbrev pub site_of : Reading → Site
+site_of r = record { is_between = reads r.mode && is_empty r.stack; is_quiet = skips r.mode }
+
+-- What is handed on
+
+-- a `#` at a place
+abbrev pub hash : Place → Spelled
+hash place = record { kind = kind.Mark mark.Hash; bytes = codes "#"; place = place }
+
+-- a token that does not fit a conditional is the bad one of the piece at hand, and where one was told it is passed over
+abbrev pub unfit_in : Mode → FileNames → Spelled → Stand → Stand
+unfit_in mode.Reads files t s = bad files t s.reading s.work
+unfit_in _ files t s = step files t s.reading s.work
+
+abbrev pub handed_as : Handed → FileNames → Spelled → Stand → Stand
+handed_as handed.Kept files t s = step files t s.reading s.work
+handed_as handed.Unfit files t s = unfit_in s.reading.mode files t s
+
+abbrev pub sign_taken : Option Sign → FileNames → Stand → Stand
+sign_taken None files s = s
+sign_taken (Some sign) files s = handed_as sign.handed files (hash sign.place) s
+
+abbrev pub token_taken : Option Handed → FileNames → Spelled → Stand → Stand
+token_taken None files t s = s
+token_taken (Some h) files t s = handed_as h files t s
+
+abbrev pub lone_told : Option Place → FileNames → Stand → Stand
+lone_told None files s = s
+lone_told (Some place) files s = record s { work = record s.work { report = with_lone files place s.work.report } }
+
+-- first the `#` before the token, then the token, and then a directive that has no conditional to end or to turn
+abbrev pub judged_taken : FileNames → Spelled → Judged → Stand → Stand
+judged_taken files t j s = lone_told j.lone files (token_taken j.token files t (sign_taken j.sign files s))

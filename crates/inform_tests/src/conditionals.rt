@@ -1,0 +1,174 @@
+//! Conditionals: which tokens of a source are read, and what is told of one without its other end.
+use crate::compile::run;
+use crate::devices::folder_of;
+use inf_compile::Status;
+use inf_symbol::memory_sink::MemorySink;
+use std::test::Fail;
+
+/// Files of a folder, with all messages of `t.inf` among them.
+const FOLDERS: [(&[(&str, &[u8])], &str); 20] = [
+    // A name of an included file is known; one that is declared later is not; a file ends with an open conditional.
+    (
+        &[
+            (
+                "t.inf",
+                b"Include \"c.h\";\nIfdef K; Message \"yes\"; Ifnot; Message \"no\"; Endif;\n[ Main; #Ifdef L; new_line; #Endif; ];\nConstant L;\nIfdef M;",
+            ),
+            ("c.h", b"Constant K;"),
+        ],
+        "yes\nt.inf(5): Error: Conditional without its other end\nErrors: 1, warnings: 0 (no output)\n",
+    ),
+    // A directive that has nothing to end or to turn is told at its own semicolon.
+    (
+        &[(
+            "t.inf",
+            b"Endif;\nIfnot;\n[ Main;\n#Endif; print \"a\"; ];\nMessage \"b\";",
+        )],
+        "t.inf(1): Error: Conditional without its other end\nt.inf(2): Error: Conditional without its other end\nt.inf(4): Error: Conditional without its other end\nb\nErrors: 3, warnings: 0 (no output)\n",
+    ),
+    // A second `Ifnot` is told in a side that is kept, and not in one that is left out.
+    (
+        &[(
+            "t.inf",
+            b"Ifdef K; Ifnot; Message \"a\";\nIfnot;\nMessage \"b\"; Endif; [ Main; ];",
+        )],
+        "a\nt.inf(2): Error: Conditional without its other end\nb\nErrors: 1, warnings: 0 (no output)\n",
+    ),
+    (
+        &[(
+            "t.inf",
+            b"Constant K; Ifdef K; Message \"a\"; Ifnot; Ifnot; Message \"no\"; Endif; [ Main; ];",
+        )],
+        "a\nErrors: 0, warnings: 0\n",
+    ),
+    // In a side that is left out conditionals are counted, with `#` or not.
+    (
+        &[(
+            "t.inf",
+            b"Ifdef K; Iftrue J; Message \"a\"; Ifnot; 5 Endif; #Ifndef K; #Endif; \"x\"; ) Message \"b\"; #Ifnot; Message \"c\"; #Endif; [ Main; ];",
+        )],
+        "c\nErrors: 0, warnings: 0\n",
+    ),
+    // What does not fit a conditional is the bad token of the directive around it.
+    (
+        &[(
+            "t.inf",
+            b"[ Main;\n#Ifdef 5; print \"a\"; ];\n[ Main; ];\nIfdef;\nMessage \"b\";",
+        )],
+        "t.inf(2): Error: Syntax error at \"5\"\nt.inf(3): Error: \"Main\" was declared at t.inf(1)\nt.inf(4): Error: Syntax error at \";\"\nb\nErrors: 3, warnings: 0 (no output)\n",
+    ),
+    // A conditional inside a directive ends in it: it is told behind all messages of the directive.
+    (
+        &[(
+            "t.inf",
+            b"Constant K;\n[ Main x;\n#Ifdef K;\nprint \"a\";\n];\nMessage \"b\";",
+        )],
+        "t.inf(5): Warning: Local \"x\" is unused\nt.inf(3): Error: Conditional without its other end\nb\nErrors: 1, warnings: 1 (no output)\n",
+    ),
+    // Two are told in the order in which they were opened.
+    (
+        &[(
+            "t.inf",
+            b"Ifndef A;\nIfndef B;\nIfndef C; Endif;\n[ Main; ];",
+        )],
+        "t.inf(1): Error: Conditional without its other end\nt.inf(2): Error: Conditional without its other end\nErrors: 2, warnings: 0 (no output)\n",
+    ),
+    // A conditional ends in the file in which it began.
+    (
+        &[
+            (
+                "t.inf",
+                b"Constant K;\nIfdef K; Include \"c\"; Endif;\n[ Main; ];",
+            ),
+            ("c.h", b"\nIfdef K; Message \"a\";"),
+        ],
+        "a\nc.h(2): Error: Conditional without its other end\nErrors: 1, warnings: 0 (no output)\n",
+    ),
+    (
+        &[
+            ("t.inf", b"Ifndef K;\nInclude \"c\"; Endif;\n[ Main; ];"),
+            ("c.h", b"Endif;"),
+        ],
+        "c.h(1): Error: Conditional without its other end\nErrors: 1, warnings: 0 (no output)\n",
+    ),
+    // A file that is left out is not opened.
+    (
+        &[("t.inf", b"Ifdef K; Include \"c\"; Endif; [ Main; ];")],
+        "Errors: 0, warnings: 0\n",
+    ),
+    // `End` ends all, and nothing is told of what is open.
+    (
+        &[("t.inf", b"Ifndef K; [ Main; ]; End; )")],
+        "Errors: 0, warnings: 0\n",
+    ),
+    // A side that is left out may run to the end of the file, which then cuts the directive.
+    (
+        &[("t.inf", b"[ Main;\n#Ifdef K;\nprint \"a\"; ];")],
+        "t.inf(3): Error: Syntax error at end of file\nt.inf(2): Error: Conditional without its other end\nErrors: 2, warnings: 0 (no output)\n",
+    ),
+    // Among tokens that are passed over conditionals choose which these are, and are not told.
+    (
+        &[(
+            "t.inf",
+            b"Constant K;\n) #Ifdef K; 5 #Ifnot; ; #Endif; ;\nMessage \"a\"; [ Main; ];\n) #Endif; 5;\nMessage \"b\";",
+        )],
+        "t.inf(2): Error: Syntax error at \")\"\na\nt.inf(4): Error: Syntax error at \")\"\nb\nErrors: 2, warnings: 0 (no output)\n",
+    ),
+    // One that is left open there is told.
+    (
+        &[("t.inf", b")\n#Ifndef K; 5;\nMessage \"a\"; [ Main; ];")],
+        "t.inf(1): Error: Syntax error at \")\"\nt.inf(2): Error: Conditional without its other end\na\nErrors: 2, warnings: 0 (no output)\n",
+    ),
+    // A conditional directive begins at its `#`.
+    (
+        &[(
+            "t.inf",
+            b"#Ifdef K; Message \"a\"; #Ifnot; Message \"b\"; #Endif;\n#\nEndif; [ Main; ];",
+        )],
+        "b\nt.inf(2): Error: Conditional without its other end\nErrors: 1, warnings: 0 (no output)\n",
+    ),
+    // Between a `#` and the word of its directive a conditional stands inside the directive.
+    (
+        &[(
+            "t.inf",
+            b"# #Ifndef K;\nConstant J; Ifdef J; Message \"j\"; Endif;\n# #Ifdef J; Ifnot; Message \"a\";\n[ Main; ];",
+        )],
+        "t.inf(1): Error: Conditional without its other end\nj\nt.inf(3): Error: Conditional without its other end\na\nErrors: 2, warnings: 0 (no output)\n",
+    ),
+    // A conditional inside a conditional directive belongs to the directive around both.
+    (
+        &[(
+            "t.inf",
+            b"Ifdef #Ifndef A;\nB #Endif; ; Message \"no\"; Endif;\n[ Main; #Ifdef #Ifdef A; #Ifnot; true; #Endif; #Endif; print \"a\"; ];",
+        )],
+        "Errors: 0, warnings: 0\n",
+    ),
+    // Those with conditions have not come yet.
+    (
+        &[("t.inf", b"[ Main;\n#Iftrue 1; ];\nIffalse 1;")],
+        "t.inf(2): Error: Syntax error at \"Iftrue\"\nt.inf(3): Error: Syntax error at \"Iffalse\"\nErrors: 2, warnings: 0 (no output)\n",
+    ),
+    // The names of the language are declared; what was used only is not.
+    (
+        &[(
+            "t.inf",
+            b"Ifdef true; Message \"a\"; Endif; [ Main; F(); ]; Ifdef f; Message \"b\"; Endif; [ F; ]; Ifdef F; Message \"c\"; Endif;",
+        )],
+        "a\nc\nErrors: 0, warnings: 0\n",
+    ),
+];
+
+#[test]
+fn conditionals_choose_what_is_read(rt: HostRuntime) -> Result<(), Fail> {
+    for (files, lines) in &FOLDERS {
+        let mut files = folder_of(rt.alloc(), *files)?;
+        let mut messages = MemorySink::new(rt.alloc());
+        let mut story = MemorySink::new(rt.alloc());
+        let status = run(rt.alloc(), &mut files, &mut messages, &mut story)??;
+        assert_eq!(rt; messages.bytes(), lines.as_bytes(), "{lines:?}");
+        let is_clean = lines.ends_with("Errors: 0, warnings: 0\n");
+        assert_eq!(rt; status == Status::Success, is_clean, "{lines:?}");
+        assert_eq!(rt; story.bytes().is_empty(), !is_clean, "{lines:?}");
+    }
+    Ok(())
+}
