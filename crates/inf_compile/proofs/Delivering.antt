@@ -1,5 +1,5 @@
 -- What a story's sink takes of what was compiled.
-use Rattle.std.proofs.Common.{◌≡◌, ℕ, List, Option, ap, subst, ◌∙◌}
+use Rattle.std.proofs.Common.{◌≡◌, ℕ, Bool, List, Option, ap, subst, ◌∙◌}
 use Rattle.inf_characters.specs.declared.characters.CharSet.{CharSet}
 use Rattle.inf_settings.specs.declared.settings.Settings.{Settings}
 use Rattle.inf_token.specs.Files.{Openings, Sources}
@@ -49,9 +49,10 @@ begins_whole s o p serial name other old new before after c same named k =
     }))
 
 -- what is chosen, by its parts
-abbrev pub made : CharSet → Settings → List (List ℕ) → Choices
-made set settings directories = record { set = set; settings = settings; directories = directories }
+abbrev pub made : CharSet → Bool → Settings → List (List ℕ) → Choices
+made set has_warnings settings directories = record { set = set; has_warnings = has_warnings; settings = settings; directories = directories }
 
-pub chosen_is : (a b : CharSet) (s t : Settings) (d e : List (List ℕ)) → a ≡ b → s ≡ t → d ≡ e → made a s d ≡ made b t e
-chosen_is a b s t d e of_set of_settings of_directories =
-    ap (λ (x : CharSet). made x s d) of_set ∙ ap (λ (x : Settings). made b x d) of_settings ∙ ap (λ (x : List (List ℕ)). made b t x) of_directories
+pub chosen_is : (a b : CharSet) (v w : Bool) (s t : Settings) (d e : List (List ℕ)) → a ≡ b → v ≡ w → s ≡ t → d ≡ e → made a v s d ≡ made b w t e
+chosen_is a b v w s t d e of_set of_warnings of_settings of_directories =
+    ap (λ (x : CharSet). made x v s d) of_set ∙ ap (λ (x : Bool). made b x s d) of_warnings
+    ∙ ap (λ (x : Settings). made b w x d) of_settings ∙ ap (λ (x : List (List ℕ)). made b w t x) of_directories

@@ -13,7 +13,7 @@ use Rattle.inf_session.specs.declared.translation.Status.{Status}
 
 -- what the words of a command choose of the reading
 abbrev pub chosen_by : Choice → Choices
-chosen_by c = record { set = c.set; settings = c.settings; directories = directories_of c.path }
+chosen_by c = record { set = c.letters.set; has_warnings = c.letters.has_warnings; settings = c.settings; directories = directories_of c.path }
 
 -- the bytes of a story, if there is one
 abbrev pub story_in : Compiled → Option (List ℕ)

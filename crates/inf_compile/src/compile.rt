@@ -1,7 +1,8 @@
 ghost use Rattle.std.specs.Prelude.{◌≡◌, IsTrue, IfOk, IfErr, Ok, OnOk, OnErr};
 ghost use Rattle.inf_token.specs.Files.{Rose};
 ghost use Rattle.inf_words.specs.FileNames.{source_name};
-ghost use Rattle.inf_session.specs.Comes.{Begins, IsUnread, OpenedBy};
+ghost use Rattle.inf_session.specs.Comes.{Begins, Heard, IsUnread, OpenedBy};
+ghost use Rattle.inf_session.specs.Session.{start};
 ghost use Rattle.inf_session.specs.Faults.{IfMessages, IfRead, IfStory, UnlessStory};
 ghost use Rattle.inf_compile.specs.Compiling.{Compiles, DeliversPart, OnlyStory, TakesPart, TakesStory, chosen_by, story_in};
 
@@ -61,6 +62,11 @@ pub fn compile<F: Files, M: Sink, S: Sink>(
     ensures begins { IsTrue (F.is_honest files.old) → OnErr result
         (Begins (F.sources files.old) (chosen_by options.now) date (source_name options.now.source) (M.taken messages.old) (M.taken messages.new)) }
 
+    // After a fault of reading it is all that comes with the tokens that were read, which is so of some number of turns from the start.
+    ensures heard { let name = source_name options.now.source in
+        IsTrue (F.is_honest files.old) → IfErr result (λ fault. IfRead fault (λ told. Heard (F.sources files.old) (chosen_by options.now)
+        (start (F.sources files.old) (chosen_by options.now) name) (M.taken messages.old) (M.taken messages.new))) }
+
     // With any reader nothing is left open, and no story comes with an error.
     ensures depth { F.depth files.new ≡ F.depth files.old }
     ensures errors { result ≡ Ok Status.Errors → S.taken story.new ≡ S.taken story.old }
@@ -85,6 +91,7 @@ pub fn compile<F: Files, M: Sink, S: Sink>(
     let directories = options.directories(alloc)?;
     let setup = Setup {
         set: options.set(),
+        has_warnings: options.has_warnings(),
         settings: options.settings(),
         directories: directories.as_slice(),
     };

@@ -1,5 +1,5 @@
 //! The conditionals of the files that are open.
-ghost use Rattle.std.specs.Prelude.{◌≡◌, ◌≤◌, length, IfOk, OnOk, IsSome, Some, false, not, reverse, true};
+ghost use Rattle.std.specs.Prelude.{◌≡◌, ◌≤◌, length, IfOk, OnOk, IsSome, Some, false, is_none, not, reverse, true};
 ghost use Rattle.inf_conditionals.specs.Ends.{with_all_lone, with_lone};
 ghost use Rattle.inf_conditionals.specs.Open.{ends_at, levels_behind, turned_first};
 ghost use Rattle.inf_conditionals.specs.Words.{word_of};
@@ -117,6 +117,13 @@ impl Conditionals {
         ensures { result ≡ is_none_pending self.now.pending }
     {
         self.pending.is_empty()
+    }
+
+    /// Whether no side is left out.
+    pub fn is_reading(&self) -> bool
+        ensures { result ≡ is_none self.now.left_out }
+    {
+        self.left_out.is_none()
     }
 
     /// A file is entered, in which no conditional is open yet.
@@ -264,10 +271,12 @@ impl Conditionals {
         if let Some(pending) = self.pending.pop() {
             return self.go_on(pending, is_quiet, names, token);
         }
-        match word_of(token) {
-            Some(word) if is_front => self.begin(word, token.place, false),
-            _ => Ok(KEPT),
+        if is_front {
+            if let Some(word) = word_of(token) {
+                return self.begin(word, token.place, false);
+            }
         }
+        Ok(KEPT)
     }
 
     /// Holds a `#` back, at the front of a piece or not.

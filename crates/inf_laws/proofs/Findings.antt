@@ -11,7 +11,7 @@ use Rattle.inf_names.specs.declared.symbols.Found.TheVariants as found
 use Rattle.inf_symbol.specs.Spellings.{Name}
 use Rattle.inf_symbol.specs.Locals.{Headed, Local, Repeated, earlier, local_of, most_locals, no_locals, number_from, number_of, with_local_by, with_locals}
 use Rattle.inf_unit.specs.Messages.{Blame, FileNames}
-use Rattle.inf_unit.specs.Units.{first_fault, header_fault, is_system_name, local_fault, name_fault, operand_fault, operand_fault_by, operands_fault}
+use Rattle.inf_work.specs.Units.{first_fault, header_fault, is_system_name, local_fault, name_fault, operand_fault, operand_fault_by, operands_fault}
 use Rattle.inf_laws.specs.UnusedLocals.{is_local}
 use Rattle.inf_laws.specs.Findings.{CallsTellTheFirst, Finding, HeadersTellTheFirst, IsBefore, IsLeast, IsTold, ReturnsTellTheFirst, declared_before, different, first_named, many_arguments, many_locals, repeated_local, repeated_locals, repeated_one, taken_as, taken_name, system_operand, system_routine, too_many_arguments, too_many_locals, wrong_name, wrong_names}
 use Rattle.inf_laws.proofs.Choices.{either, either-none}

@@ -18,7 +18,7 @@ use Rattle.inf_report.specs.Messages.{Undeclared}
 use Rattle.inf_symbol.specs.Spellings.{Name}
 use Rattle.inf_unit.specs.Messages.{FileNames, Reported, location, with_error}
 use Rattle.inf_unit.specs.Names.{constant_in, with_all_undeclared, with_undeclared}
-use Rattle.inf_unit.specs.Units.{name_full, used, with_constant_by, with_name}
+use Rattle.inf_work.specs.Units.{name_full, used, with_constant_by, with_name}
 use Rattle.inf_laws.specs.NameEvents.{Declares, Event, FirstDeclarationsCount, FewHaveRoom, HaveRoom, OperandsUse, UndeclaredAreTold, UnitsDeclare, Use, Uses, declares, first_declaration, is_too_many, stands_for, undeclared_use, undeclared_uses, uses, with_event, with_events, with_uses_told}
 use Rattle.inf_laws.proofs.Choices.{cond-again, cond-swap, either, or-assoc, or-false, or-known}
 use Rattle.inf_laws.proofs.SameNames.{bytes_eq-sym, key_same, same_key}

@@ -10,7 +10,7 @@ use Rattle.inf_report.specs.declared.messages.Countable.TheVariants as countable
 use Rattle.inf_symbol.specs.Spellings.{Name}
 use Rattle.inf_symbol.specs.Locals.{Local, with_locals, no_locals}
 use Rattle.inf_unit.specs.Messages.{FileNames, Blame, location}
-use Rattle.inf_unit.specs.Units.{is_system_name, call_fault, operand_fault, header_fault, name_fault}
+use Rattle.inf_work.specs.Units.{is_system_name, call_fault, operand_fault, header_fault, name_fault}
 use Rattle.inf_laws.specs.UnusedLocals.{is_local}
 
 -- What a rule finds: at which token of the unit, counted from 0, the unit's first; the number of the kind of its message; and

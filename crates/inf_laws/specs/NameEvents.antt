@@ -12,7 +12,7 @@ use Rattle.inf_report.specs.Messages.{Undeclared}
 use Rattle.inf_symbol.specs.Spellings.{Name}
 use Rattle.inf_unit.specs.Messages.{FileNames, Reported, location, with_error}
 use Rattle.inf_unit.specs.Names.{with_all_undeclared}
-use Rattle.inf_unit.specs.Units.{Operands, name_full, with_name, with_operand_by}
+use Rattle.inf_work.specs.Units.{Operands, name_full, with_name, with_operand_by}
 
 -- a name is declared with what it stands for, or used as it is spelled, at a place
 pub data Event : Type 0 where

@@ -28,7 +28,7 @@ fn the_first_refused_word_decides(rt: HostRuntime) {
 fn letters_are_refused_whole(rt: HostRuntime) {
     let cases = [
         "-C", "-C2", "-c0", "-C0C", "-C0Q", "-QC0", "-C0-C1", "-C0 ", "-~C0", "-~", "-C0~S", "-e",
-        "-s", "-w", "-i", "-D", "-v5", "-E1", "-C01",
+        "-s", "-W", "-w~", "-w~e", "-wC", "-~~w", "-i", "-D", "-v5", "-E1", "-C01",
     ];
     for word in cases {
         let refused = CommandLine::read(&["t", word]).err();
@@ -49,6 +49,25 @@ fn the_last_set_is_chosen(rt: HostRuntime) -> Result<(), Fail> {
     ];
     for (words, set) in cases {
         let options = CommandLine::read(words)?;
+        assert_eq!(rt; options.set(), set, "{words:?}");
+    }
+    Ok(())
+}
+
+#[test]
+fn the_last_word_on_warnings_is_heeded(rt: HostRuntime) -> Result<(), Fail> {
+    let cases: [(&[&str], bool, CharSet); 7] = [
+        (&["t"], true, CharSet::Latin1),
+        (&["t", "-w"], false, CharSet::Latin1),
+        (&["-w~w", "t"], true, CharSet::Latin1),
+        (&["-~w", "t", "-C0w"], false, CharSet::Ascii),
+        (&["-wC0", "t"], false, CharSet::Ascii),
+        (&["-wwC0~wC1w", "t"], false, CharSet::Latin1),
+        (&["-w", "t", "-~w"], true, CharSet::Latin1),
+    ];
+    for (words, has_warnings, set) in cases {
+        let options = CommandLine::read(words)?;
+        assert_eq!(rt; options.has_warnings(), has_warnings, "{words:?}");
         assert_eq!(rt; options.set(), set, "{words:?}");
     }
     Ok(())

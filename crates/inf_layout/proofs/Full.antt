@@ -28,7 +28,7 @@ awaited-known : (bytes : List ℕ) → awaited (known bytes) ≡ 0
 awaited-known [] = refl
 awaited-known (byte ∷ bytes) = awaited-known bytes
 
-awaited-cells_from : (place : ℕ) (holes : List Hole) (bytes : List ℕ) → awaited (cells_from place holes bytes) ≡ length holes
+pub awaited-cells_from : (place : ℕ) (holes : List Hole) (bytes : List ℕ) → awaited (cells_from place holes bytes) ≡ length holes
 awaited-cells_from place [] bytes = awaited-known bytes
 awaited-cells_from place (hole ∷ holes) bytes =
     let front = take (hole.place - place) bytes in

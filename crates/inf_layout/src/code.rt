@@ -7,7 +7,7 @@ ghost use Rattle.inf_assembler.specs.declared.routines.Setting.{Setting};
 ghost use Rattle.inf_assembler.specs.declared.routines.CloseFault.TheVariants as close_fault;
 ghost use Rattle.inf_assembler.specs.declared.routines.GrowFault.TheVariants as grow_fault;
 ghost use Rattle.inf_assembler.specs.Routines.{fresh, refusal};
-ghost use Rattle.inf_layout.specs.Code.{size, number_in, code_bytes, with_item, with_closed, with_none_open, full_opened, full_with, full_closed, is_of_room};
+ghost use Rattle.inf_layout.specs.Code.{awaited, size, number_in, code_bytes, with_item, with_closed, with_none_open, full_opened, full_with, full_closed, is_of_room};
 
 use inf_area::{Area, FlatArea, Reference, Refs};
 use inf_assembler::{CloseFault, GrowFault, Limits, Routine, RoutineKind};
@@ -71,6 +71,13 @@ impl Code {
         ensures { result ≡ size self.now.finished }
     {
         self.finished
+    }
+
+    /// How many references the finished routines have.
+    pub fn references(&self) -> usize
+        ensures { result ≡ awaited self.now.finished }
+    {
+        self.refs.len()
     }
 
     /// Opens a routine of so many locals, at most 15. One that is open is given up.

@@ -11,7 +11,7 @@ use Rattle.inf_unit.specs.Tokens.{Spelled, is_end}
 use Rattle.inf_unit.proofs.Cases.{of_both}
 use Rattle.inf_grammar.specs.declared.actions.Action.{Action}
 use Rattle.inf_machine.specs.declared.symbols.Symbol.{Symbol}
-use Rattle.inf_unit.specs.Actions.{Work}
+use Rattle.inf_work.specs.Actions.{Work}
 use Rattle.inf_unit.specs.Messages.{FileNames}
 use Rattle.inf_sources.specs.Cursors.{Cursor}
 use Rattle.inf_reader.specs.Cursors.{next_token, read_token}

@@ -24,7 +24,7 @@ use Rattle.inf_grammar.specs.Language.{grammar, known}
 use Rattle.inf_unit.specs.Statements.{Unit, name_of, no_unit, unit_behind}
 use Rattle.inf_unit.specs.declared.unit.Head.{Head}
 use Rattle.inf_unit.specs.declared.unit.Head.TheVariants as head
-use Rattle.inf_unit.specs.Actions.{Gathered, Work, no_work, acted}
+use Rattle.inf_work.specs.Actions.{Gathered, Work, no_work, acted}
 use Rattle.inf_sources.specs.Cursors.{Cursor, front}
 use Rattle.inf_reader.specs.Cursors.{next_token}
 use Rattle.inf_reader.specs.Tests.{atom_of, complaint_of, read_of}

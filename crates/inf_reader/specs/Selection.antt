@@ -60,7 +60,7 @@ goes_on _ u t = is_mark mark.Semicolon t.kind
 
 -- the words of the directives that have come
 abbrev pub directive_words : List (List ℕ)
-directive_words = codes "include" ∷ codes "message" ∷ codes "end" ∷ codes "constant" ∷ codes "system_file" ∷ []
+directive_words = codes "include" ∷ codes "message" ∷ codes "end" ∷ codes "constant" ∷ codes "replace" ∷ codes "system_file" ∷ []
 
 abbrev pub is_directive_word : List ℕ → Bool
 is_directive_word bytes = list_any (λ word. str_eq_ignore_ascii_case bytes word) directive_words

@@ -1,5 +1,6 @@
 -- What the parts of the code's reading stand for.
-use Rattle.inf_unit.specs.Works.{unit, work}
+use Rattle.inf_unit.specs.AtHand.{unit}
+use Rattle.inf_work.specs.Works.{work}
 use Rattle.inf_reader.specs.Reading.{Reading, Stand}
 use Rattle.inf_reader.specs.declared.reader.Reader.{Reader}
 use Rattle.inf_reader.specs.declared.progress.Progress.{Progress}

@@ -3,7 +3,7 @@ ghost use Rattle.std.specs.Prelude.{◌≡◌, ◌≤◌, IsSome, OnOk, length};
 ghost use Rattle.inf_report.specs.Meant.{located};
 ghost use Rattle.inf_unit.specs.Statements.{name_of};
 ghost use Rattle.inf_unit.specs.Tokens.{spelled};
-ghost use Rattle.inf_unit.specs.Works.{work as work_of};
+ghost use Rattle.inf_work.specs.Works.{work as work_of};
 ghost use Rattle.inf_reader.specs.Handing.{hash};
 ghost use Rattle.inf_reader.specs.Reading.{gathering, with_complaint};
 ghost use Rattle.inf_reader.specs.Tests.{complaint_of};
@@ -23,7 +23,7 @@ use inf_text::CharSet;
 use inf_unit::messages::{Messages, location};
 use inf_unit::tokens::{Spelled, is_end, number_of};
 use inf_unit::unit::{Head, name_of};
-use inf_unit::work::Work;
+use inf_work::work::Work;
 use std::alloc::{AllocError, Global};
 
 /// How far a source was read, and what was compiled of it.
@@ -40,7 +40,7 @@ impl Progress {
     ghost use Rattle.inf_reader.specs.Handing.{handed_as, judged_taken, site_of};
     ghost use Rattle.inf_reader.specs.Reading.{bad, begun_stand, has_ended_at, judged, read_at, step};
     ghost use Rattle.inf_reader.specs.Standing.{reading, standing};
-    ghost use Rattle.inf_unit.specs.Works.{work};
+    ghost use Rattle.inf_work.specs.Works.{work};
 
     /// Before the first token of sources in a character set. It takes no memory until something is read.
     pub fn new(alloc: Global, set: CharSet, settings: &Settings) -> Progress

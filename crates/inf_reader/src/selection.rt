@@ -3,7 +3,7 @@ ghost use Rattle.std.specs.Prelude.{◌≡◌};
 ghost use Rattle.std.specs.List.{list_any};
 ghost use Rattle.std.specs.Str.{str_eq_ignore_ascii_case};
 ghost use Rattle.inf_reader.specs.Selection.{is_directive_word, is_later_word, begins_statement, begins_unit, goes_on, goes_on_constant, goes_on_directive, goes_on_print, goes_on_call, has_come, begins_piece};
-ghost use Rattle.inf_unit.specs.Works.{unit};
+ghost use Rattle.inf_unit.specs.AtHand.{unit};
 ghost use Rattle.inf_unit.specs.Tokens.{spelled};
 
 use crate::tokens::is_operand;
@@ -34,7 +34,14 @@ const LATER_WORDS: [&str; 17] = [
 ];
 
 /// The words of the directives that have come.
-const DIRECTIVE_WORDS: [&str; 5] = ["include", "message", "end", "constant", "system_file"];
+const DIRECTIVE_WORDS: [&str; 6] = [
+    "include",
+    "message",
+    "end",
+    "constant",
+    "replace",
+    "system_file",
+];
 
 /// Whether a token begins a piece of a source that has come: it is a semicolon alone, the bracket of a
 /// routine, the word of a directive, or a `#` before these.
@@ -114,7 +121,11 @@ fn goes_on_directive(directive: Directive, at_hand: &Unit, token: &Spelled<'_>) 
 {
     match directive {
         Directive::Constant => goes_on_constant(at_hand, token),
-        Directive::Include | Directive::Message | Directive::End | Directive::SystemFile => true,
+        Directive::Include
+        | Directive::Message
+        | Directive::End
+        | Directive::Replace
+        | Directive::SystemFile => true,
     }
 }
 

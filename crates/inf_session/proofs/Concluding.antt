@@ -1,5 +1,5 @@
 -- What is written up to the end of a compilation, or up to where it was given up.
-use Rattle.std.proofs.Common.{◌≡◌, ℕ, ◌<◌, ◌≤◌, List, [], ◌∷◌, ◌++◌, ◌+◌, length, length-append, map, reverse, get_or, unwrap_or, cond, take, drop, take-append-drop, Bool, true, false, Option, Some, None, arith, Result, Ok, Err, IfOk, IfErr, IsTrue, inl, inr, refl, sym, ap, subst, ◌∙◌, append_assoc}
+use Rattle.std.proofs.Common.{◌≡◌, ℕ, zero, ◌<◌, ◌≤◌, List, [], ◌∷◌, ◌++◌, ◌+◌, length, length-append, map, reverse, get_or, unwrap_or, cond, take, drop, take-append-drop, Bool, true, false, Option, Some, None, arith, Result, Ok, Err, IfOk, IfErr, IsTrue, inl, inr, refl, sym, ap, subst, ◌∙◌, append_assoc}
 use Rattle.inf_token.specs.Files.{Opening, Openings, Sources, opened}
 use Rattle.inf_symbol.specs.Sinks.{Takes}
 use Rattle.inf_sources.specs.Inclusions.{Nesting, main_opened}
@@ -8,17 +8,18 @@ use Rattle.inf_lexer.specs.Unread.{View, innermost_place, unread_of}
 use Rattle.inf_sources.proofs.Places.{innermost_of, last_of}
 use Rattle.inf_conditionals.specs.Open.{Conditions, no_conditions}
 use Rattle.inf_sources.specs.Open.{AllGiven, AreCounted, AreNested, IsCounted, IsGiven, IsNested, NamesAreOpened, Open, closed_to, cursor_of, cursors_at, nesting, rest_of}
-use Rattle.inf_reader.specs.Reading.{Stand, begun_stand}
+use Rattle.inf_reader.specs.Reading.{Stand}
+use Rattle.inf_session.specs.Session.{begun_with}
 use Rattle.inf_reader.specs.Standing.{standing}
 use Rattle.inf_session.specs.Choices.{Choices, most_quoted}
-use Rattle.inf_session.specs.Comes.{AreNear, Begins, Comes, Concludes, Delivers, GaveTooMuch, IsUnread, OpenedBy, Stops, TakesFront, WereOpened}
+use Rattle.inf_session.specs.Comes.{AreNear, Begins, Comes, Concludes, Delivers, GaveTooMuch, Heard, IsUnread, OpenedBy, Stops, TakesFront, WereOpened}
 use Rattle.inf_session.specs.Faults.{IfRead}
 use Rattle.inf_session.specs.Given.{GivesAtLeast, IsUnreadable, given_to}
 use Rattle.inf_characters.specs.declared.characters.CharSet.{CharSet}
 use Rattle.inf_lexer.specs.Readers.{Reader, at_front}
 use Rattle.inf_session.specs.declared.faults.Fault.{Fault}
 use Rattle.inf_session.specs.declared.faults.Fault.TheVariants as fault
-use Rattle.inf_session.specs.Leading.{CutsShort, IsFront, Writes}
+use Rattle.inf_session.specs.Leading.{CutsShort, IsFront, Writes, WroteAll}
 use Rattle.inf_session.specs.Outcome.{Ending, IsCompiled, IsOutcomeOf, ending_of, finished}
 use Rattle.inf_session.specs.Session.{IsRead, State, has_ended, run, start}
 use Rattle.inf_session.specs.Standing.{state}
@@ -188,15 +189,16 @@ begins_of s o serial name was before after there begun k = record {
 
 -- a session at the front of the main source
 pub begun_is : (s : Sources) (o : Choices) (name : List ℕ) (old now : Openings) (x : Session) → nesting s old now x.open_files ≡ main_opened o.set (most_quoted o) s name
-    → standing x.progress ≡ begun_stand o.set o.settings → x.is_over ≡ false → x.conditionals ≡ no_conditions → state s old now x [] ≡ start s o name
-begun_is s o name old now x files at going none =
-    ap (λ (n : Nesting). made n x.conditionals (standing x.progress) x.is_over) files
-    ∙ ap (λ (p : Stand). made (main_opened o.set (most_quoted o) s name) x.conditionals p x.is_over) at
-    ∙ ap (λ (b : Bool). made (main_opened o.set (most_quoted o) s name) x.conditionals (begun_stand o.set o.settings) b) going
-    ∙ ap (λ (c : Conditions). made (main_opened o.set (most_quoted o) s name) c (begun_stand o.set o.settings) false) none
+    → standing x.progress ≡ begun_with o → x.is_over ≡ false → x.conditionals ≡ no_conditions → x.quoted ≡ 0 → state s old now x [] ≡ start s o name
+begun_is s o name old now x files at going none unquoted =
+    ap (λ (n : Nesting). made n x.conditionals (standing x.progress) x.is_over x.quoted) files
+    ∙ ap (λ (p : Stand). made (main_opened o.set (most_quoted o) s name) x.conditionals p x.is_over x.quoted) at
+    ∙ ap (λ (b : Bool). made (main_opened o.set (most_quoted o) s name) x.conditionals (begun_with o) b x.quoted) going
+    ∙ ap (λ (c : Conditions). made (main_opened o.set (most_quoted o) s name) c (begun_with o) false x.quoted) none
+    ∙ ap (λ (n : ℕ). made (main_opened o.set (most_quoted o) s name) no_conditions (begun_with o) false n) unquoted
   where
-    made : Nesting → Conditions → Stand → Bool → State
-    made n c p b = record { nesting = n; conditions = c; reading = p.reading; work = p.work; told = []; is_over = b }
+    made : Nesting → Conditions → Stand → Bool → ℕ → State
+    made n c p b q = record { nesting = n; conditions = c; reading = p.reading; work = p.work; told = []; is_over = b; quoted = q }
 
 -- too many bytes were given
 pub gave_too_much : (base count : ℕ) (f : Open) → 16777216 < f.lexer.window.given → GivesAtLeast base f count → GaveTooMuch base count
@@ -226,3 +228,11 @@ unread (Err fault.Memory) first before mid now gb gn h old between new f e le sa
 unread (Err (fault.Read name)) first before mid now gb gn h old between new f e le same given names all = unread_by first before mid now gb gn h old between new f e le same given names all
 unread (Err fault.Messages) first before mid now gb gn h old between new f e le same given names all = tt
 unread (Err (fault.Story n)) first before mid now gb gn h old between new f e le same given names all = tt
+
+-- all was written that comes with some turns
+pub heard_of : (s : Sources) (o : Choices) (was : List ℕ → State) (old new : Option (List ℕ)) (turns : ℕ) → WroteAll (run s o turns) was old new → Heard s o (was []) old new
+heard_of s o was old new turns all = record { turns = turns; takes = subst (λ (lines : List ℕ). Takes old new lines) (sym (all.same [])) all.takes }
+
+-- before the first turn nothing is
+pub heard_none : (s : Sources) (o : Choices) (name : List ℕ) (old new : Option (List ℕ)) → new ≡ old → Heard s o (start s o name) old new
+heard_none s o name old new e = record { turns = zero; takes = subst (λ (n : Option (List ℕ)). Takes old n []) (sym e) (takes_none old) }

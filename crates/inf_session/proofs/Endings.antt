@@ -2,7 +2,7 @@
 use Rattle.std.proofs.Common.{◌≡◌, ℕ, List, true, Option, Some, None, refl}
 use Rattle.inf_report.specs.Messages.{StoryTooLong}
 use Rattle.inf_layout.specs.Story.{is_too_long, most_bytes}
-use Rattle.inf_unit.specs.Actions.{Work}
+use Rattle.inf_work.specs.Actions.{Work}
 use Rattle.inf_unit.proofs.Cases.{of_both}
 use Rattle.inf_unit.specs.Messages.{FileNames, Reported, with_fatal}
 use Rattle.inf_unit.specs.Names.{main_of, values, with_all_undeclared}

@@ -1,5 +1,5 @@
 -- Where turns lead: what has ended stays, turns follow one another, and what was written is only added to.
-use Rattle.std.proofs.Common.{◌≡◌, ℕ, suc, zero, List, [], ◌∷◌, ◌++◌, Bool, true, false, Option, Some, None, cond, refl, sym, ap, subst, ◌∙◌, append_assoc, append-nil, arith}
+use Rattle.std.proofs.Common.{◌≡◌, ℕ, suc, zero, ◌+◌, ◌||◌, List, [], ◌∷◌, ◌++◌, Bool, true, false, Option, Some, None, cond, refl, sym, ap, subst, ◌∙◌, append_assoc, append-nil, arith}
 use Rattle.inf_token.specs.Files.{Sources}
 use Rattle.inf_symbol.specs.Sinks.{Takes}
 use Rattle.inf_unit.proofs.Cases.{of_both}
@@ -7,12 +7,12 @@ use Rattle.inf_sources.specs.Cursors.{Cursor}
 use Rattle.inf_sources.specs.Inclusions.{Inclusion, Opens, OpensNone, inclusion}
 use Rattle.inf_sources.specs.declared.open_files.Included.{Included}
 use Rattle.inf_sources.specs.declared.open_files.Included.TheVariants as answer
-use Rattle.inf_unit.specs.Directives.{Asked, Nothing, Include, End, SystemFile}
+use Rattle.inf_unit.specs.Directives.{Asked, Nothing, Include, End}
 use Rattle.inf_reader.specs.Reading.{is_mode_ended}
 use Rattle.inf_scanner.specs.declared.tokens.Place.{Place}
 use Rattle.inf_session.specs.Choices.{Choices}
-use Rattle.inf_session.specs.Leading.{CutsShort, IsFront, Writes}
-use Rattle.inf_session.specs.Session.{State, answered, asked_nothing, file_closed, followed, has_ended, heeded, included_by, is_resting, left, left_by, none_included, piece_closed, rested, run, stepped, turn}
+use Rattle.inf_session.specs.Leading.{CutsShort, IsFront, Writes, WroteAll}
+use Rattle.inf_session.specs.Session.{State, answered, asked_nothing, file_closed, followed, has_ended, heeded, included_by, is_parted, is_resting, left, left_by, none_included, part, piece_closed, rested, run, stepped, turn}
 
 -- Fronts
 
@@ -55,7 +55,6 @@ included_told sources o unit text (OpensNone why) s = none_told unit text why s
 answered_told : (asked : Asked) (sources : Sources) (o : Choices) (s : State) → SameTold s (answered asked sources o s)
 answered_told (Include text unit) sources o s = included_told sources o unit text (inclusion sources o.directories text s.nesting) s
 answered_told End sources o s = refl
-answered_told SystemFile sources o s = refl
 answered_told Nothing sources o s = refl
 
 heeded_told : (sources : Sources) (o : Choices) (s : State) → SameTold s (heeded sources o s)
@@ -191,4 +190,133 @@ cut_at_once sources o was old new told_is e = record {
   takes = subst (λ n. Takes old n []) (sym e) (takes_none old);
   begins = λ told.
       subst (λ l. IsFront l (turn sources o (was told)).told) (told_is told ∙ sym (append-nil told)) (turn_begins sources o (was told));
+}
+
+-- One step of reading behind another
+
+pub writes_on : (f g step : State → State) (was mid now : List ℕ → State) (old between new : Option (List ℕ)) → ((told : List ℕ) → g (was told) ≡ step (f (was told)))
+    → Writes f was mid old between → Writes step mid now between new → Writes g was now old new
+writes_on f g step was mid now old between new more a b = record {
+  lines = a.lines ++ b.lines;
+  takes = takes_then old between new a.lines b.lines a.takes b.takes;
+  same = λ told. ap now (sym (append_assoc told a.lines b.lines)) ∙ b.same (told ++ a.lines) ∙ ap step (a.same told) ∙ sym (more told);
+}
+
+pub cuts_on : (f g step : State → State) (was mid : List ℕ → State) (old between new : Option (List ℕ)) → ((told : List ℕ) → g (was told) ≡ step (f (was told)))
+    → Writes f was mid old between → CutsShort step mid between new → CutsShort g was old new
+cuts_on f g step was mid old between new more a b = record {
+  front = a.lines ++ b.front;
+  takes = takes_then old between new a.lines b.front a.takes b.takes;
+  begins = λ told.
+      subst (λ l. IsFront l (g (was told)).told) (append_assoc told a.lines b.front)
+      (subst (λ (t : State). IsFront ((told ++ a.lines) ++ b.front) t.told) (ap step (a.same told) ∙ sym (more told)) (b.begins (told ++ a.lines)));
+}
+
+-- some turns behind others
+sum_by : (sources : Sources) (o : Choices) (a b : ℕ) (s : State) (ended : Bool) → has_ended s ≡ ended
+    → (run sources o (a + b) (turn sources o s) ≡ run sources o b (run sources o a (turn sources o s)))
+    → run sources o (suc (a + b)) s ≡ run sources o b (run sources o (suc a) s)
+sum_by sources o a b s true e later = run_ended sources o (suc (a + b)) s e ∙ sym (run_ended sources o b s e) ∙ ap (run sources o b) (sym (run_ended sources o (suc a) s e))
+sum_by sources o a b s false e later = run_going sources o (a + b) s e ∙ later ∙ ap (run sources o b) (sym (run_going sources o a s e))
+
+pub run_sum : (sources : Sources) (o : Choices) (a b : ℕ) (s : State) → run sources o (a + b) s ≡ run sources o b (run sources o a s)
+run_sum sources o zero b s = let none : zero + b ≡ b = omega arith in ap (λ n. run sources o n s) none
+run_sum sources o (suc a) b s =
+    let next : suc a + b ≡ suc (a + b) = omega arith in
+    ap (λ n. run sources o n s) next ∙ sum_by sources o a b s (has_ended s) refl (run_sum sources o a b (turn sources o s))
+
+-- Parts
+
+same_both : (b : Bool) (s : State) → cond b s s ≡ s
+same_both true s = refl
+same_both false s = refl
+
+-- where no part has ended reading has not
+or_not : (a b : Bool) → (a || b) ≡ false → a ≡ false
+or_not true b e = cc
+or_not false b e = refl
+
+pub still_going : (s : State) → is_parted s ≡ false → has_ended s ≡ false
+still_going s e = or_not (has_ended s) _ e
+
+-- a part of one turn
+pub part_one : (sources : Sources) (o : Choices) (s : State) → has_ended s ≡ false → part sources o (suc zero) s ≡ turn sources o s
+part_one sources o s going =
+    ap (λ b. cond b s (cond (is_parted (turn sources o s)) (turn sources o s) (turn sources o s))) going ∙ same_both (is_parted (turn sources o s)) (turn sources o s)
+
+part_stops : (sources : Sources) (o : Choices) (n : ℕ) (s : State) → has_ended s ≡ false → is_parted (turn sources o s) ≡ true → part sources o (suc n) s ≡ turn sources o s
+part_stops sources o n s going e =
+    ap (λ b. cond b s (cond (is_parted (turn sources o s)) (turn sources o s) (part sources o n (turn sources o s)))) going
+    ∙ ap (λ b. cond b (turn sources o s) (part sources o n (turn sources o s))) e
+
+part_goes : (sources : Sources) (o : Choices) (n : ℕ) (s : State) → has_ended s ≡ false → is_parted (turn sources o s) ≡ false
+    → part sources o (suc n) s ≡ part sources o n (turn sources o s)
+part_goes sources o n s going e =
+    ap (λ b. cond b s (cond (is_parted (turn sources o s)) (turn sources o s) (part sources o n (turn sources o s)))) going
+    ∙ ap (λ b. cond b (turn sources o s) (part sources o n (turn sources o s))) e
+
+-- one turn more
+longer_by : (sources : Sources) (o : Choices) (n : ℕ) (s : State) (b : Bool) → has_ended s ≡ false → is_parted (turn sources o s) ≡ b
+    → (has_ended (turn sources o s) ≡ false → is_parted (part sources o (suc n) (turn sources o s)) ≡ false
+    → part sources o (suc (suc n)) (turn sources o s) ≡ turn sources o (part sources o (suc n) (turn sources o s)))
+    → is_parted (part sources o (suc (suc n)) s) ≡ false → part sources o (suc (suc (suc n))) s ≡ turn sources o (part sources o (suc (suc n)) s)
+longer_by sources o n s true going e later open_still =
+    let never : true ≡ false = sym (ap is_parted (part_stops sources o (suc n) s going e) ∙ e) ∙ open_still in cc
+longer_by sources o n s false going e later open_still =
+    let on = part_goes sources o (suc n) s going e in
+    part_goes sources o (suc (suc n)) s going e ∙ later (still_going (turn sources o s) e) (ap is_parted (sym on) ∙ open_still) ∙ ap (turn sources o) (sym on)
+
+pub part_more : (sources : Sources) (o : Choices) (n : ℕ) (s : State) → has_ended s ≡ false → is_parted (part sources o (suc n) s) ≡ false
+    → part sources o (suc (suc n)) s ≡ turn sources o (part sources o (suc n) s)
+part_more sources o zero s going open_still =
+    let one = part_one sources o s going in
+    let still : is_parted (turn sources o s) ≡ false = ap is_parted (sym one) ∙ open_still in
+    part_goes sources o (suc zero) s going still ∙ part_one sources o (turn sources o s) (still_going (turn sources o s) still) ∙ ap (turn sources o) (sym one)
+part_more sources o (suc n) s going open_still =
+    longer_by sources o n s (is_parted (turn sources o s)) going refl (λ x y. part_more sources o n (turn sources o s) x y) open_still
+
+-- no turns write nothing
+pub part_none : (sources : Sources) (o : Choices) (s : List ℕ → State) (old : Option (List ℕ)) → Writes (part sources o zero) s s old old
+part_none sources o s old = record { lines = []; takes = takes_none old; same = λ told. ap s (append-nil told) }
+
+-- a part begins with a turn, and goes on with another
+pub part_first : (sources : Sources) (o : Choices) (was now : List ℕ → State) (old new : Option (List ℕ)) → ((told : List ℕ) → has_ended (was told) ≡ false)
+    → Writes (turn sources o) was now old new → Writes (part sources o (suc zero)) was now old new
+part_first sources o was now old new going w = record {
+  lines = w.lines;
+  takes = w.takes;
+  same = λ told. w.same told ∙ sym (part_one sources o (was told) (going told));
+}
+
+pub part_then : (sources : Sources) (o : Choices) (n : ℕ) (was mid now : List ℕ → State) (old between new : Option (List ℕ)) → ((told : List ℕ) → has_ended (was told) ≡ false)
+    → ((told : List ℕ) → is_parted (mid told) ≡ false)
+    → Writes (part sources o (suc n)) was mid old between → Writes (turn sources o) mid now between new → Writes (part sources o (suc (suc n))) was now old new
+part_then sources o n was mid now old between new going open_still a b = record {
+  lines = a.lines ++ b.lines;
+  takes = takes_then old between new a.lines b.lines a.takes b.takes;
+  same = λ told.
+      ap now (sym (append_assoc told a.lines b.lines)) ∙ b.same (told ++ a.lines) ∙ ap (turn sources o) (a.same told)
+      ∙ sym (part_more sources o n (was told) (going told) (ap is_parted (sym (a.same told)) ∙ open_still (told ++ a.lines)));
+}
+
+-- Where reading was given up for a file
+
+-- all was written that some turns write
+pub wrote_all : (f : State → State) (was mid : List ℕ → State) (old between new : Option (List ℕ)) → ((told : List ℕ) → (mid told).told ≡ told)
+    → Writes f was mid old between → new ≡ between → WroteAll f was old new
+wrote_all f was mid old between new told_is a e = record {
+  lines = a.lines;
+  takes = subst (λ n. Takes old n a.lines) (sym e) a.takes;
+  same = λ told. ap (λ (s : State). s.told) (sym (a.same told)) ∙ told_is (told ++ a.lines);
+}
+
+-- behind others
+pub wrote_on : (sources : Sources) (o : Choices) (a b : ℕ) (was mid : List ℕ → State) (old between new : Option (List ℕ))
+    → Writes (run sources o a) was mid old between → WroteAll (run sources o b) mid between new → WroteAll (run sources o (a + b)) was old new
+wrote_on sources o a b was mid old between new w all = record {
+  lines = w.lines ++ all.lines;
+  takes = takes_then old between new w.lines all.lines w.takes all.takes;
+  same = λ told.
+      ap (λ (s : State). s.told) (run_sum sources o a b (was told)) ∙ ap (λ (s : State). (run sources o b s).told) (sym (w.same told))
+      ∙ all.same (told ++ w.lines) ∙ append_assoc told w.lines all.lines;
 }

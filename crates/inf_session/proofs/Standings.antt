@@ -1,5 +1,5 @@
 -- What the session stands for behind a file that was left or entered, a refused inclusion, and a turn.
-use Rattle.std.proofs.Common.{◌≡◌, ◌⊎◌, inl, inr, ℕ, ◌+◌, ◌≤◌, List, [], ◌∷◌, ◌++◌, length, drop, reverse, get_or, Bool, true, false, not, ◌||◌, Option, refl, sym, ap, subst, ◌∙◌, arith, append_assoc, leb-true}
+use Rattle.std.proofs.Common.{◌≡◌, ◌⊎◌, inl, inr, ℕ, ◌+◌, ◌≤◌, List, [], ◌∷◌, ◌++◌, length, drop, reverse, get_or, Bool, true, false, not, ◌||◌, Option, refl, sym, ap, subst, ◌∙◌, arith, append_assoc, leb-true, Result, Ok, Err, IfErr}
 use Rattle.std.specs.Prelude.{nat_le}
 use Rattle.std.specs.Str.{bytes_eq}
 use Rattle.std.proofs.lemmas.List.Sums.{prefix_len-le-length}
@@ -15,6 +15,7 @@ use Rattle.inf_symbol.specs.Sinks.{Takes}
 use Rattle.inf_conditionals.specs.Ends.{file_left, file_told}
 use Rattle.inf_conditionals.specs.Open.{Conditions}
 use Rattle.inf_unit.specs.Messages.{Reported, flushed}
+use Rattle.inf_work.specs.Actions.{Work, left as left_file}
 use Rattle.inf_reader.specs.declared.mode.Mode.TheVariants as mode
 use Rattle.inf_session.specs.Choices.{Choices}
 use Rattle.inf_session.specs.Faults.{IfRead}
@@ -58,10 +59,11 @@ none_waits s start now f e =
     ap (λ (rs : List Reader). cursors_at s now.all (drop 1 (reverse now.open_places)) (reverse rs)) e ∙ none_at s now (drop 1 (reverse now.open_places))
 
 -- a file was left, and reading goes on in the one that waits
-abbrev going_on : Nesting → State → State
-going_on n s = record s { nesting = n; reading = record s.reading { mode = mode.Reads } }
+abbrev going_on : Nesting → Work → State → State
+going_on n w s = record s { nesting = n; reading = record s.reading { mode = mode.Reads }; work = w }
 
-resumes : (waiting : List Cursor) (first : Cursor) (others : List Cursor) (s : State) → waiting ≡ first ∷ others → going_on (resumed waiting s.nesting) s ≡ left_by waiting s
+resumes : (waiting : List Cursor) (first : Cursor) (others : List Cursor) (s : State) → waiting ≡ first ∷ others
+    → going_on (resumed waiting s.nesting) (left_file s.work) s ≡ left_by waiting s
 resumes [] first others s e = cc
 resumes (c ∷ waiting) first others s e = refl
 
@@ -72,11 +74,12 @@ closed_as c r s = record s { conditions = c; work = record s.work { report = r }
 closed_is : (s : State) (c : Conditions) (r : Reported) → c ≡ file_left s.conditions → r ≡ file_told s.nesting.names s.conditions s.work.report → closed_as c r s ≡ file_closed s
 closed_is s c r left told = ap (λ (x : Conditions). closed_as x r s) left ∙ ap (λ (x : Reported). closed_as (file_left s.conditions) x s) told
 
-pub left_is : (s : State) (n : Nesting) (c : Conditions) (r : Reported) → c ≡ file_left s.conditions → r ≡ file_told s.nesting.names s.conditions s.work.report
-    → n ≡ closed s.nesting → Waiting s.nesting.waiting → going_on n (closed_as c r s) ≡ left s
-left_is s n c r left told e w =
-    ap (λ (x : State). going_on n x) (closed_is s c r left told)
-    ∙ ap (λ (m : Nesting). going_on m (file_closed s)) e ∙ resumes s.nesting.waiting w.first w.others (file_closed s) w.is
+pub left_is : (s : State) (n : Nesting) (c : Conditions) (r : Reported) (w : Work) → c ≡ file_left s.conditions → r ≡ file_told s.nesting.names s.conditions s.work.report
+    → w ≡ left_file (record s.work { report = r }) → n ≡ closed s.nesting → Waiting s.nesting.waiting → going_on n w (closed_as c r s) ≡ left s
+left_is s n c r w left told marked e one =
+    ap (λ (x : Work). going_on n x (closed_as c r s)) marked
+    ∙ ap (λ (x : State). going_on n (left_file x.work) x) (closed_is s c r left told)
+    ∙ ap (λ (m : Nesting). going_on m (left_file (file_closed s).work) (file_closed s)) e ∙ resumes s.nesting.waiting one.first one.others (file_closed s) one.is
 
 -- nothing was left
 pub stays : (s : State) (n : Nesting) (c : Conditions) (r : Reported) → c ≡ file_left s.conditions → r ≡ file_told s.nesting.names s.conditions s.work.report
@@ -128,6 +131,16 @@ read_always fault.Memory P h = tt
 read_always (fault.Read name) P h = h _
 read_always fault.Messages P h = tt
 read_always (fault.Story n) P h = tt
+
+pub read_more : (f : Fault) (P Q : List ℕ → Type 0) → ((name : List ℕ) → P name → Q name) → IfRead f P → IfRead f Q
+read_more fault.Memory P Q h p = tt
+read_more (fault.Read name) P Q h p = h _ p
+read_more fault.Messages P Q h p = tt
+read_more (fault.Story n) P Q h p = tt
+
+pub if_read_more : {T : Type 0} (r : Result T Fault) (A B : Type 0) → (A → B) → IfErr r (λ f. IfRead f (λ name. A)) → IfErr r (λ f. IfRead f (λ name. B))
+if_read_more (Ok x) A B h p = tt
+if_read_more (Err f) A B h p = read_more f (λ name. A) (λ name. B) (λ name a. h a) p
 
 -- A turn, with what it tells
 

@@ -1,5 +1,5 @@
 -- Each turn ends reading, or lessens how far it can still go.
-use Rattle.std.proofs.Common.{◌≡◌, ◌⊎◌, inl, inr, ℕ, suc, zero, ◌+◌, ◌-◌, ◌*◌, ◌<◌, ◌≤◌, List, [], ◌∷◌, ◌++◌, length, Bool, true, false, sym, ap, subst, ◌∙◌, arith, refl, length-append}
+use Rattle.std.proofs.Common.{◌≡◌, ◌⊎◌, inl, inr, ℕ, suc, zero, ◌+◌, ◌-◌, ◌*◌, ◌<◌, ◌≤◌, List, [], ◌∷◌, ◌++◌, length, cond, Bool, true, false, sym, ap, subst, ◌∙◌, arith, refl, length-append}
 use Rattle.inf_lexer.specs.Readers.{Reader}
 use Rattle.inf_sources.specs.Open.{Open}
 use Rattle.inf_session.specs.Weights.{Enters, GoesOn, Leaves, Stays, room, scale, weigh_from, weight}
@@ -95,3 +95,16 @@ falls before mid after is_at_end outer (inr less) (Enters going none empty is de
 pub room_less : (before after : Reader) → before.window.given + length after.window.left < after.window.given + length before.window.left
     → after.window.given ≤ 16777216 → room after < room before
 room_less before after less few = omega (arith, less, few)
+
+-- a turn that does not end reading weighs less than what weighed less before
+pub falls_then : (over ended : Bool) (first mid last : ℕ) → (over ≡ true) ⊎ (mid < first) → over ≡ false → (ended ≡ true) ⊎ (last < mid) → (ended ≡ true) ⊎ (last < first)
+falls_then over ended first mid last (inl is) going after = let never : true ≡ false = sym is ∙ going in cc
+falls_then over ended first mid last (inr less) going (inl is) = inl is
+falls_then over ended first mid last (inr less) going (inr more) = inr (omega (arith, less, more))
+
+-- how far a loop can still go, by whether reading has ended
+pub ends_or_falls : (last over : Bool) (m n : ℕ) → over ≡ false → (last ≡ true) ⊎ (n < m) → cond last 0 (suc n) < cond over 0 (suc m)
+ends_or_falls last true m n going after = cc
+ends_or_falls true false m n going after = omega arith
+ends_or_falls false false m n going (inl is) = cc
+ends_or_falls false false m n going (inr less) = omega (arith, less)

@@ -7,7 +7,7 @@ use Rattle.inf_session.specs.Leading.{IsFront}
 use Rattle.inf_sources.specs.Cursors.{Cursor}
 use Rattle.inf_sources.specs.Open.{IsGiven, IsNested, Open, nesting}
 use Rattle.inf_session.specs.Outcome.{Ending, IsOutcome, ending_of}
-use Rattle.inf_session.specs.Session.{IsRead, State, start}
+use Rattle.inf_session.specs.Session.{IsRead, State, run, start}
 use Rattle.inf_session.specs.declared.translation.Compiled.{Compiled}
 
 -- All messages were written, and story and status are those of the ending.
@@ -52,6 +52,11 @@ pub record Comes (sources : Sources) (o : Choices) (serial name : List ℕ) (old
   pub is_outcome : IsOutcome sources o serial name ending
   pub delivers : Delivers ending c before after
   pub opened : OpenedBy (sources name) sources o name old new
+
+-- What was written is all that comes with the tokens that were read from here on: of so many turns.
+pub record Heard (sources : Sources) (o : Choices) (s : State) (before after : Option (List ℕ)) : Type 0 where
+  pub turns : ℕ
+  pub takes : Takes before after (run sources o turns s).told
 
 -- What was written is a front of the messages of the outcome.
 pub record Begins (sources : Sources) (o : Choices) (serial name : List ℕ) (before after : Option (List ℕ)) : Type 0 where

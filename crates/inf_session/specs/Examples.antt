@@ -1,5 +1,5 @@
 -- Worked examples: what comes of the main source `t.inf` among some sources.
-use Rattle.std.specs.Prelude.{◌≡◌, ℕ, List, [], ◌++◌, length, codes, if◌then◌else◌, zero, suc, Some, None}
+use Rattle.std.specs.Prelude.{◌≡◌, ℕ, List, [], ◌++◌, length, codes, if◌then◌else◌, true, zero, suc, Some, None}
 use Rattle.std.specs.Str.{bytes_eq}
 use Rattle.inf_characters.specs.declared.characters.CharSet.TheVariants as set
 use Rattle.inf_layout.specs.StoryLaws.{HasWordAt}
@@ -24,7 +24,7 @@ only source = with_source name source no_sources
 
 -- where no word chooses anything
 abbrev pub plain : Choices
-plain = record { set = set.Latin1; settings = defaults; directories = [] }
+plain = record { set = set.Latin1; has_warnings = true; settings = defaults; directories = [] }
 
 -- sources with errors: these messages, no story
 abbrev pub Refuses : Sources → List ℕ → Type 0

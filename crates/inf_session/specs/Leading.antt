@@ -19,3 +19,9 @@ pub record CutsShort (step : State → State) (was : List ℕ → State) (old ne
   pub front : List ℕ
   pub takes : Takes old new front
   pub begins : (told : List ℕ) → IsFront (told ++ front) (step (was told)).told
+
+-- What was written is all that some reading writes, whatever was written before.
+pub record WroteAll (step : State → State) (was : List ℕ → State) (old new : Option (List ℕ)) : Type 0 where
+  pub lines : List ℕ
+  pub takes : Takes old new lines
+  pub same : (told : List ℕ) → (step (was told)).told ≡ told ++ lines

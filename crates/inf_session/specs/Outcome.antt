@@ -2,7 +2,7 @@
 use Rattle.std.specs.Prelude.{◌≡◌, ℕ, List, ◌++◌, Bool, not, ◌&&◌, ◌==◌, if◌then◌else◌, Option, Some, None}
 use Rattle.inf_report.specs.Messages.{Location, NoMain, NoSource, StoryTooLong}
 use Rattle.inf_layout.specs.Story.{most_bytes, story, is_too_long}
-use Rattle.inf_unit.specs.Actions.{Work}
+use Rattle.inf_work.specs.Actions.{Work}
 use Rattle.inf_unit.specs.Messages.{FileNames, Reported, location, nothing_reported, with_closing, with_error, with_fatal}
 use Rattle.inf_unit.specs.Names.{main_of, values, with_all_undeclared}
 use Rattle.inf_token.specs.Files.{Sources}

@@ -2,20 +2,26 @@
 -- the grammar sees. A directive may ask for another file, which is read before what follows it, or that reading ends. Where the
 -- end of an included file was read, reading goes on in the file that includes it.
 -- Designer's Manual, fourth edition, sections 38 and 39.
-use Rattle.std.specs.Prelude.{◌≡◌, ℕ, List, [], ◌∷◌, ◌++◌, Bool, true, false, ◌&&◌, ◌||◌, if◌then◌else◌, zero, suc}
+use Rattle.std.specs.Prelude.{◌≡◌, ℕ, List, [], ◌∷◌, ◌++◌, length, nat_lt, is_none, Bool, true, false, ◌&&◌, ◌||◌, if◌then◌else◌, zero, suc}
+use Rattle.inf_layout.specs.Code.{awaited, size}
+use Rattle.inf_scanner.specs.declared.tokens.BadToken.TheVariants as bad
 use Rattle.inf_scanner.specs.declared.tokens.Place.{Place}
+use Rattle.inf_scanner.specs.declared.tokens.TokenKind.{TokenKind}
+use Rattle.inf_scanner.specs.declared.tokens.TokenKind.TheVariants as kind
 use Rattle.inf_token.specs.Files.{Sources}
 use Rattle.inf_conditionals.specs.Ends.{file_entered, file_left, file_told, piece_ended, piece_told}
 use Rattle.inf_conditionals.specs.Judging.{is_none_pending, judged}
 use Rattle.inf_conditionals.specs.Open.{Conditions, no_conditions}
+use Rattle.inf_conditionals.specs.declared.judged.Judged.{Judged}
+use Rattle.inf_conditionals.specs.declared.judged.Site.{Site}
 use Rattle.inf_report.specs.Messages.{Message, NoInclude, TooManyFiles}
 use Rattle.inf_sources.specs.Cursors.{Cursor, behind, read}
 use Rattle.inf_sources.specs.Inclusions.{Inclusion, Nesting, Opens, OpensNone, inclusion, main_opened, resumed, with_opened}
 use Rattle.inf_sources.specs.declared.open_files.Included.{Included}
 use Rattle.inf_sources.specs.declared.open_files.Included.TheVariants as answer
-use Rattle.inf_unit.specs.Actions.{Work}
-use Rattle.inf_unit.specs.Directives.{Asked, Nothing, Include, End, SystemFile}
-use Rattle.inf_unit.specs.Messages.{flushed, location, with_fatal}
+use Rattle.inf_work.specs.Actions.{Work, entered, left as left_file}
+use Rattle.inf_unit.specs.Directives.{Asked, Nothing, Include, End}
+use Rattle.inf_unit.specs.Messages.{flushed, location, none_reported, with_fatal}
 use Rattle.inf_unit.specs.Tokens.{Spelled}
 use Rattle.inf_reader.specs.Handing.{judged_taken, site_of}
 use Rattle.inf_reader.specs.Reading.{Reading, Stand, begun_stand, has_ended_at, is_mode_ended}
@@ -23,7 +29,8 @@ use Rattle.inf_reader.specs.declared.mode.Mode.TheVariants as mode
 use Rattle.inf_session.specs.Choices.{Choices, most_quoted}
 
 -- The files that are open with what is still to come of each; the conditionals; how the next token is read; what was compiled,
--- with the messages that are not written yet; the messages that are; and whether a directive has ended all reading.
+-- with the messages that are not written yet; the messages that are; whether a directive has ended all reading; and how many bytes
+-- the longest quoted token has.
 pub record State : Type 0 where
   pub nesting : Nesting
   pub conditions : Conditions
@@ -31,16 +38,24 @@ pub record State : Type 0 where
   pub work : Work
   pub told : List ℕ
   pub is_over : Bool
+  pub quoted : ℕ
+
+-- before the first token
+abbrev pub begun_with : Choices → Stand
+begun_with o =
+    let s = begun_stand o.set o.settings in
+    record s { work = record s.work { report = none_reported o.has_warnings } }
 
 -- before the first token of the main source of this name
 abbrev pub start : Sources → Choices → List ℕ → State
 start sources o name = record {
   nesting = main_opened o.set (most_quoted o) sources name;
   conditions = no_conditions;
-  reading = (begun_stand o.set o.settings).reading;
-  work = (begun_stand o.set o.settings).work;
+  reading = (begun_with o).reading;
+  work = (begun_with o).work;
   told = [];
   is_over = false;
+  quoted = 0;
 }
 
 -- how it is read and what was compiled
@@ -55,6 +70,27 @@ has_ended s = s.is_over || has_ended_at (stand_of s)
 abbrev pub token_of : Cursor → Spelled
 token_of c = let r = read c in record { kind = r.kind; bytes = r.kept.bytes; place = record { file = c.file; line = r.line } }
 
+-- how many bytes stand between the quotes of a token that has such: of one that is too long as many as it may have
+abbrev pub quoted_of_kind : TokenKind → List ℕ → ℕ
+quoted_of_kind kind.Text bytes = length bytes
+quoted_of_kind (kind.Char c) bytes = length bytes
+quoted_of_kind (kind.Word w) bytes = length bytes
+quoted_of_kind (kind.Bad bad.Unclosed) bytes = length bytes
+quoted_of_kind (kind.Bad bad.EmptyQuote) bytes = length bytes
+quoted_of_kind (kind.Bad bad.UnknownEscape) bytes = length bytes
+quoted_of_kind (kind.Bad bad.NoZscii) bytes = length bytes
+quoted_of_kind (kind.Bad bad.BadCode) bytes = length bytes
+quoted_of_kind (kind.Bad bad.TooLong) bytes = length bytes
+quoted_of_kind _ bytes = 0
+
+abbrev pub quoted_bytes : Spelled → ℕ
+quoted_bytes t = quoted_of_kind t.kind t.bytes
+
+-- those of the longest one behind a token: one that is not handed on, or passed over behind a bad one, is not among them
+abbrev pub quoted_behind : Site → Judged → Spelled → ℕ → ℕ
+quoted_behind site j t quoted =
+    if site.is_quiet || is_none j.token then quoted else if nat_lt quoted (quoted_bytes t) then quoted_bytes t else quoted
+
 -- the conditionals say what becomes of it, and the reader takes what is handed on
 abbrev pub stepped : State → State
 stepped s =
@@ -68,6 +104,7 @@ stepped s =
       work = n.work;
       told = s.told;
       is_over = s.is_over;
+      quoted = quoted_behind (site_of s.reading) b.judged t s.quoted;
     }
 
 -- At the end of a file the conditionals are told that are open in it.
@@ -77,7 +114,7 @@ file_closed s = record s { conditions = file_left s.conditions; work = record s.
 -- An included file is closed then, and reading goes on in the one that includes it.
 abbrev pub left_by : List Cursor → State → State
 left_by [] s = s
-left_by (c ∷ waiting) s = record s { nesting = resumed (c ∷ waiting) s.nesting; reading = record s.reading { mode = mode.Reads } }
+left_by (c ∷ waiting) s = record s { nesting = resumed (c ∷ waiting) s.nesting; reading = record s.reading { mode = mode.Reads }; work = left_file s.work }
 
 abbrev pub left : State → State
 left s = left_by s.nesting.waiting (file_closed s)
@@ -92,9 +129,13 @@ none_included unit text answer.Entered s = s
 none_included unit text answer.NotThere s = refused_with unit (NoInclude text) s
 none_included unit text answer.TooDeep s = refused_with unit TooManyFiles s
 
+-- in a file that was entered no conditional is open, and no routine may be replaced yet
+abbrev pub file_begun : State → State
+file_begun s = record s { conditions = file_entered s.conditions; work = entered s.work }
+
 -- the file that an inclusion opens is the innermost
 abbrev pub included_by : Sources → Choices → Place → List ℕ → Inclusion → State → State
-included_by sources o unit text (Opens name) s = record s { nesting = with_opened o.set (most_quoted o) sources name s.nesting; conditions = file_entered s.conditions }
+included_by sources o unit text (Opens name) s = file_begun (record s { nesting = with_opened o.set (most_quoted o) sources name s.nesting })
 included_by sources o unit text (OpensNone why) s = none_included unit text why s
 
 -- the file that the text of an inclusion names is entered, for a unit at a place
@@ -109,7 +150,6 @@ asked_nothing s = record s { work = record s.work { asked = Nothing } }
 abbrev pub answered : Asked → Sources → Choices → State → State
 answered (Include text unit) sources o s = included sources o unit text s
 answered End sources o s = record s { is_over = true }
-answered SystemFile sources o s = s
 answered Nothing sources o s = s
 
 -- behind a fatal message nothing is done, and at the end of a file nothing is asked
@@ -143,6 +183,24 @@ told_out s = record s { work = record s.work { report = flushed s.work.report };
 -- one turn takes a token, does what it asks, and writes what there is to tell
 abbrev pub turn : Sources → Choices → State → State
 turn sources o s = told_out (followed sources o (stepped s))
+
+-- A part ends between two directives, with no side left out behind the one before.
+abbrev pub is_parted : State → Bool
+is_parted s = has_ended s || (is_resting s && is_none s.conditions.left_out)
+
+-- at most n turns, up to the end of a part
+abbrev pub part : Sources → Choices → ℕ → State → State
+part sources o zero s = s
+part sources o (suc n) s =
+    if has_ended s then s else
+    if is_parted (turn sources o s) then turn sources o s else part sources o n (turn sources o s)
+
+-- How much there is so far of what each setting bounds, in the order of the settings: the longest quoted token, the names, the
+-- code, the references, and nothing yet of the others.
+abbrev pub held : State → List ℕ
+held s =
+    s.quoted ∷ 0 ∷ length s.work.names.names ∷ 0 ∷ 0 ∷ 0 ∷ 0 ∷ 0 ∷ 0 ∷ 0 ∷ 0 ∷ 0
+    ∷ size s.work.output.code.finished ∷ 0 ∷ awaited s.work.output.code.finished ∷ []
 
 -- at most n turns
 abbrev pub run : Sources → Choices → ℕ → State → State

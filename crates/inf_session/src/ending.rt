@@ -2,7 +2,7 @@
 ghost use Rattle.std.specs.Prelude.{◌≡◌, IfOk, IfSome, is_none};
 ghost use Rattle.inf_layout.specs.Story.{story, is_too_long};
 ghost use Rattle.inf_unit.specs.Names.{values};
-ghost use Rattle.inf_unit.specs.Works.{work as work_of};
+ghost use Rattle.inf_work.specs.Works.{work as work_of};
 ghost use Rattle.inf_session.specs.Outcome.{finished, laid, missing, refused};
 ghost use Rattle.inf_session.specs.Endings.{seen};
 
@@ -14,7 +14,7 @@ use inf_names::symbols::Symbols;
 use inf_report::messages::{Location, Message};
 use inf_unit::messages::{Messages, location};
 use inf_unit::names::{main_of, numbers_of, tell_undeclared};
-use inf_unit::work::Work;
+use inf_work::work::Work;
 use std::alloc::{AllocError, Global};
 
 /// What comes at the end of a compilation: the lines of its last messages, its story where no error was found, and how
@@ -112,7 +112,7 @@ fn refused(mut report: Messages) -> Result<Ending, AllocError>
 pub(crate) fn no_file(alloc: Global, file: &[u8]) -> Result<Ending, AllocError>
     ensures { IfOk result (λ t. seen t ≡ missing file.now) }
 {
-    let mut report = Messages::new(alloc);
+    let mut report = Messages::new(alloc, true);
     let at = Location {
         file,
         line: FIRST_LINE.line,

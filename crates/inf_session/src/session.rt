@@ -1,31 +1,38 @@
 //! The reading of a main source and of the files that it includes.
-ghost use Rattle.std.specs.Prelude.{◌≡◌, ℕ, ◌+◌, ◌<◌, ◌≤◌, ◌⊎◌, List, OnOk, OnErr, IfErr, IsTrue, false, true, length};
+ghost use Rattle.std.specs.Prelude.{◌≡◌, ℕ, ◌+◌, ◌<◌, ◌≤◌, ◌⊎◌, List, OnOk, OnErr, IfErr, IfOk, IsTrue, None, false, true, length};
 ghost use Rattle.inf_token.specs.Files.{Openings, Rose, Sources};
-ghost use Rattle.inf_reader.specs.Reading.{has_ended_at, is_mode_ended, begun_stand};
+ghost use Rattle.inf_reader.specs.Reading.{has_ended_at, is_mode_ended};
 ghost use Rattle.inf_reader.specs.Standing.{standing};
 ghost use Rattle.inf_sources.specs.Open.{AllGiven, IsNested, NamesAreOpened};
 ghost use Rattle.inf_session.specs.Choices.{chosen};
 ghost use Rattle.inf_session.specs.Faults.{IfMessages, IfRead, IfStory, IsOfReading};
+ghost use Rattle.inf_session.specs.Comes.{Delivers, TakesFront};
 ghost use Rattle.inf_session.specs.Given.{GivesAtLeast, IsUnreadable};
-ghost use Rattle.inf_session.specs.Leading.{CutsShort, Writes};
+ghost use Rattle.inf_session.specs.Outcome.{finished};
+ghost use Rattle.inf_work.specs.Works.{work as work_of};
+ghost use Rattle.inf_session.specs.Leading.{CutsShort, Writes, WroteAll};
 ghost use Rattle.inf_conditionals.specs.Open.{no_conditions};
-ghost use Rattle.inf_session.specs.Session.{followed, heeded, included, left, rested, run, stepped, turn};
-ghost use Rattle.inf_session.specs.Standing.{IsSet, ended, state};
+ghost use Rattle.inf_session.specs.Session.{begun_with, followed, heeded, included, left, part, quoted_behind, quoted_bytes, rested, run, stepped, turn};
+ghost use Rattle.inf_session.specs.Standing.{IsSet, came_to, ended, held_by, parted, resting, state};
+ghost use Rattle.inf_unit.specs.Tokens.{spelled};
 ghost use Rattle.inf_session.specs.Weights.{GoesOn, room, weight};
 
 use crate::faults::{Fault, unread};
 use crate::setup::Setup;
+use crate::translation::{Compiled, Status, conclude};
 use inf_conditionals::conditionals::Conditionals;
+use inf_conditionals::judged::{Judged, Site};
 use inf_lexer::{LexFault, Place};
 use inf_reader::mode::Mode;
 use inf_reader::progress::Progress;
 use inf_report::messages::Message;
+use inf_scanner::{BadToken, TokenKind};
 use inf_sources::IncludeFault;
 use inf_sources::open_files::{Included, OpenFiles};
 use inf_symbol::sinks::Sink;
 use inf_token::files::Files;
 use inf_unit::directives::Asked;
-use inf_unit::messages::location;
+use inf_unit::messages::{Messages, location};
 use inf_unit::tokens::Spelled;
 use std::alloc::{AllocError, Global};
 
@@ -39,24 +46,41 @@ pub struct Session<'a> {
     pub progress: Progress,
     /// Whether a directive has ended all reading.
     is_over: bool,
+    /// The bytes between the quotes of the longest quoted token so far.
+    quoted: usize,
+}
+
+/// What a step of the reading came to.
+#[derive(Clone, Copy, Debug, PartialEq, Eq)]
+pub enum Step {
+    /// More is to be read.
+    More,
+    /// All was read, up to the end of the main source or a directive that ends all.
+    End,
+    /// A fatal message came.
+    Fatal,
 }
 
 impl<'a> Session<'a> {
     /// At the front of the main source, of which nothing was read yet.
     pub fn new(alloc: Global, setup: Setup<'a>, open_files: OpenFiles) -> Session<'a>
         ensures files { result.open_files ≡ open_files }
-        ensures standing { standing result.progress ≡ begun_stand setup.entry.set setup.entry.settings.now }
+        ensures standing { standing result.progress ≡ begun_with (chosen setup.entry) }
         ensures going { result.is_over ≡ false }
         ensures conditionals { result.conditionals ≡ no_conditions }
+        ensures quoted { result.quoted ≡ 0 }
         ensures setup { result.setup ≡ setup.entry }
     {
+        let mut progress = Progress::new(alloc, setup.set, setup.settings);
+        progress.work.report = Messages::new(alloc, setup.has_warnings);
         Session {
             alloc,
             setup,
             open_files,
             conditionals: Conditionals::new(alloc),
-            progress: Progress::new(alloc, setup.set, setup.settings),
+            progress,
             is_over: false,
+            quoted: 0,
         }
     }
 
@@ -89,6 +113,9 @@ impl<'a> Session<'a> {
         ensures ended { OnOk result (ended self.new ≡ true) }
         ensures is_open { length self.new.open_files.outer < F.depth files.new }
         ensures cause { IfErr result (λ fault. IfRead fault (λ name. IsUnreadable (F.faults files.old) (F.faults files.new) self.new.open_files)) }
+        ensures unread { IsTrue (F.is_honest files.old) → (start : Openings) → IsNested start (F.openings files.old) self.old.open_files →
+            IfErr result (λ fault. IfRead fault (λ name. (turns : ℕ) × WroteAll (run (F.sources files.old) (chosen self.old.setup) turns)
+            (state (F.sources files.old) start (F.openings files.old) self.old) (M.taken messages.old) (M.taken messages.new))) }
         ensures told { IfErr result (λ fault. IfMessages fault (Rose (M.failures messages.old) (M.failures messages.new))) }
         ensures unless { IfErr result (λ fault. IfStory fault (λ n. ⊥)) }
         ensures given_all { IsTrue (F.is_honest files.old) → (start : Openings) → IsNested start (F.openings files.old) self.old.open_files →
@@ -105,9 +132,143 @@ impl<'a> Session<'a> {
         ensures honesty { F.is_honest files.new ≡ F.is_honest files.old }
     {
         while !self.has_ended() {
-            self.turn(files, messages)?;
+            self.step(files, messages)?;
         }
         Ok(())
+    }
+
+    /// Reads one part: a directive, with the side that it leaves out and the directive that ends this side; what of a bad one is
+    /// passed over; or the end of a file. Each message is written as soon as it is found. Behind the end, or a fatal message,
+    /// nothing is read.
+    ///
+    /// The faults are those of `translate`, but for that of the story.
+    pub fn step<F: Files, M: Sink>(
+        &mut self,
+        files: &mut F,
+        messages: &mut M,
+    ) -> Result<Step, Fault>
+        requires is_open { length self.old.open_files.outer < F.depth files.old }
+        requires goes { self.old.open_files.lexer.has_failed ≡ false }
+        requires set { IsSet self.old }
+
+        // With an honest reader.
+        ensures part { IsTrue (F.is_honest files.old) → (start : Openings) → IsNested start (F.openings files.old) self.old.open_files →
+            OnOk result ((turns : ℕ) × (Writes (part (F.sources files.old) (chosen self.old.setup) turns)
+            (state (F.sources files.old) start (F.openings files.old) self.old) (state (F.sources files.old) start (F.openings files.new) self.new)
+            (M.taken messages.old) (M.taken messages.new)
+            × Writes (run (F.sources files.old) (chosen self.old.setup) turns)
+            (state (F.sources files.old) start (F.openings files.old) self.old) (state (F.sources files.old) start (F.openings files.new) self.new)
+            (M.taken messages.old) (M.taken messages.new))) }
+        ensures cut { IsTrue (F.is_honest files.old) → (start : Openings) → IsNested start (F.openings files.old) self.old.open_files →
+            OnErr result ((turns : ℕ) × CutsShort (run (F.sources files.old) (chosen self.old.setup) turns)
+            (state (F.sources files.old) start (F.openings files.old) self.old) (M.taken messages.old) (M.taken messages.new)) }
+        ensures nested { IsTrue (F.is_honest files.old) → (start : Openings) → IsNested start (F.openings files.old) self.old.open_files →
+            OnOk result (IsNested start (F.openings files.new) self.new.open_files) }
+
+        // With any reader.
+        ensures parted { OnOk result (parted self.new ≡ true) }
+        ensures came { IfOk result (λ step. step ≡ came_to self.new) }
+        ensures falls { OnOk result ((ended self.new ≡ true) ⊎ (weight self.new.open_files < weight self.old.open_files)) }
+        ensures goes { OnOk result (self.new.open_files.lexer.has_failed ≡ false) }
+        ensures set { IsSet self.new }
+        ensures is_open { length self.new.open_files.outer < F.depth files.new }
+        ensures cause { IfErr result (λ fault. IfRead fault (λ name. IsUnreadable (F.faults files.old) (F.faults files.new) self.new.open_files)) }
+        ensures unread { IsTrue (F.is_honest files.old) → (start : Openings) → IsNested start (F.openings files.old) self.old.open_files →
+            IfErr result (λ fault. IfRead fault (λ name. (turns : ℕ) × WroteAll (run (F.sources files.old) (chosen self.old.setup) turns)
+            (state (F.sources files.old) start (F.openings files.old) self.old) (M.taken messages.old) (M.taken messages.new))) }
+        ensures told { IfErr result (λ fault. IfMessages fault (Rose (M.failures messages.old) (M.failures messages.new))) }
+        ensures unless { IfErr result (λ fault. IfStory fault (λ n. ⊥)) }
+        ensures given_all { IsTrue (F.is_honest files.old) → (start : Openings) → IsNested start (F.openings files.old) self.old.open_files →
+            AllGiven (F.sources files.old) (length start.all) (F.openings files.old) self.old.open_files →
+            OnOk result (AllGiven (F.sources files.old) (length start.all) (F.openings files.new) self.new.open_files) }
+        ensures names { IsTrue (F.is_honest files.old) → (base : ℕ) → NamesAreOpened base (F.openings files.old) self.old.open_files →
+            NamesAreOpened base (F.openings files.new) self.new.open_files }
+        ensures given { (base : ℕ) → GivesAtLeast base self.old.open_files (F.given files.old) → GivesAtLeast base self.new.open_files (F.given files.new) }
+        ensures setup { self.new.setup ≡ self.old.setup }
+        ensures depth { F.depth files.new + length self.old.open_files.outer ≡ F.depth files.old + length self.new.open_files.outer }
+        ensures faults { F.faults files.old ≤ F.faults files.new }
+        ensures failures { M.failures messages.old ≤ M.failures messages.new }
+        ensures sources { F.sources files.new ≡ F.sources files.old }
+        ensures honesty { F.is_honest files.new ≡ F.is_honest files.old }
+    {
+        if self.has_ended() {
+            return Ok(self.came_to());
+        }
+        self.turn(files, messages)?;
+        while !self.has_parted() {
+            self.turn(files, messages)?;
+        }
+        Ok(self.came_to())
+    }
+
+    /// Ends the compilation behind the last step: writes the last messages, and gives the story, where no error was found. The
+    /// serial number has six digits. The files that are still open are given back.
+    ///
+    /// The faults are those of `translate`, but for that of reading and that of the story.
+    pub fn finish<M: Sink>(
+        self,
+        serial: &[u8],
+        messages: &mut M,
+    ) -> (OpenFiles, Result<Compiled, Fault>)
+        ensures files { result.0 ≡ self.entry.open_files }
+        ensures ok { IfOk result.1 (λ compiled. Delivers (finished serial.now self.entry.open_files.nest.names (work_of self.entry.progress.work)) compiled
+            (M.taken messages.old) (M.taken messages.new)) }
+        ensures err { OnErr result.1 (TakesFront (finished serial.now self.entry.open_files.nest.names (work_of self.entry.progress.work)).messages
+            (M.taken messages.old) (M.taken messages.new)) }
+        ensures errors { IfOk result.1 (λ compiled. compiled.status ≡ Status.Errors → compiled.story ≡ None) }
+        ensures kind { IfErr result.1 (λ fault. IfRead fault (λ name. ⊥) × IfStory fault (λ n. ⊥)) }
+        ensures messages { IfErr result.1 (λ fault. IfMessages fault (Rose (M.failures messages.old) (M.failures messages.new))) }
+        ensures failures { M.failures messages.old ≤ M.failures messages.new }
+    {
+        let Session {
+            alloc,
+            open_files,
+            progress,
+            ..
+        } = self;
+        let compiled = conclude(alloc, open_files.names(), serial, progress.work, messages);
+        (open_files, compiled)
+    }
+
+    /// Whether a part has ended here, and none has begun.
+    fn has_parted(&self) -> bool
+        ensures { result ≡ parted self.now }
+    {
+        self.has_ended() || (self.is_resting() && self.conditionals.is_reading())
+    }
+
+    /// What a step came to that ended here.
+    fn came_to(&self) -> Step
+        ensures { result ≡ came_to self.now }
+    {
+        if self.progress.work.report.is_over() {
+            Step::Fatal
+        } else if self.has_ended() {
+            Step::End
+        } else {
+            Step::More
+        }
+    }
+
+    /// Whether the reading stands between two directives, and in no conditional one.
+    fn is_resting(&self) -> bool
+        ensures { result ≡ resting self.now }
+    {
+        self.progress.site().is_between && self.conditionals.is_resting()
+    }
+
+    /// How much there is so far of what each setting bounds, in the order of the settings: the bytes of the longest quoted token,
+    /// the names, the bytes of the code, and the references. Of the others the language has nothing yet.
+    pub fn held(&self) -> [usize; 15]
+        ensures { result ≡ held_by self.now }
+    {
+        let work = &self.progress.work;
+        let mut held = [0; 15];
+        held[0] = self.quoted;
+        held[2] = work.names.len();
+        held[12] = work.output.code.len();
+        held[14] = work.output.code.references();
+        held
     }
 
     /// One turn takes a token, does what it asks, and writes what there is to tell.
@@ -130,6 +291,7 @@ impl<'a> Session<'a> {
         ensures setup { self.new.setup ≡ self.old.setup }
         ensures set { IsSet self.new }
         ensures cause { IfErr result (λ fault. IfRead fault (λ name. IsUnreadable (F.faults files.old) (F.faults files.new) self.new.open_files)) }
+        ensures unread { IfErr result (λ fault. IfRead fault (λ name. M.taken messages.new ≡ M.taken messages.old)) }
         ensures told { IfErr result (λ fault. IfMessages fault (Rose (M.failures messages.old) (M.failures messages.new))) }
         ensures unless { IfErr result (λ fault. IfStory fault (λ n. ⊥)) }
         ensures given_all { IsTrue (F.is_honest files.old) → (start : Openings) → IsNested start (F.openings files.old) self.old.open_files →
@@ -144,14 +306,14 @@ impl<'a> Session<'a> {
         ensures sources { F.sources files.new ≡ F.sources files.old }
         ensures honesty { F.is_honest files.new ≡ F.is_honest files.old }
     {
-        self.step(files)?;
+        self.take_token(files)?;
         self.follow(files)?;
         self.progress.work.report.flush(messages)?;
         Ok(())
     }
 
     /// Takes the next token of the innermost file.
-    fn step<F: Files>(&mut self, files: &mut F) -> Result<(), Fault>
+    fn take_token<F: Files>(&mut self, files: &mut F) -> Result<(), Fault>
         requires is_open { length self.old.open_files.outer < F.depth files.old }
         requires goes { self.old.open_files.lexer.has_failed ≡ false }
         ensures stepped { IsTrue (F.is_honest files.old) → (start : Openings) → IsNested start (F.openings files.old) self.old.open_files →
@@ -191,6 +353,7 @@ impl<'a> Session<'a> {
         let judged = self
             .conditionals
             .take(site, &self.progress.work.names, &spelled)?;
+        self.quoted = quoted_behind(site, judged, &spelled, self.quoted);
         self.progress
             .take_judged(self.open_files.names(), &spelled, judged)?;
         Ok(())
@@ -269,7 +432,7 @@ impl<'a> Session<'a> {
                 self.is_over = true;
                 Ok(())
             }
-            Asked::Nothing | Asked::SystemFile => Ok(()),
+            Asked::Nothing => Ok(()),
         }
     }
 
@@ -281,7 +444,7 @@ impl<'a> Session<'a> {
         ensures files { self.new.open_files ≡ self.old.open_files }
         ensures setup { self.new.setup ≡ self.old.setup }
     {
-        if self.has_ended() || !self.progress.site().is_between || !self.conditionals.is_resting() {
+        if self.has_ended() || !self.is_resting() {
             return Ok(());
         }
         let declared = self.progress.work.names.declared();
@@ -319,7 +482,11 @@ impl<'a> Session<'a> {
         ensures honesty { F.is_honest files.new ≡ F.is_honest files.old }
     {
         let message = match self.open_files.include(files, self.setup.directories, text) {
-            Ok(Included::Entered) => return Ok(self.conditionals.enter_file()?),
+            Ok(Included::Entered) => {
+                self.conditionals.enter_file()?;
+                self.progress.work.enter_file()?;
+                return Ok(());
+            }
             Ok(Included::NotThere) => Message::NoInclude(text),
             Ok(Included::TooDeep) => Message::TooManyFiles,
             Err(IncludeFault::Memory) => return Err(Fault::Memory),
@@ -364,7 +531,38 @@ impl<'a> Session<'a> {
             return Ok(());
         }
         self.progress.reader.mode = Mode::Reads;
+        self.progress.work.leave_file();
         Ok(())
+    }
+}
+
+/// How many bytes the longest quoted token has behind one more token: those that are not handed on, and those that are passed over
+/// behind a bad one, are not among them.
+fn quoted_behind(site: Site, judged: Judged, token: &Spelled<'_>, quoted: usize) -> usize
+    ensures { result ≡ quoted_behind site judged (spelled token.now) quoted }
+{
+    if site.is_quiet || judged.token.is_none() {
+        return quoted;
+    }
+    let bytes = quoted_bytes(token);
+    if quoted < bytes { bytes } else { quoted }
+}
+
+/// How many bytes stand between the quotes of a token that has such.
+fn quoted_bytes(token: &Spelled<'_>) -> usize
+    ensures { result ≡ quoted_bytes (spelled token.now) }
+{
+    match token.kind {
+        TokenKind::Text | TokenKind::Char(_) | TokenKind::Word(_) => token.bytes.len(),
+        TokenKind::Bad(
+            BadToken::Unclosed
+            | BadToken::EmptyQuote
+            | BadToken::UnknownEscape
+            | BadToken::NoZscii
+            | BadToken::BadCode
+            | BadToken::TooLong,
+        ) => token.bytes.len(),
+        _ => 0,
     }
 }
 

@@ -3,12 +3,13 @@ ghost use Rattle.std.specs.Prelude.{◌≡◌, ℕ, ◌+◌, ◌<◌, ◌≤◌,
 ghost use Rattle.inf_token.specs.Files.{Openings, Rose};
 ghost use Rattle.inf_sources.specs.Open.{AllGiven, IsNested, NamesAreOpened};
 ghost use Rattle.inf_session.specs.Choices.{chosen};
-ghost use Rattle.inf_unit.specs.Works.{work as work_of};
-ghost use Rattle.inf_session.specs.Comes.{Begins, Comes, Concludes, Delivers, IsUnread, Stops, TakesFront};
+ghost use Rattle.inf_work.specs.Works.{work as work_of};
+ghost use Rattle.inf_session.specs.Comes.{Begins, Comes, Concludes, Delivers, Heard, IsUnread, Stops, TakesFront};
 ghost use Rattle.inf_session.specs.Given.{GivesAtLeast, IsUnreadable};
 ghost use Rattle.inf_session.specs.Standing.{IsSet, state};
 ghost use Rattle.inf_session.specs.Outcome.{finished};
 ghost use Rattle.inf_session.specs.Endings.{seen};
+ghost use Rattle.inf_session.specs.Session.{start};
 ghost use Rattle.inf_session.specs.Faults.{IfMessages, IfRead, IfStory};
 
 use crate::ending::{Ending, finish, no_file};
@@ -20,7 +21,7 @@ use inf_settings::setting::Setting;
 use inf_sources::open_files::OpenFiles;
 use inf_symbol::sinks::{Sink, write_whole};
 use inf_token::files::Files;
-use inf_unit::work::Work;
+use inf_work::work::Work;
 use std::alloc::Global;
 
 /// How a compilation ended.
@@ -59,6 +60,9 @@ pub fn translate<F: Files, M: Sink>(
         (F.openings files.old) (F.openings files.new) (M.taken messages.old) (M.taken messages.new) compiled) }
     ensures begins { IsTrue (F.is_honest files.old) → OnErr result (Begins (F.sources files.old) (chosen setup.entry) serial.now name.now
         (M.taken messages.old) (M.taken messages.new)) }
+    // After a fault of reading these are all that come with the tokens that were read.
+    ensures heard { IsTrue (F.is_honest files.old) → IfErr result (λ fault. IfRead fault (λ told. Heard (F.sources files.old) (chosen setup.entry)
+        (start (F.sources files.old) (chosen setup.entry) name.now) (M.taken messages.old) (M.taken messages.new))) }
 
     // With any reader nothing is left open, no story comes with an error, and a fault has its cause.
     ensures depth { F.depth files.new ≡ F.depth files.old }
@@ -81,14 +85,13 @@ pub fn translate<F: Files, M: Sink>(
         }
     };
     let session = Session::new(alloc, setup, open_files);
-    let (open_files, compiled) = read_out(alloc, session, files, serial, messages);
+    let (open_files, compiled) = read_out(session, files, serial, messages);
     open_files.close(files);
     compiled
 }
 
 /// Reads all that is still to be read, and ends the compilation. The files that are still open then are given back.
 fn read_out<F: Files, M: Sink>(
-    alloc: Global,
     mut session: Session<'_>,
     files: &mut F,
     serial: &[u8],
@@ -104,6 +107,9 @@ fn read_out<F: Files, M: Sink>(
     ensures stops { IsTrue (F.is_honest files.old) → (start : Openings) → IsNested start (F.openings files.old) session.entry.open_files →
         OnErr result.1 (Stops (F.sources files.old) (chosen session.entry.setup) serial.now
         (state (F.sources files.old) start (F.openings files.old) session.entry []) (M.taken messages.old) (M.taken messages.new)) }
+    ensures heard { IsTrue (F.is_honest files.old) → (start : Openings) → IsNested start (F.openings files.old) session.entry.open_files →
+        IfErr result.1 (λ fault. IfRead fault (λ name. Heard (F.sources files.old) (chosen session.entry.setup)
+        (state (F.sources files.old) start (F.openings files.old) session.entry []) (M.taken messages.old) (M.taken messages.new))) }
     ensures errors { IfOk result.1 (λ compiled. compiled.status ≡ Status.Errors → compiled.story ≡ None) }
     ensures cause { IfErr result.1 (λ fault. IfRead fault (λ name. IsUnreadable (F.faults files.old) (F.faults files.new) result.0)) }
     ensures messages { IfErr result.1 (λ fault. IfMessages fault (Rose (M.failures messages.old) (M.failures messages.new))) }
@@ -122,21 +128,13 @@ fn read_out<F: Files, M: Sink>(
     ensures honesty { F.is_honest files.new ≡ F.is_honest files.old }
 {
     match session.read(files, messages) {
-        Ok(()) => {
-            let Session {
-                open_files,
-                progress,
-                ..
-            } = session;
-            let compiled = conclude(alloc, open_files.names(), serial, progress.work, messages);
-            (open_files, compiled)
-        }
+        Ok(()) => session.finish(serial, messages),
         Err(fault) => (session.open_files, Err(fault)),
     }
 }
 
 /// Ends the compilation of sources that were read, and writes its last messages.
-fn conclude<M: Sink>(
+pub(crate) fn conclude<M: Sink>(
     alloc: Global,
     names: &Stack,
     serial: &[u8],

@@ -12,19 +12,17 @@ use Rattle.inf_unit.specs.declared.directives.Asked.{Asked as CodeAsked}
 use Rattle.inf_unit.specs.declared.directives.Asked.TheVariants as code
 
 -- What a finished directive asks of the reading: that the file of a name is read, for a directive that begins at a place; that
--- reading ends; that the routines of the file at hand may be replaced.
+-- reading ends.
 pub data Asked : Type 0 where
   Nothing : Asked
   Include : (text : List ℕ) (unit : Place) → Asked
   End : Asked
-  SystemFile : Asked
 
 -- what the code's words stand for
 abbrev pub asked : CodeAsked → Asked
 asked code.Nothing = Nothing
 asked (code.Include text unit) = Include text.items unit
 asked code.End = End
-asked code.SystemFile = SystemFile
 
 -- what a directive is that begins with this token
 abbrev pub directive_of : Spelled → Directive
@@ -32,7 +30,8 @@ directive_of t =
     if is_word (codes "include") t then directive.Include else
     if is_word (codes "message") t then directive.Message else
     if is_word (codes "end") t then directive.End else
-    if is_word (codes "constant") t then directive.Constant else directive.SystemFile
+    if is_word (codes "constant") t then directive.Constant else
+    if is_word (codes "replace") t then directive.Replace else directive.SystemFile
 
 -- the weight of a message, by the word behind `Message`
 abbrev pub weight_of_word : List ℕ → Kind

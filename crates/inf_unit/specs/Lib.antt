@@ -1,10 +1,8 @@
+pub mod Tokens
 pub mod Messages
 pub mod Blames
-pub mod Tokens
+pub mod Names
 pub mod Keywords
 pub mod Directives
 pub mod Statements
-pub mod Names
-pub mod Units
-pub mod Actions
-pub mod Works
+pub mod AtHand

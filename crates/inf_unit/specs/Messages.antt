@@ -1,5 +1,5 @@
 -- The messages of a compilation so far, and where they stand.
-use Rattle.std.specs.Prelude.{ℕ, List, [], ◌++◌, true, Option, Some, None, slice_get, unwrap_or}
+use Rattle.std.specs.Prelude.{ℕ, List, [], ◌++◌, Bool, true, Option, Some, None, slice_get, unwrap_or}
 use Rattle.inf_scanner.specs.declared.tokens.Place.{Place}
 use Rattle.inf_assembler.specs.declared.routines.Setting.{Setting as CodeSetting}
 use Rattle.inf_assembler.specs.declared.routines.Setting.TheVariants as code_setting
@@ -29,8 +29,12 @@ pub record Reported : Type 0 where
   pub lines : List ℕ
   pub counts : Counts
 
+-- before the first message, where warnings are told or not
+abbrev pub none_reported : Bool → Reported
+none_reported has_warnings = record { lines = []; counts = no_counts has_warnings }
+
 abbrev pub nothing_reported : Reported
-nothing_reported = record { lines = []; counts = no_counts true }
+nothing_reported = none_reported true
 
 -- an error at a place, of a unit that begins at another or the same
 abbrev pub with_error : Location → Location → Message → Reported → Reported

@@ -16,6 +16,7 @@ pub enum Directive {
     Message,
     End,
     Constant,
+    Replace,
     SystemFile,
 }
 
@@ -27,8 +28,6 @@ pub enum Asked {
     Include { text: Vec<u8>, unit: Place },
     /// That reading ends.
     End,
-    /// That routines of the file at hand may be replaced.
-    SystemFile,
 }
 
 /// What a directive is that begins with a token.
@@ -43,6 +42,8 @@ pub(crate) fn directive_of(token: &Spelled<'_>) -> Directive
         Directive::End
     } else if is_word(token, b"constant") {
         Directive::Constant
+    } else if is_word(token, b"replace") {
+        Directive::Replace
     } else {
         Directive::SystemFile
     }
@@ -50,7 +51,7 @@ pub(crate) fn directive_of(token: &Spelled<'_>) -> Directive
 
 /// The weight of a message in the source's own words, by the names behind the directive's word:
 /// without one it is a plain line.
-pub(crate) fn weight_of(names: &[Name]) -> Option<Kind>
+pub fn weight_of(names: &[Name]) -> Option<Kind>
     ensures { result ≡ weight_of (map as_name names.now) }
 {
     let name = names.first()?;

@@ -3,7 +3,7 @@ ghost use Rattle.std.specs.Prelude.{◌≡◌, IsOk, OnErr, OnOk, option_map};
 ghost use Rattle.inf_report.specs.Meant.{located, meant, worded};
 ghost use Rattle.inf_report.specs.Writing.{Writes};
 ghost use Rattle.inf_unit.specs.Blames.{blamed};
-ghost use Rattle.inf_unit.specs.Messages.{flushed, location, nothing_reported, setting_of, with_closing, with_error, with_fatal, with_fault, with_full, with_plain, with_warning, with_words};
+ghost use Rattle.inf_unit.specs.Messages.{flushed, location, none_reported, setting_of, with_closing, with_error, with_fatal, with_fault, with_full, with_plain, with_warning, with_words};
 
 use inf_assembler::Setting as CodeSetting;
 use inf_lexer::{Place, Stack};
@@ -66,12 +66,12 @@ impl Model for Messages {
 }
 
 impl Messages {
-    /// Nothing was told yet. It takes no memory until something is.
-    pub fn new(alloc: Global) -> Messages
-        ensures { result ≡ nothing_reported }
+    /// Nothing was told yet, and warnings are told or not. It takes no memory until something is told.
+    pub fn new(alloc: Global, has_warnings: bool) -> Messages
+        ensures { result ≡ none_reported has_warnings }
     {
         Messages {
-            report: Report::new(true),
+            report: Report::new(has_warnings),
             lines: MemorySink::new(alloc),
         }
     }

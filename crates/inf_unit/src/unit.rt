@@ -2,7 +2,7 @@
 ghost use Rattle.std.specs.Prelude.{◌≡◌, ◌≤◌, OnOk, IsSome, length, option_map};
 ghost use Rattle.inf_unit.specs.Statements.{begun, head_of, name_of, next_unit, no_unit, unit_behind, statement_of, with_name};
 ghost use Rattle.inf_unit.specs.Tokens.{spelled};
-ghost use Rattle.inf_unit.specs.Works.{unit};
+ghost use Rattle.inf_unit.specs.AtHand.{unit};
 ghost use Rattle.inf_symbol.specs.Spellings.{as_name};
 
 use crate::directives::{Directive, directive_of};

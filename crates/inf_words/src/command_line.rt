@@ -7,6 +7,7 @@ ghost use Rattle.inf_words.specs.Directories.{directories_of};
 ghost use Rattle.inf_words.specs.FileNames.{stem, source_name, story_name};
 
 use crate::directories::parts_of;
+use crate::letters::Letters;
 use crate::taken::Taken;
 use inf_characters::CharSet;
 use inf_settings::settings::Settings;
@@ -32,13 +33,13 @@ pub enum WordFault {
 }
 
 /// What the words of a command choose: the word for the source, the word for the story where there
-/// is one, the settings, the character set, and what a word `+..` says behind its sign.
+/// is one, the settings, the character set with whether warnings are told, and what a word `+..` says behind its sign.
 #[derive(Debug, Drop)]
 pub struct Options<'a> {
     pub(crate) source: &'a str,
     pub(crate) story: Option<&'a str>,
     pub(crate) settings: Settings,
-    pub(crate) set: CharSet,
+    pub(crate) letters: Letters,
     pub(crate) path: Option<&'a str>,
 }
 
@@ -52,7 +53,7 @@ impl<'a> Model for Options<'a> {
       source = o.source.now;
       story = option_copied o.story;
       settings = o.settings;
-      set = o.set;
+      letters = o.letters;
       path = option_copied o.path;
     } };
 }
@@ -67,9 +68,16 @@ impl<'a> Options<'a> {
 
     /// The character set of the source: ISO Latin-1 where no word chooses.
     pub fn set(&self) -> CharSet
-        ensures { result ≡ self.now.set }
+        ensures { result ≡ self.now.letters.set }
     {
-        self.set
+        self.letters.set
+    }
+
+    /// Whether warnings are told, which they are where no word says otherwise.
+    pub fn has_warnings(&self) -> bool
+        ensures { result ≡ self.now.letters.has_warnings }
+    {
+        self.letters.has_warnings
     }
 
     /// The directories in which included files are looked for, in their order: none where no word
@@ -93,7 +101,7 @@ impl CommandLine {
     /// Reads the words from left to right; a later word on the same matter wins.
     ///
     /// `-` is followed by letters: `C0` is ASCII, and `C1` is ISO Latin-1, which holds where no word
-    /// chooses. `$NAME=n` sets a setting to a decimal number. `+a,b` gives the directories of
+    /// chooses; `w` has no warnings told, and `~w` has them told. `$NAME=n` sets a setting to a decimal number. `+a,b` gives the directories of
     /// included files. Of the other words the first names the source, the second the story.
     ///
     /// The first word that is refused decides. `Unknown` is a bare `-` or an unknown letter behind

@@ -1,24 +1,49 @@
 //! The letters of a word that begins with `-`.
 ghost use Rattle.std.specs.Prelude.{◌≡◌};
-ghost use Rattle.inf_words.specs.Words.{chosen_set, set_of_digit};
+ghost use Rattle.inf_words.specs.Words.{chosen_letters, set_of_digit};
 
 use inf_characters::CharSet;
 
-/// The set that letters choose where `set` is the one before them: each is a `C` with its digit, and the
-/// last one wins. None where there are no letters, or one is unknown.
-pub(crate) fn chosen_set(set: CharSet, letters: &[u8]) -> Option<CharSet>
-    ensures { result ≡ chosen_set set letters.now }
-{
-    if letters.is_empty() {
-        return None;
+/// What letters choose.
+#[derive(Clone, Copy, Debug, PartialEq, Eq)]
+pub struct Letters {
+    /// The character set of the sources.
+    pub set: CharSet,
+    /// Whether warnings are told.
+    pub has_warnings: bool,
+}
+
+impl Letters {
+    /// What the letters of a word choose where these were chosen before: a `C` with its digit, a `w` for no warnings, or
+    /// that behind a `~`; the last one on a matter wins. None where there are no letters, or one is unknown.
+    pub(crate) fn and(self, letters: &[u8]) -> Option<Letters>
+        ensures { result ≡ chosen_letters self letters.now }
+    {
+        if letters.is_empty() {
+            return None;
+        }
+        let mut chosen = self;
+        let mut rest = letters;
+        while !rest.is_empty() {
+            if rest[0] == b'w' {
+                chosen.has_warnings = false;
+                rest = &rest[1..];
+                continue;
+            }
+            match rest {
+                [b'C', digit, behind @ ..] => {
+                    chosen.set = set_of_digit(*digit)?;
+                    rest = behind;
+                }
+                [b'~', b'w', behind @ ..] => {
+                    chosen.has_warnings = true;
+                    rest = behind;
+                }
+                _ => return None,
+            }
+        }
+        Some(chosen)
     }
-    let mut chosen = set;
-    let mut rest = letters;
-    while let [b'C', digit, behind @ ..] = rest {
-        chosen = set_of_digit(*digit)?;
-        rest = behind;
-    }
-    if rest.is_empty() { Some(chosen) } else { None }
 }
 
 fn set_of_digit(digit: u8) -> Option<CharSet>

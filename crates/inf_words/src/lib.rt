@@ -4,5 +4,5 @@
 pub mod command_line;
 pub mod dates;
 mod directories;
-mod letters;
+pub mod letters;
 mod taken;

@@ -2,10 +2,10 @@
 ghost use Rattle.std.specs.Prelude.{◌≡◌};
 ghost use Rattle.std.specs.Option.{option_copied};
 ghost use Rattle.inf_settings.specs.Words.{assignment_of};
-ghost use Rattle.inf_words.specs.Words.{chosen_set, choice_of, no_words, take_name, take_setting, take_word, with_set};
+ghost use Rattle.inf_words.specs.Words.{chosen_letters, choice_of, no_words, take_name, take_setting, take_word, with_letters};
 
 use crate::command_line::{Options, WordFault};
-use crate::letters::chosen_set;
+use crate::letters::Letters;
 use inf_characters::CharSet;
 use inf_settings::settings::Settings;
 use inf_settings::words::Assignment;
@@ -17,7 +17,7 @@ pub(crate) struct Taken<'a> {
     source: Option<&'a str>,
     story: Option<&'a str>,
     settings: Settings,
-    set: CharSet,
+    letters: Letters,
     path: Option<&'a str>,
 }
 
@@ -31,7 +31,7 @@ impl<'a> Model for Taken<'a> {
       source = option_copied t.source;
       story = option_copied t.story;
       settings = t.settings;
-      set = t.set;
+      letters = t.letters;
       path = option_copied t.path;
     } };
 }
@@ -44,7 +44,10 @@ impl<'a> Taken<'a> {
             source: None,
             story: None,
             settings: Settings::new(),
-            set: CharSet::Latin1,
+            letters: Letters {
+                set: CharSet::Latin1,
+                has_warnings: true,
+            },
             path: None,
         }
     }
@@ -62,9 +65,9 @@ impl<'a> Taken<'a> {
     }
 
     fn with_letters(mut self, place: usize, letters: &[u8]) -> Result<Taken<'a>, WordFault>
-        ensures { result ≡ with_set self.entry place (chosen_set self.entry.set letters.now) }
+        ensures { result ≡ with_letters self.entry place (chosen_letters self.entry.letters letters.now) }
     {
-        self.set = chosen_set(self.set, letters).ok_or(WordFault::Unknown(place))?;
+        self.letters = self.letters.and(letters).ok_or(WordFault::Unknown(place))?;
         Ok(self)
     }
 
@@ -107,7 +110,7 @@ impl<'a> Taken<'a> {
             source,
             story: self.story,
             settings: self.settings,
-            set: self.set,
+            letters: self.letters,
             path: self.path,
         })
     }

@@ -197,6 +197,62 @@ impl Files for Locked<'_> {
     }
 }
 
+/// The files of a folder, given one byte a read, of which one call of `open` or `read` fails.
+#[derive(Drop)]
+pub struct Fused {
+    files: MemoryFiles,
+    /// How many calls are still to come before the one that fails.
+    calls: usize,
+    failures: Failures,
+}
+
+impl Fused {
+    pub fn new(files: MemoryFiles, calls: usize) -> Fused {
+        Fused {
+            files,
+            calls,
+            failures: Failures::none(),
+        }
+    }
+}
+
+impl Files for Fused {
+    ghost faults = { λ f. f.failures };
+
+    ghost given = { λ f. f.files.given };
+
+    ghost is_honest = { λ _. false };
+
+    ghost sources = { λ _ _. None };
+
+    ghost openings = { λ _. record { all = []; open_places = [] } };
+
+    ghost depth = { λ f. length f.files.openings.open_places };
+
+    fn open(&mut self, name: &str) -> Result<(), OpenFault> {
+        if self.calls == 0 {
+            self.failures.add();
+            return Err(OpenFault::Device);
+        }
+        self.calls -= 1;
+        self.files.open(name)
+    }
+
+    fn read(&mut self, to: &mut [u8]) -> Result<usize, ReadFault> {
+        if self.calls == 0 {
+            self.failures.add();
+            return Err(ReadFault::Device);
+        }
+        self.calls -= 1;
+        let most = to.len().min(1);
+        self.files.read(&mut to[..most])
+    }
+
+    fn close(&mut self) {
+        self.files.close();
+    }
+}
+
 /// A folder with these files.
 pub fn folder_of(alloc: Global, files: &[(&str, &[u8])]) -> Result<MemoryFiles, Fail> {
     let mut sources = BTreeMap::new(alloc);

@@ -8,6 +8,12 @@ mod conditionals;
 #[cfg(test)]
 mod devices;
 #[cfg(test)]
+mod faults;
+#[cfg(test)]
 mod including;
 #[cfg(test)]
 mod reading;
+#[cfg(test)]
+mod replacing;
+#[cfg(test)]
+mod steps;

@@ -12,7 +12,7 @@ returns-clause-begins g c = λ honest.
     on_err c.deliver.result
     (begins_whole (files.sources c.args.files.now) _ (chosen_by options) c.args.date _ _ (files.openings c.args.files.now) (files.openings c.translate.new.files)
     (g.M.Sink.taken c.args.messages.now) (g.M.Sink.taken c.translate.new.messages) c.in_ok-compiled.compiled
-    (chosen_is c.set.result options.set c.settings.result.now options.settings (map (λ d. d.now) c.as_slice.result.now) (directories_of options.path)
-    c.set.ensures c.settings.ensures (ap (map (λ d. d.now)) c.as_slice.ensures.value ∙ c.in_ok-directories.ensures))
+    (chosen_is c.set.result options.letters.set c.has_warnings.result options.letters.has_warnings c.settings.result.now options.settings (map (λ d. d.now) c.as_slice.result.now) (directories_of options.path)
+    c.set.ensures c.has_warnings.ensures c.settings.ensures (ap (map (λ d. d.now)) c.as_slice.ensures.value ∙ c.in_ok-directories.ensures))
     (c.as_str.ensures.value ∙ c.in_ok-name.ensures.bytes)
     (c.in_ok-compiled.ensures.comes honest))

@@ -34,7 +34,7 @@ returns-clause-comes g c = λ honest.
     let limit : nesting s old mid session.open_files ≡ main_opened o.set (most_quoted o) s name =
     ap (λ (x : Open). nesting s old mid x) c.new-session.ensures.files ∙ c.in-Ok.ensures.nesting honest ∙ ap (λ n. main_opened o.set n s name) c.of-limit.ensures.value in
     let begun : state s old mid session [] ≡ start s o name =
-    begun_is s o name old mid session limit c.new-session.ensures.standing c.new-session.ensures.going c.new-session.ensures.conditionals in
+    begun_is s o name old mid session limit c.new-session.ensures.standing c.new-session.ensures.going c.new-session.ensures.conditionals c.new-session.ensures.quoted in
     if_ok_more c.read_out-open_files.result.1 (λ x. Concludes t (chosen session.setup) serial (state t old mid session []) old now f before after x × AllGiven t (length old.all) now f)
     (λ x. Comes s o serial name old (files.openings c.close.new.files) before after x)
     (λ x k. comes_of s o serial name old now (files.openings c.close.new.files) f (state s old mid session []) before after x (c.in-Ok.ensures.there honest) begun
@@ -64,7 +64,7 @@ returns-clause-begins g c = λ honest.
     let limit : nesting s old mid session.open_files ≡ main_opened o.set (most_quoted o) s name =
     ap (λ (x : Open). nesting s old mid x) c.new-session.ensures.files ∙ c.in-Ok.ensures.nesting honest ∙ ap (λ n. main_opened o.set n s name) c.of-limit.ensures.value in
     let begun : state s old mid session [] ≡ start s o name =
-    begun_is s o name old mid session limit c.new-session.ensures.standing c.new-session.ensures.going c.new-session.ensures.conditionals in
+    begun_is s o name old mid session limit c.new-session.ensures.standing c.new-session.ensures.going c.new-session.ensures.conditionals c.new-session.ensures.quoted in
     on_err_weaker c.read_out-open_files.result.1
     (λ k. begins_of s o serial name (state s old mid session []) before after (c.in-Ok.ensures.there honest) begun
     (subst (λ (p : Setup). Stops s (chosen p) serial (state s old mid session []) before after) c.new-session.ensures.setup

@@ -27,3 +27,10 @@ returns-in_err-enter_file-in-Ok-Entered-clause-given g c = λ base h.
     let e = c.in-Ok-Entered.ensures.entered c.in-Ok-Entered.field-0-is in
     subst (λ n. GivesAtLeast base c.include.new.self n) (sym c.include.ensures.given)
     (given_entered base (files.given c.args.files.now) c.args.self.now.open_files c.include.new.self e.0.0 e.1.0 h)
+
+pub returns-in_err-enter_file-in-Ok-Entered-2-clause-given : goal.returns-in_err-enter_file-in-Ok-Entered-2-clause-given
+returns-in_err-enter_file-in-Ok-Entered-2-clause-given g c = λ base h.
+    let files = g.F.Files in
+    let e = c.in-Ok-Entered.ensures.entered c.in-Ok-Entered.field-0-is in
+    subst (λ n. GivesAtLeast base c.include.new.self n) (sym c.include.ensures.given)
+    (given_entered base (files.given c.args.files.now) c.args.self.now.open_files c.include.new.self e.0.0 e.1.0 h)

@@ -1,6 +1,7 @@
 use Rattle.std.proofs.Common.{ap, subst, sym, ◌∙◌}
 use Rattle.inf_conditionals.specs.Ends.{file_told}
 use Rattle.inf_sources.specs.Open.{nesting}
+use Rattle.inf_work.specs.Works.{work as work_of}
 use Rattle.inf_session.specs.Given.{GivesAtLeast}
 use Rattle.inf_session.specs.Standing.{state}
 use Rattle.inf_session.proofs.Standings.{given_left, left_is, none_waits, one_waits, stays}
@@ -12,9 +13,9 @@ returns-clause-left g c = λ honest start nested told.
     let s = files.sources c.args.files.now in
     let old = files.openings c.args.files.now in
     let was = c.args.self.now in
-    left_is (state s start old was told) (nesting s start (files.openings c.leave.new.files) c.leave.new.self) c.end_file.new.self c.end_file.new.report
+    left_is (state s start old was told) (nesting s start (files.openings c.leave.new.files) c.leave.new.self) c.end_file.new.self c.end_file.new.report (work_of c.leave_file.new.self)
     c.in_ok-end_file.ensures.left (c.in_ok-end_file.ensures.told ∙ ap (λ n. file_told n.names was.conditionals was.progress.work.report) c.names.ensures)
-    (c.leave.ensures.nesting honest start nested)
+    c.leave_file.ensures (c.leave.ensures.nesting honest start nested)
     (one_waits s start old was.open_files c.leave.new.self.outer c.leave.new.self.lexer nested (c.leave.ensures.left c.if-not-leave.false).0)
 
 pub returns-clause-given : goal.returns-clause-given

@@ -11,8 +11,8 @@ use Rattle.inf_session.proofs.Standings.{as_before, turn_cut, turn_writes}
 use Rattle.inf_session.proofs.Weighing.{falls}
 use Rattle.inf_session.proofs.session.Session.turn.Goals as goal
 
-pub returns-in_err-step-clause-cut : goal.returns-in_err-step-clause-cut
-returns-in_err-step-clause-cut g c = λ honest start nested.
+pub returns-in_err-take_token-clause-cut : goal.returns-in_err-take_token-clause-cut
+returns-in_err-take_token-clause-cut g c = λ honest start nested.
     let files = g.F.Files in
     on_err c.from_residual.result
     (cut_at_once (files.sources c.args.files.now) (chosen c.args.self.now.setup) (state (files.sources c.args.files.now) start (files.openings c.args.files.now) c.args.self.now)
@@ -30,30 +30,30 @@ returns-in_err-flush-clause-cut g c = λ honest start nested.
     let files = g.F.Files in
     let s = files.sources c.args.files.now in
     let part = c.in_err-flush.ensures.writes.0 in
-    let mid = state s start (files.openings c.step.new.files) c.step.new.self in
+    let mid = state s start (files.openings c.take_token.new.files) c.take_token.new.self in
     let now = state s start (files.openings c.follow.new.files) c.follow.new.self in
     let o = chosen c.args.self.now.setup in
-    let first = c.in_ok-step.ensures.stepped honest start nested in
-    let still = subst (λ b. IsTrue b) (sym c.in_ok-step.ensures.honesty) honest in
-    let after = c.in_ok-follow.ensures.followed still start (c.in_ok-step.ensures.nested honest start nested) in
+    let first = c.in_ok-take_token.ensures.stepped honest start nested in
+    let still = subst (λ b. IsTrue b) (sym c.in_ok-take_token.ensures.honesty) honest in
+    let after = c.in_ok-follow.ensures.followed still start (c.in_ok-take_token.ensures.nested honest start nested) in
     on_err c.from_residual-in_err-flush.result
     (turn_cut s o (state s start (files.openings c.args.files.now) c.args.self.now) mid now (g.M.Sink.taken c.args.messages.now) (g.M.Sink.taken c.flush.new.to)
     c.follow.new.self.progress.work.report.lines part.front part.rest first
-    (λ told. as_before s (files.sources c.step.new.files) o (chosen c.step.new.self.setup) start (files.openings c.step.new.files) (files.openings c.follow.new.files) c.step.new.self c.follow.new.self c.in_ok-step.ensures.sources (ap chosen c.in_ok-step.ensures.setup.0) after told)
+    (λ told. as_before s (files.sources c.take_token.new.files) o (chosen c.take_token.new.self.setup) start (files.openings c.take_token.new.files) (files.openings c.follow.new.files) c.take_token.new.self c.follow.new.self c.in_ok-take_token.ensures.sources (ap chosen c.in_ok-take_token.ensures.setup.0) after told)
     (λ told. refl) part.is_cut part.takes)
 
 pub returns-clause-turned : goal.returns-clause-turned
 returns-clause-turned g c = λ honest start nested.
     let files = g.F.Files in
     let s = files.sources c.args.files.now in
-    let mid = state s start (files.openings c.step.new.files) c.step.new.self in
+    let mid = state s start (files.openings c.take_token.new.files) c.take_token.new.self in
     let now = state s start (files.openings c.follow.new.files) c.follow.new.self in
     let o = chosen c.args.self.now.setup in
-    let still = subst (λ b. IsTrue b) (sym c.in_ok-step.ensures.honesty) honest in
-    let after = c.in_ok-follow.ensures.followed still start (c.in_ok-step.ensures.nested honest start nested) in
+    let still = subst (λ b. IsTrue b) (sym c.in_ok-take_token.ensures.honesty) honest in
+    let after = c.in_ok-follow.ensures.followed still start (c.in_ok-take_token.ensures.nested honest start nested) in
     turn_writes s o (state s start (files.openings c.args.files.now) c.args.self.now) mid now _ (g.M.Sink.taken c.args.messages.now) (g.M.Sink.taken c.flush.new.to)
-    c.follow.new.self.progress.work.report.lines (c.in_ok-step.ensures.stepped honest start nested)
-    (λ told. as_before s (files.sources c.step.new.files) o (chosen c.step.new.self.setup) start (files.openings c.step.new.files) (files.openings c.follow.new.files) c.step.new.self c.follow.new.self c.in_ok-step.ensures.sources (ap chosen c.in_ok-step.ensures.setup.0) after told)
+    c.follow.new.self.progress.work.report.lines (c.in_ok-take_token.ensures.stepped honest start nested)
+    (λ told. as_before s (files.sources c.take_token.new.files) o (chosen c.take_token.new.self.setup) start (files.openings c.take_token.new.files) (files.openings c.follow.new.files) c.take_token.new.self c.follow.new.self c.in_ok-take_token.ensures.sources (ap chosen c.in_ok-take_token.ensures.setup.0) after told)
     (λ told. refl) (λ told. ap (λ (r : Reported). record (now told) { work = record (now told).work { report = r } }) c.in_ok-flush.ensures.none)
     c.in_ok-flush.ensures.writes.0
 
@@ -61,26 +61,26 @@ pub returns-clause-falls : goal.returns-clause-falls
 returns-clause-falls g c =
     elim c.in_ok-follow.ensures.goes_on [
       | inl over ↦ inl (ap (λ (r : Reported). c.follow.new.self.is_over || (r.counts.is_over || is_mode_ended c.follow.new.self.progress.reader.mode)) c.in_ok-flush.ensures.none ∙ over)
-      | inr goes ↦ inr (falls c.args.self.now.open_files c.step.new.self.open_files c.follow.new.self.open_files (is_mode_ended c.step.new.self.progress.reader.mode)
-          c.in_ok-step.ensures.same.1 c.in_ok-step.ensures.moves goes)
+      | inr goes ↦ inr (falls c.args.self.now.open_files c.take_token.new.self.open_files c.follow.new.self.open_files (is_mode_ended c.take_token.new.self.progress.reader.mode)
+          c.in_ok-take_token.ensures.same.1 c.in_ok-take_token.ensures.moves goes)
     ]
 
 pub returns-in_err-follow-clause-names : goal.returns-in_err-follow-clause-names
-returns-in_err-follow-clause-names g c = λ honest base h. c.follow.ensures.names (subst (λ b. IsTrue b) (sym c.step.ensures.honesty) honest) base (c.step.ensures.names honest base h)
+returns-in_err-follow-clause-names g c = λ honest base h. c.follow.ensures.names (subst (λ b. IsTrue b) (sym c.take_token.ensures.honesty) honest) base (c.take_token.ensures.names honest base h)
 
 pub returns-in_err-flush-clause-names : goal.returns-in_err-flush-clause-names
-returns-in_err-flush-clause-names g c = λ honest base h. c.follow.ensures.names (subst (λ b. IsTrue b) (sym c.step.ensures.honesty) honest) base (c.step.ensures.names honest base h)
+returns-in_err-flush-clause-names g c = λ honest base h. c.follow.ensures.names (subst (λ b. IsTrue b) (sym c.take_token.ensures.honesty) honest) base (c.take_token.ensures.names honest base h)
 
 pub returns-clause-names : goal.returns-clause-names
-returns-clause-names g c = λ honest base h. c.follow.ensures.names (subst (λ b. IsTrue b) (sym c.step.ensures.honesty) honest) base (c.step.ensures.names honest base h)
+returns-clause-names g c = λ honest base h. c.follow.ensures.names (subst (λ b. IsTrue b) (sym c.take_token.ensures.honesty) honest) base (c.take_token.ensures.names honest base h)
 
 pub returns-clause-given_all : goal.returns-clause-given_all
 returns-clause-given_all g c = λ honest start nested h.
     let files = g.F.Files in
-    let still = subst (λ b. IsTrue b) (sym c.in_ok-step.ensures.honesty) honest in
+    let still = subst (λ b. IsTrue b) (sym c.in_ok-take_token.ensures.honesty) honest in
     let n = length start.all in
-    let mid = files.openings c.step.new.files in
+    let mid = files.openings c.take_token.new.files in
     let new = files.openings c.follow.new.files in
-    subst (λ (x : Sources). AllGiven x n new c.follow.new.self.open_files) c.in_ok-step.ensures.sources
-    (c.in_ok-follow.ensures.given_all still start (c.in_ok-step.ensures.nested honest start nested)
-    (subst (λ (x : Sources). AllGiven x n mid c.step.new.self.open_files) (sym c.in_ok-step.ensures.sources) (c.in_ok-step.ensures.given_all honest start nested h)))
+    subst (λ (x : Sources). AllGiven x n new c.follow.new.self.open_files) c.in_ok-take_token.ensures.sources
+    (c.in_ok-follow.ensures.given_all still start (c.in_ok-take_token.ensures.nested honest start nested)
+    (subst (λ (x : Sources). AllGiven x n mid c.take_token.new.self.open_files) (sym c.in_ok-take_token.ensures.sources) (c.in_ok-take_token.ensures.given_all honest start nested h)))

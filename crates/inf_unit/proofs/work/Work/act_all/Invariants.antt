@@ -1,9 +1,0 @@
-use Rattle.std.proofs.Common.{◌≡◌, drop}
-use Rattle.inf_unit.specs.Actions.{acted}
-use Rattle.inf_unit.specs.Works.{unit, work}
-use Rattle.inf_unit.proofs.work.Work.act_all.Given as goal
-
--- the actions that are left lead from here to where all lead
-abbrev pub invariant-loop-action : goal.invariant-loop-action
-invariant-loop-action l =
-    acted l.files.names (unit l.at_hand) l.place (drop l.action-index l.actions) (work l.self) ≡ acted l.files.names (unit l.at_hand) l.place l.actions (work l.fn.self)

@@ -1,0 +1,4 @@
+pub mod TextWords
+pub mod Emitting
+pub mod Growing
+pub mod OperandSteps

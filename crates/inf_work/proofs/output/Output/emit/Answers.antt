@@ -1,0 +1,11 @@
+-- What code answers is what the output comes to.
+use Rattle.inf_work.proofs.Growing.{refuses, grew_output, grew_full}
+use Rattle.inf_work.proofs.output.Output.emit.Goals as goal
+
+pub returns-clause-output : goal.returns-clause-output
+returns-clause-output c =
+    grew_output (λ code. record { code = code; is_lost = c.args.self.now.is_lost }) c.emit.result c.full_in.result _ _ _ _ c.emit.ensures.ok c.emit.ensures.err
+    (refuses c.emit.result _ c.emit.ensures.fault) c.full_in.ensures.full
+
+pub returns-clause-full : goal.returns-clause-full
+returns-clause-full c = grew_full c.emit.result c.full_in.result _ (refuses c.emit.result _ c.emit.ensures.fault) c.full_in.ensures.full

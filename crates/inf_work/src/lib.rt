@@ -1,0 +1,7 @@
+//! What the units of a source do: the actions of the grammar gather the parts of a unit, which at its end makes code and messages.
+#![tactic(auto)]
+
+mod instructions;
+mod operands;
+pub mod output;
+pub mod work;

@@ -1,0 +1,126 @@
+//! Routines that are replaced, and warnings that are not told.
+use crate::compile::run;
+use crate::devices::folder_of;
+use inf_compile::Status;
+use inf_compile::compile::compile;
+use inf_symbol::memory_sink::MemorySink;
+use inf_words::command_line::CommandLine;
+use std::test::Fail;
+
+/// Files of a folder, with all messages of `t.inf` among them.
+const FOLDERS: [(&[(&str, &[u8])], &str); 8] = [
+    // A routine of a file that is marked gives nothing: no name, no error, no warning.
+    (
+        &[
+            (
+                "t.inf",
+                b"Replace R; Include \"l\"; [ R; ]; [ Main; R(); ];",
+            ),
+            (
+                "l.h",
+                b"System_file; [ R x x; true(); G(); ]; [ F y; return y; ];",
+            ),
+        ],
+        "Errors: 0, warnings: 0\n",
+    ),
+    // Its tokens have to fit.
+    (
+        &[
+            ("t.inf", b"Replace R; Include \"l\"; [ R; ]; [ Main; ];"),
+            ("l.h", b"System_file;\n[ R; ); ]; [ R; ];"),
+        ],
+        "l.h(2): Error: Syntax error at \")\"\nErrors: 1, warnings: 0 (no output)\n",
+    ),
+    // Without the mark it is as any other, and so is one before the directive.
+    (
+        &[
+            ("t.inf", b"Replace R; Include \"l\";\n[ R; ]; [ Main; ];"),
+            ("l.h", b"[ R; ];"),
+        ],
+        "t.inf(2): Error: \"R\" was declared at l.h(1)\nErrors: 1, warnings: 0 (no output)\n",
+    ),
+    (
+        &[
+            ("t.inf", b"Include \"l\"; Replace R;\n[ R; ]; [ Main; ];"),
+            ("l.h", b"System_file; [ R; ];"),
+        ],
+        "t.inf(2): Error: \"R\" was declared at l.h(1)\nErrors: 1, warnings: 0 (no output)\n",
+    ),
+    // The mark holds of its own file from there on: not of one that it includes, and again behind that one.
+    (
+        &[
+            ("t.inf", b"Replace R; Replace S; Include \"l\"; [ Main; ];"),
+            ("l.h", b"System_file; Include \"m\"; [ R; ]; [ S; ];"),
+            ("m.h", b"[ R; ]; [ S; ];"),
+        ],
+        "Errors: 0, warnings: 0\n",
+    ),
+    // `Replace` is a use of its name, told where it is the first.
+    (
+        &[(
+            "t.inf",
+            b"[ Main; ];\nReplace r;\nReplace R; System_file; [ R; ];",
+        )],
+        "t.inf(2): Error: \"r\" was never declared\nErrors: 1, warnings: 0 (no output)\n",
+    ),
+    (
+        &[("t.inf", b"Replace;\nReplace R S;\n[ Main; ];")],
+        "t.inf(1): Error: Syntax error at \";\"\nt.inf(2): Error: Syntax error at \"S\"\nErrors: 2, warnings: 0 (no output)\n",
+    ),
+    // A file that is entered again is not marked yet.
+    (
+        &[
+            (
+                "t.inf",
+                b"Replace R; Include \"l\";\nInclude \"l\"; [ Main; ];",
+            ),
+            ("l.h", b"[ R; ]; System_file; [ R; ];"),
+        ],
+        "l.h(1): Error: \"R\" was declared at l.h(1)\nErrors: 1, warnings: 0 (no output)\n",
+    ),
+];
+
+#[test]
+fn routines_are_replaced(rt: HostRuntime) -> Result<(), Fail> {
+    for (files, lines) in &FOLDERS {
+        let mut files = folder_of(rt.alloc(), *files)?;
+        let mut messages = MemorySink::new(rt.alloc());
+        let mut story = MemorySink::new(rt.alloc());
+        let status = run(rt.alloc(), &mut files, &mut messages, &mut story)??;
+        assert_eq!(rt; messages.bytes(), lines.as_bytes(), "{lines:?}");
+        let is_clean = lines.ends_with("Errors: 0, warnings: 0\n");
+        assert_eq!(rt; status == Status::Success, is_clean, "{lines:?}");
+    }
+    Ok(())
+}
+
+#[test]
+fn warnings_are_not_told_where_a_word_says_so(rt: HostRuntime) -> Result<(), Fail> {
+    let source: [(&str, &[u8]); 1] = [(
+        "t.inf",
+        b"[ Main x; ]; Message warning \"a\"; Message \"b\";",
+    )];
+    for (words, lines) in [
+        (["-w", "t.inf"], "b\nErrors: 0, warnings: 0\n"),
+        (
+            ["-w~w", "t.inf"],
+            "t.inf(1): Warning: Local \"x\" is unused\nt.inf(1): Warning: a\nb\nErrors: 0, warnings: 2\n",
+        ),
+    ] {
+        let options = CommandLine::read(&words)?;
+        let mut files = folder_of(rt.alloc(), &source)?;
+        let mut messages = MemorySink::new(rt.alloc());
+        let mut story = MemorySink::new(rt.alloc());
+        let status = compile(
+            rt.alloc(),
+            &options,
+            *b"260307",
+            &mut files,
+            &mut messages,
+            &mut story,
+        )?;
+        assert_eq!(rt; messages.bytes(), lines.as_bytes(), "{lines:?}");
+        assert_eq!(rt; status == Status::Success, true);
+    }
+    Ok(())
+}
