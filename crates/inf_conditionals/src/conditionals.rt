@@ -73,7 +73,8 @@ const KEPT: Judged = Judged {
 
 impl Conditionals {
     ghost use Rattle.inf_conditionals.specs.Ends.{file_entered, file_left, file_told, piece_ended, piece_told};
-    ghost use Rattle.inf_conditionals.specs.Judging.{awaited, awaiting, begun, behind_front, behind_sign, effected, held, in_side, is_none_pending, judged, offered, unfit, word_passed};
+    ghost use Rattle.inf_conditionals.specs.Judging.{awaited, awaiting, begun, behind_front, behind_sign, effected, held, in_side, is_none_pending, judged, kept, offered, unfit, word_passed};
+    ghost use Rattle.inf_names.specs.Symbols.{Table};
     ghost use Rattle.inf_conditionals.specs.Open.{closed, is_none_open, is_second, latest, no_conditions, opened, turned};
 
     /// None. It takes no memory until one is read.
@@ -92,6 +93,17 @@ impl Conditionals {
         }
     }
 
+    /// Whether it is seen at once that a token is kept and nothing else comes of it, as of most tokens.
+    fn keeps(&self, site: Site, token: &Spelled<'_>) -> bool
+        ensures { (names : Table Place) → result ≡ true → judged site names (spelled token.now) self.now ≡ kept self.now }
+    {
+        self.left_out.is_none()
+            && self.sign.is_none()
+            && self.pending.is_empty()
+            && !site.is_between
+            && !is_mark(token.kind, Mark::Hash)
+    }
+
     /// Takes the next token of the innermost file, and answers what becomes of it. A name has at most 32 bytes.
     pub fn take(
         &mut self,
@@ -102,6 +114,9 @@ impl Conditionals {
         requires { IsSome (name_of (spelled token.now)) → length token.now.bytes.now ≤ 32 }
         ensures { IfOk result (λ j. record { now = self.new; judged = j } ≡ judged site names.now (spelled token.now) self.old) }
     {
+        if self.keeps(site, token) {
+            return Ok(KEPT);
+        }
         if let Some(side) = self.left_out {
             return self.take_in_side(side, site.is_quiet, names, token);
         }

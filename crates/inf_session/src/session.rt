@@ -426,6 +426,9 @@ impl<'a> Session<'a> {
         if matches!(self.progress.reader.mode, Mode::Ended) {
             return self.leave(files);
         }
+        if !self.progress.work.asks() {
+            return Ok(());
+        }
         match self.progress.work.take_asked() {
             Asked::Include { text, unit } => self.include(files, text.as_slice(), unit),
             Asked::End => {

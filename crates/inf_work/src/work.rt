@@ -1,5 +1,5 @@
 //! What the actions of the grammar do: they gather the parts of a unit, which acts at its end.
-ghost use Rattle.std.specs.Prelude.{◌≡◌, [], IfOk, OnOk, None, is_some, map, option_map};
+ghost use Rattle.std.specs.Prelude.{◌≡◌, [], IfOk, OnOk, None, false, is_some, map, option_map};
 ghost use Rattle.inf_symbol.specs.Spellings.{as_name};
 ghost use Rattle.inf_symbol.specs.LocalList.{headed as as_headed, listed, repeated as repeated_of};
 ghost use Rattle.inf_symbol.specs.Locals.{no_locals, with_all_named, with_locals};
@@ -179,6 +179,13 @@ impl Work {
         self.gather(None, None, None);
         self.gathered.quoted.clear();
         self.gathered.quoted.extend_from_slice(bytes)
+    }
+
+    /// Whether a directive asks something of the reading.
+    pub fn asks(&self) -> bool
+        ensures { result ≡ false → (work self.now).asked ≡ Nothing }
+    {
+        !matches!(self.asked, Asked::Nothing)
     }
 
     /// Takes away what a directive asks of the reading, which is then nothing.
