@@ -1,5 +1,5 @@
 -- The directives that are one unit, and what they ask of the reading.
-use Rattle.std.specs.Prelude.{ℕ, List, [], ◌∷◌, codes, if◌then◌else◌, Option, Some, None}
+use Rattle.std.specs.Prelude.{ℕ, List, [], ◌∷◌, codes, Bool, true, false, if◌then◌else◌, Option, Some, None}
 use Rattle.std.specs.Str.{str_eq_ignore_ascii_case}
 use Rattle.inf_scanner.specs.declared.tokens.Place.{Place}
 use Rattle.inf_report.specs.declared.messages.Kind.{Kind}
@@ -17,6 +17,11 @@ pub data Asked : Type 0 where
   Nothing : Asked
   Include : (text : List ℕ) (unit : Place) → Asked
   End : Asked
+
+-- whether something is asked
+abbrev pub asks : Asked → Bool
+asks Nothing = false
+asks _ = true
 
 -- what the code's words stand for
 abbrev pub asked : CodeAsked → Asked

@@ -1,5 +1,5 @@
 //! What the actions of the grammar do: they gather the parts of a unit, which acts at its end.
-ghost use Rattle.std.specs.Prelude.{◌≡◌, [], IfOk, OnOk, None, false, is_some, map, option_map};
+ghost use Rattle.std.specs.Prelude.{◌≡◌, [], IfOk, OnOk, None, is_some, map, option_map};
 ghost use Rattle.inf_symbol.specs.Spellings.{as_name};
 ghost use Rattle.inf_symbol.specs.LocalList.{headed as as_headed, listed, repeated as repeated_of};
 ghost use Rattle.inf_symbol.specs.Locals.{no_locals, with_all_named, with_locals};
@@ -129,7 +129,7 @@ pub struct Work {
 
 impl Work {
     ghost use Rattle.inf_work.specs.Actions.{no_work, directive_end, constant, entered, is_replaced, left, replace, words_of, header, header_with, close, statement_end, call, return_of, with_instruction, checked, printed, act, acted};
-    ghost use Rattle.inf_unit.specs.Directives.{Nothing, Include, asked, weight_of};
+    ghost use Rattle.inf_unit.specs.Directives.{Nothing, Include, asked, asks, weight_of};
     ghost use Rattle.inf_unit.specs.AtHand.{unit};
     ghost use Rattle.inf_work.specs.Works.{gathered, work};
 
@@ -183,7 +183,7 @@ impl Work {
 
     /// Whether a directive asks something of the reading.
     pub fn asks(&self) -> bool
-        ensures { result ≡ false → (work self.now).asked ≡ Nothing }
+        ensures { result ≡ asks (work self.now).asked }
     {
         !matches!(self.asked, Asked::Nothing)
     }
