@@ -1,65 +1,59 @@
-//! Bytes that are patched, moved and cut, also over the edges of pages.
-use crate::items::bytes_of;
+//! What is done to areas.
+use crate::words::{bytes_of, number_or, word};
 use inf_area::{Area, FlatArea, PagedArea};
-use std::alloc::Global;
-use std::process::Abort;
-use std::test::Fail;
+use std::alloc::{AllocError, Global};
 
-// So many bytes 0 behind what is there.
-fn push_zeros<A: Area>(area: &mut A, count: usize) -> Result<(), Fail> {
-    for _ in 0..count {
-        area.push(0)?;
+/// Does one thing to an area: nothing where it does not lie within.
+fn act<A: Area>(area: &mut A, step: &str) -> Result<(), AllocError> {
+    let len = area.len();
+    let (first, second, third) = (
+        number_or(step, 1, 0),
+        number_or(step, 2, 0),
+        number_or(step, 3, 0),
+    );
+    match word(step, 0) {
+        "push" => {
+            for _ in 0..second {
+                area.push((first % 256) as u8)?;
+            }
+        }
+        "append" => area.append(&[1, 2, 3, 4, 5])?,
+        "byte" if first < len => area.patch_byte(first, (second % 256) as u8),
+        "word" if first < len && len - first > 1 => area.patch_word(
+            first,
+            (second % 65_536) as u16,
+        ),
+        "move" if first <= second && second <= third && third <= len => area.move_left(
+            first, second, third,
+        ),
+        "cut" if first <= len && second <= len - first => area.cut(first, second),
+        _ => {}
     }
     Ok(())
 }
 
-fn over_an_edge<A: Area>(rt: &impl Abort, alloc: Global, area: &mut A) -> Result<(), Fail> {
-    push_zeros(area, 1025)?;
-    assert_eq!(rt; area.len(), 1025);
-    area.patch_word(1023, 0x1234);
-    assert_eq!(rt; area.len(), 1025);
-    area.cut(0, 1);
-    let bytes = bytes_of(alloc, area)?;
-    assert_eq!(rt; bytes.len(), 1024);
-    assert!(rt; bytes.iter().take(1022).all(|byte| *byte == 0));
-    assert_eq!(rt; [bytes[1022], bytes[1023]], [0x12, 0x34]);
-    Ok(())
+/// What is in an area behind each of the things that are done to it.
+fn told_of<A: Area>(alloc: Global, area: &mut A, line: &str) -> Result<String, AllocError> {
+    let mut told = bytes_of(alloc, area)?;
+    for step in line.split(" | ").skip(1) {
+        act(area, step)?;
+        told.push_str(format!(in alloc; "; {} {}", area.len(), bytes_of(alloc, area)?)?.as_str())?;
+    }
+    Ok(told)
 }
 
-#[test]
-fn a_word_over_the_edge_of_a_page(rt: HostRuntime) -> Result<(), Fail> {
-    over_an_edge(&rt, rt.alloc(), &mut FlatArea::new(rt.alloc()))?;
-    over_an_edge(&rt, rt.alloc(), &mut PagedArea::new(rt.alloc()))?;
-    Ok(())
+/// One answer, or two where they are not the same.
+pub(crate) fn both(alloc: Global, flat: String, paged: String) -> Result<String, AllocError> {
+    if flat.as_str() == paged.as_str() {
+        Ok(flat)
+    } else {
+        format!(in alloc; "{flat}, and in pages {paged}")
+    }
 }
 
-fn patched<A: Area>(rt: &impl Abort, alloc: Global, area: &mut A) -> Result<(), Fail> {
-    area.append(&[1, 2, 3, 4, 5])?;
-    assert_eq!(rt; area.len(), 5);
-    area.patch_word(1, 0xABCD);
-    assert_eq!(rt; area.len(), 5);
-    area.patch_byte(4, 9);
-    assert_eq!(rt;
-        bytes_of(alloc, area)?.as_slice(),
-        [1, 0xAB, 0xCD, 4, 9].as_slice()
-    );
-    assert_eq!(rt; area.len(), 5);
-    area.move_left(0, 3, 5);
-    assert_eq!(rt;
-        bytes_of(alloc, area)?.as_slice(),
-        [4, 9, 0xCD, 4, 9].as_slice()
-    );
-    assert_eq!(rt; area.len(), 5);
-    area.cut(1, 2);
-    assert_eq!(rt; bytes_of(alloc, area)?.as_slice(), [4, 4, 9].as_slice());
-    area.push(7)?;
-    assert_eq!(rt; bytes_of(alloc, area)?.as_slice(), [4, 4, 9, 7].as_slice());
-    Ok(())
-}
-
-#[test]
-fn bytes_are_patched_and_cut(rt: HostRuntime) -> Result<(), Fail> {
-    patched(&rt, rt.alloc(), &mut FlatArea::new(rt.alloc()))?;
-    patched(&rt, rt.alloc(), &mut PagedArea::new(rt.alloc()))?;
-    Ok(())
+/// What comes of a line of things that are done to both areas.
+pub(crate) fn answer(alloc: Global, line: &str) -> Result<String, AllocError> {
+    let flat = told_of(alloc, &mut FlatArea::new(alloc), line)?;
+    let paged = told_of(alloc, &mut PagedArea::new(alloc), line)?;
+    both(alloc, flat, paged)
 }

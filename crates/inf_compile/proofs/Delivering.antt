@@ -1,12 +1,13 @@
 -- What a story's sink takes of what was compiled.
-use Rattle.std.proofs.Common.{◌≡◌, ℕ, Bool, List, Option, ap, subst, ◌∙◌}
+use Rattle.std.proofs.Common.{◌≡◌, inl, inr, ℕ, Bool, List, Option, Some, None, ap, subst, sym, ◌∙◌}
 use Rattle.inf_characters.specs.declared.characters.CharSet.{CharSet}
 use Rattle.inf_settings.specs.declared.settings.Settings.{Settings}
 use Rattle.inf_token.specs.Files.{Openings, Sources}
 use Rattle.inf_session.specs.Choices.{Choices}
-use Rattle.inf_session.specs.Comes.{Begins, Comes}
+use Rattle.inf_session.specs.Comes.{Begins, Comes, OpenedBy, OpenedPart}
 use Rattle.inf_session.specs.Leading.{IsFront}
 use Rattle.inf_session.specs.Outcome.{Ending}
+use Rattle.inf_session.specs.Session.{State}
 use Rattle.inf_session.proofs.Leadings.{front_same}
 use Rattle.inf_session.proofs.OutcomeLaws.{outcomes_are_unique}
 use Rattle.inf_session.specs.declared.translation.Compiled.{Compiled}
@@ -47,6 +48,21 @@ begins_whole s o p serial name other old new before after c same named k =
           subst (λ (x : Ending). IsFront k.ending.messages x.messages) (outcomes_are_unique s o serial name k.ending e k.is_outcome outcome)
           (front_same k.ending.messages);
     }))
+
+-- All openings of the reading are those of its turns.
+opened_by : (x : Option (List ℕ)) (s : Sources) (o : Choices) (name : List ℕ) (old new : Openings) → OpenedBy x s o name old new → OpenedPart s o name old new
+opened_by None s o name old new same = inl same
+opened_by (Some source) s o name old new w = inr (record {
+  turns = w.is_read.turns;
+  names = w.names ∙ ap (λ (t : State). t.nesting.openings) (sym w.is_read.leads);
+  closed = w.closed;
+})
+
+pub opened_whole : (s : Sources) (o p : Choices) (serial name other : List ℕ) (old new : Openings) (before after : Option (List ℕ)) (c : Compiled)
+    → o ≡ p → name ≡ other → Comes s o serial name old new before after c → OpenedPart s p other old new
+opened_whole s o p serial name other old new before after c same named k =
+    subst (λ (x : Choices). OpenedPart s x other old new) same
+    (subst (λ (n : List ℕ). OpenedPart s o n old new) named (opened_by (s name) s o name old new k.opened))
 
 -- what is chosen, by its parts
 abbrev pub made : CharSet → Bool → Settings → List (List ℕ) → Choices

@@ -1,7 +1,7 @@
 ghost use Rattle.std.specs.Prelude.{◌≡◌, IsTrue, IfOk, IfErr, Ok, OnOk, OnErr};
 ghost use Rattle.inf_token.specs.Files.{Rose};
 ghost use Rattle.inf_words.specs.FileNames.{source_name};
-ghost use Rattle.inf_session.specs.Comes.{Begins, Heard, IsUnread, OpenedBy};
+ghost use Rattle.inf_session.specs.Comes.{Begins, Heard, IsUnread, OpenedBy, OpenedPart};
 ghost use Rattle.inf_session.specs.Session.{start};
 ghost use Rattle.inf_session.specs.Faults.{IfMessages, IfRead, IfStory, UnlessStory};
 ghost use Rattle.inf_compile.specs.Compiling.{Compiles, DeliversPart, OnlyStory, TakesPart, TakesStory, chosen_by, story_in};
@@ -57,6 +57,10 @@ pub fn compile<F: Files, M: Sink, S: Sink>(
     ensures once { let name = source_name options.now.source in
         IsTrue (F.is_honest files.old) → OnOk result
         (OpenedBy (F.sources files.old name) (F.sources files.old) (chosen_by options.now) name (F.openings files.old) (F.openings files.new)) }
+
+    // Where a fault is answered they are those of the reading up to some turn.
+    ensures opened { IsTrue (F.is_honest files.old) → OnErr result
+        (OpenedPart (F.sources files.old) (chosen_by options.now) (source_name options.now.source) (F.openings files.old) (F.openings files.new)) }
 
     // Where a fault is answered, a front of the outcome's messages was written.
     ensures begins { IsTrue (F.is_honest files.old) → OnErr result

@@ -7,19 +7,19 @@ use Rattle.inf_sources.specs.Cursors.{Cursor}
 use Rattle.inf_lexer.specs.Unread.{View, innermost_place, unread_of}
 use Rattle.inf_sources.proofs.Places.{innermost_of, last_of}
 use Rattle.inf_conditionals.specs.Open.{Conditions, no_conditions}
-use Rattle.inf_sources.specs.Open.{AllGiven, AreCounted, AreNested, IsCounted, IsGiven, IsNested, NamesAreOpened, Open, closed_to, cursor_of, cursors_at, nesting, rest_of}
+use Rattle.inf_sources.specs.Open.{AllGiven, AreCounted, AreNested, IsCounted, IsGiven, IsNested, NamesAreOpened, Open, closed_to, cursor_of, cursors_at, nesting, opened_since, rest_of}
 use Rattle.inf_reader.specs.Reading.{Stand}
 use Rattle.inf_session.specs.Session.{begun_with}
 use Rattle.inf_reader.specs.Standing.{standing}
 use Rattle.inf_session.specs.Choices.{Choices, most_quoted}
-use Rattle.inf_session.specs.Comes.{AreNear, Begins, Comes, Concludes, Delivers, GaveTooMuch, Heard, IsUnread, OpenedBy, Stops, TakesFront, WereOpened}
+use Rattle.inf_session.specs.Comes.{AreNear, Begins, Comes, Concludes, Delivers, GaveTooMuch, Heard, IsUnread, OpenedBy, OpenedSome, Stops, TakesFront, WereOpened}
 use Rattle.inf_session.specs.Faults.{IfRead}
 use Rattle.inf_session.specs.Given.{GivesAtLeast, IsUnreadable, given_to}
 use Rattle.inf_characters.specs.declared.characters.CharSet.{CharSet}
 use Rattle.inf_lexer.specs.Readers.{Reader, at_front}
 use Rattle.inf_session.specs.declared.faults.Fault.{Fault}
 use Rattle.inf_session.specs.declared.faults.Fault.TheVariants as fault
-use Rattle.inf_session.specs.Leading.{CutsShort, IsFront, Writes, WroteAll}
+use Rattle.inf_session.specs.Leading.{CutsShort, IsFront, OpensAll, Writes, WroteAll}
 use Rattle.inf_session.specs.Outcome.{Ending, IsCompiled, IsOutcomeOf, ending_of, finished}
 use Rattle.inf_session.specs.Session.{IsRead, State, has_ended, run, start}
 use Rattle.inf_session.specs.Standing.{state}
@@ -236,3 +236,12 @@ heard_of s o was old new turns all = record { turns = turns; takes = subst (λ (
 -- before the first turn nothing is
 pub heard_none : (s : Sources) (o : Choices) (name : List ℕ) (old new : Option (List ℕ)) → new ≡ old → Heard s o (start s o name) old new
 heard_none s o name old new e = record { turns = zero; takes = subst (λ (n : Option (List ℕ)). Takes old n []) (sym e) (takes_none old) }
+
+-- what was opened where reading was given up
+pub opened_some : (s : Sources) (o : Choices) (name : List ℕ) (old now new : Openings) (was : List ℕ → State) (turns : ℕ) → was [] ≡ start s o name
+    → new ≡ closed_to old now → OpensAll (run s o turns) was (opened_since old now) → OpenedSome s o name old new
+opened_some s o name old now new was turns begun closed h = record {
+  turns = turns;
+  names = ap (λ (p : Openings). opened_since old p) closed ∙ h [] ∙ ap (λ (x : State). (run s o turns x).nesting.openings) begun;
+  closed = ap (λ (p : Openings). p.open_places) closed;
+}

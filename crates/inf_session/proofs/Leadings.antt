@@ -1,5 +1,5 @@
 -- Where turns lead: what has ended stays, turns follow one another, and what was written is only added to.
-use Rattle.std.proofs.Common.{◌≡◌, ℕ, suc, zero, ◌+◌, ◌||◌, List, [], ◌∷◌, ◌++◌, Bool, true, false, Option, Some, None, cond, refl, sym, ap, subst, ◌∙◌, append_assoc, append-nil, arith}
+use Rattle.std.proofs.Common.{◌≡◌, inl, inr, ℕ, suc, zero, ◌+◌, ◌||◌, List, [], ◌∷◌, ◌++◌, Bool, true, false, Option, Some, None, cond, refl, sym, ap, subst, ◌∙◌, append_assoc, append-nil, arith}
 use Rattle.inf_token.specs.Files.{Sources}
 use Rattle.inf_symbol.specs.Sinks.{Takes}
 use Rattle.inf_unit.proofs.Cases.{of_both}
@@ -11,7 +11,7 @@ use Rattle.inf_unit.specs.Directives.{Asked, Nothing, Include, End}
 use Rattle.inf_reader.specs.Reading.{is_mode_ended}
 use Rattle.inf_scanner.specs.declared.tokens.Place.{Place}
 use Rattle.inf_session.specs.Choices.{Choices}
-use Rattle.inf_session.specs.Leading.{CutsShort, IsFront, Writes, WroteAll}
+use Rattle.inf_session.specs.Leading.{CutsShort, IsFront, OpensAll, OpensWithin, Writes, WroteAll}
 use Rattle.inf_session.specs.Session.{State, answered, asked_nothing, file_closed, followed, has_ended, heeded, included_by, is_parted, is_resting, left, left_by, none_included, part, piece_closed, rested, run, stepped, turn}
 
 -- Fronts
@@ -320,3 +320,30 @@ wrote_on sources o a b was mid old between new w all = record {
       ap (λ (s : State). s.told) (run_sum sources o a b (was told)) ∙ ap (λ (s : State). (run sources o b s).told) (sym (w.same told))
       ∙ all.same (told ++ w.lines) ∙ append_assoc told w.lines all.lines;
 }
+
+-- What has been opened where reading was given up
+
+-- in a turn, behind others
+pub opened_then : (sources : Sources) (o : Choices) (n : ℕ) (was mid : List ℕ → State) (old between : Option (List ℕ)) (openings : List (List ℕ))
+    → ((told : List ℕ) → has_ended (mid told) ≡ false) → Writes (run sources o n) was mid old between → OpensWithin (turn sources o) mid openings
+    → (turns : ℕ) × OpensAll (run sources o turns) was openings
+opened_then sources o n was mid old between openings going w (inl h) =
+    (n, λ told. h (told ++ w.lines) ∙ ap (λ (s : State). s.nesting.openings) (w.same told))
+opened_then sources o n was mid old between openings going w (inr h) = (
+  suc n,
+  λ told.
+      h (told ++ w.lines) ∙ ap (λ (s : State). (turn sources o s).nesting.openings) (w.same told)
+      ∙ ap (λ (s : State). s.nesting.openings) (sym (run_more sources o n (was told) (ap has_ended (sym (w.same told)) ∙ going (told ++ w.lines)))),
+)
+
+-- in some turns, behind others
+pub opened_on : (sources : Sources) (o : Choices) (a b : ℕ) (was mid : List ℕ → State) (old between : Option (List ℕ)) (openings : List (List ℕ))
+    → Writes (run sources o a) was mid old between → OpensAll (run sources o b) mid openings → OpensAll (run sources o (a + b)) was openings
+opened_on sources o a b was mid old between openings w h = λ told.
+    h (told ++ w.lines) ∙ ap (λ (s : State). (run sources o b s).nesting.openings) (w.same told)
+    ∙ ap (λ (s : State). s.nesting.openings) (sym (run_sum sources o a b (was told)))
+
+-- behind turns that came to their end
+pub opened_behind : (sources : Sources) (o : Choices) (n : ℕ) (was now : List ℕ → State) (old new : Option (List ℕ)) (openings : List (List ℕ))
+    → Writes (run sources o n) was now old new → OpensAll (λ s. s) now openings → OpensAll (run sources o n) was openings
+opened_behind sources o n was now old new openings w h = λ told. h (told ++ w.lines) ∙ ap (λ (s : State). s.nesting.openings) (w.same told)

@@ -1,5 +1,6 @@
 pub mod Endings
 pub mod Leadings
+pub mod Opening
 pub mod Weighing
 pub mod Standings
 pub mod Concluding

@@ -5,7 +5,7 @@ use Rattle.inf_symbol.specs.Sinks.{Takes}
 use Rattle.inf_session.specs.Choices.{Choices}
 use Rattle.inf_session.specs.Leading.{IsFront}
 use Rattle.inf_sources.specs.Cursors.{Cursor}
-use Rattle.inf_sources.specs.Open.{IsGiven, IsNested, Open, nesting}
+use Rattle.inf_sources.specs.Open.{IsGiven, IsNested, Open, nesting, opened_since}
 use Rattle.inf_session.specs.Outcome.{Ending, IsOutcome, ending_of}
 use Rattle.inf_session.specs.Session.{IsRead, State, run, start}
 use Rattle.inf_session.specs.declared.translation.Compiled.{Compiled}
@@ -45,6 +45,17 @@ pub record WereOpened (sources : Sources) (o : Choices) (name : List ℕ) (old n
 abbrev pub OpenedBy : Option (List ℕ) → Sources → Choices → List ℕ → Openings → Openings → Type 0
 OpenedBy None sources o name old new = new ≡ old
 OpenedBy (Some source) sources o name old new = WereOpened sources o name old new
+
+-- Where reading was given up, the openings behind those that were there before are those of so many turns from the start, in their
+-- order, each once; all were closed again.
+pub record OpenedSome (sources : Sources) (o : Choices) (name : List ℕ) (old new : Openings) : Type 0 where
+  pub turns : ℕ
+  pub names : opened_since old new ≡ (run sources o turns (start sources o name)).nesting.openings
+  pub closed : new.open_places ≡ old.open_places
+
+-- or nothing was opened at all
+abbrev pub OpenedPart : Sources → Choices → List ℕ → Openings → Openings → Type 0
+OpenedPart sources o name old new = (new ≡ old) ⊎ OpenedSome sources o name old new
 
 -- What was written, answered and opened is what comes of the main source of this name.
 pub record Comes (sources : Sources) (o : Choices) (serial name : List ℕ) (old new : Openings) (before after : Option (List ℕ)) (c : Compiled) : Type 0 where

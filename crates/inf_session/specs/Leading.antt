@@ -1,5 +1,5 @@
 -- What some turns of reading lead to, and what they write.
-use Rattle.std.specs.Prelude.{◌≡◌, ℕ, List, ◌++◌, Option}
+use Rattle.std.specs.Prelude.{◌≡◌, ℕ, ◌⊎◌, List, ◌++◌, Option}
 use Rattle.inf_symbol.specs.Sinks.{Takes}
 use Rattle.inf_session.specs.Session.{State}
 
@@ -25,3 +25,11 @@ pub record WroteAll (step : State → State) (was : List ℕ → State) (old new
   pub lines : List ℕ
   pub takes : Takes old new lines
   pub same : (told : List ℕ) → (step (was told)).told ≡ told ++ lines
+
+-- What has been opened is all that some reading opens.
+abbrev pub OpensAll : (State → State) → (List ℕ → State) → List (List ℕ) → Type 0
+OpensAll step was openings = (told : List ℕ) → openings ≡ (step (was told)).nesting.openings
+
+-- Where a step of reading was given up, it is what was opened before, or all that the step opens.
+abbrev pub OpensWithin : (State → State) → (List ℕ → State) → List (List ℕ) → Type 0
+OpensWithin step was openings = OpensAll (λ s. s) was openings ⊎ OpensAll step was openings

@@ -3,14 +3,14 @@ ghost use Rattle.std.specs.Prelude.{◌≡◌, ℕ, ◌+◌, ◌<◌, ◌≤◌,
 ghost use Rattle.inf_token.specs.Files.{Openings, Rose, Sources};
 ghost use Rattle.inf_reader.specs.Reading.{has_ended_at, is_mode_ended};
 ghost use Rattle.inf_reader.specs.Standing.{standing};
-ghost use Rattle.inf_sources.specs.Open.{AllGiven, IsNested, NamesAreOpened};
+ghost use Rattle.inf_sources.specs.Open.{AllGiven, IsNested, NamesAreOpened, opened_since};
 ghost use Rattle.inf_session.specs.Choices.{chosen};
 ghost use Rattle.inf_session.specs.Faults.{IfMessages, IfRead, IfStory, IsOfReading};
 ghost use Rattle.inf_session.specs.Comes.{Delivers, TakesFront};
 ghost use Rattle.inf_session.specs.Given.{GivesAtLeast, IsUnreadable};
 ghost use Rattle.inf_session.specs.Outcome.{finished};
 ghost use Rattle.inf_work.specs.Works.{work as work_of};
-ghost use Rattle.inf_session.specs.Leading.{CutsShort, Writes, WroteAll};
+ghost use Rattle.inf_session.specs.Leading.{CutsShort, OpensAll, OpensWithin, Writes, WroteAll};
 ghost use Rattle.inf_conditionals.specs.Open.{no_conditions};
 ghost use Rattle.inf_session.specs.Session.{begun_with, followed, heeded, included, left, part, quoted_behind, quoted_bytes, rested, run, stepped, turn};
 ghost use Rattle.inf_session.specs.Standing.{IsSet, came_to, ended, held_by, parted, resting, state};
@@ -107,7 +107,10 @@ impl<'a> Session<'a> {
             OnErr result ((turns : ℕ) × CutsShort (run (F.sources files.old) (chosen self.old.setup) turns)
             (state (F.sources files.old) start (F.openings files.old) self.old) (M.taken messages.old) (M.taken messages.new)) }
         ensures nested { IsTrue (F.is_honest files.old) → (start : Openings) → IsNested start (F.openings files.old) self.old.open_files →
-            OnOk result (IsNested start (F.openings files.new) self.new.open_files) }
+            IsNested start (F.openings files.new) self.new.open_files }
+        ensures opened { IsTrue (F.is_honest files.old) → (start : Openings) → IsNested start (F.openings files.old) self.old.open_files →
+            OnErr result ((turns : ℕ) × OpensAll (run (F.sources files.old) (chosen self.old.setup) turns)
+            (state (F.sources files.old) start (F.openings files.old) self.old) (opened_since start (F.openings files.new))) }
 
         // With any reader.
         ensures ended { OnOk result (ended self.new ≡ true) }
@@ -163,7 +166,10 @@ impl<'a> Session<'a> {
             OnErr result ((turns : ℕ) × CutsShort (run (F.sources files.old) (chosen self.old.setup) turns)
             (state (F.sources files.old) start (F.openings files.old) self.old) (M.taken messages.old) (M.taken messages.new)) }
         ensures nested { IsTrue (F.is_honest files.old) → (start : Openings) → IsNested start (F.openings files.old) self.old.open_files →
-            OnOk result (IsNested start (F.openings files.new) self.new.open_files) }
+            IsNested start (F.openings files.new) self.new.open_files }
+        ensures opened { IsTrue (F.is_honest files.old) → (start : Openings) → IsNested start (F.openings files.old) self.old.open_files →
+            OnErr result ((turns : ℕ) × OpensAll (run (F.sources files.old) (chosen self.old.setup) turns)
+            (state (F.sources files.old) start (F.openings files.old) self.old) (opened_since start (F.openings files.new))) }
 
         // With any reader.
         ensures parted { OnOk result (parted self.new ≡ true) }
@@ -284,7 +290,10 @@ impl<'a> Session<'a> {
             OnErr result (CutsShort (turn (F.sources files.old) (chosen self.old.setup))
             (state (F.sources files.old) start (F.openings files.old) self.old) (M.taken messages.old) (M.taken messages.new)) }
         ensures nested { IsTrue (F.is_honest files.old) → (start : Openings) → IsNested start (F.openings files.old) self.old.open_files →
-            OnOk result (IsNested start (F.openings files.new) self.new.open_files) }
+            IsNested start (F.openings files.new) self.new.open_files }
+        ensures opened { IsTrue (F.is_honest files.old) → (start : Openings) → IsNested start (F.openings files.old) self.old.open_files →
+            OnErr result (OpensWithin (turn (F.sources files.old) (chosen self.old.setup))
+            (state (F.sources files.old) start (F.openings files.old) self.old) (opened_since start (F.openings files.new))) }
         ensures falls { OnOk result ((ended self.new ≡ true) ⊎ (weight self.new.open_files < weight self.old.open_files)) }
         ensures is_open { length self.new.open_files.outer < F.depth files.new }
         ensures goes { OnOk result (self.new.open_files.lexer.has_failed ≡ false) }
@@ -321,6 +330,8 @@ impl<'a> Session<'a> {
             ≡ stepped (state (F.sources files.old) start (F.openings files.old) self.old told)) }
         ensures nested { IsTrue (F.is_honest files.old) → (start : Openings) → IsNested start (F.openings files.old) self.old.open_files →
             IsNested start (F.openings files.new) self.new.open_files }
+        ensures opened { IsTrue (F.is_honest files.old) → (start : Openings) → IsNested start (F.openings files.old) self.old.open_files →
+            opened_since start (F.openings files.new) ≡ opened_since start (F.openings files.old) }
         ensures moves { OnOk result ((is_mode_ended self.new.progress.reader.mode ≡ true) ⊎ (room self.new.open_files.lexer < room self.old.open_files.lexer)) }
         ensures goes { OnOk result (self.new.open_files.lexer.has_failed ≡ false) }
         ensures same { (self.new.open_files.nest ≡ self.old.open_files.nest) × (self.new.open_files.outer ≡ self.old.open_files.outer) }
@@ -369,7 +380,10 @@ impl<'a> Session<'a> {
             OnOk result ((told : List ℕ) → state (F.sources files.old) start (F.openings files.new) self.new told
             ≡ followed (F.sources files.old) (chosen self.old.setup) (state (F.sources files.old) start (F.openings files.old) self.old told)) }
         ensures nested { IsTrue (F.is_honest files.old) → (start : Openings) → IsNested start (F.openings files.old) self.old.open_files →
-            OnOk result (IsNested start (F.openings files.new) self.new.open_files) }
+            IsNested start (F.openings files.new) self.new.open_files }
+        ensures opened { IsTrue (F.is_honest files.old) → (start : Openings) → IsNested start (F.openings files.old) self.old.open_files →
+            OnErr result (OpensWithin (followed (F.sources files.old) (chosen self.old.setup))
+            (state (F.sources files.old) start (F.openings files.old) self.old) (opened_since start (F.openings files.new))) }
         ensures goes_on { OnOk result ((ended self.new ≡ true) ⊎ GoesOn (is_mode_ended self.old.progress.reader.mode) self.old.open_files self.new.open_files) }
         ensures goes { OnOk result (self.new.open_files.lexer.has_failed ≡ false) }
         ensures setup { self.new.setup ≡ self.old.setup }
@@ -402,7 +416,10 @@ impl<'a> Session<'a> {
             OnOk result ((told : List ℕ) → state (F.sources files.old) start (F.openings files.new) self.new told
             ≡ heeded (F.sources files.old) (chosen self.old.setup) (state (F.sources files.old) start (F.openings files.old) self.old told)) }
         ensures nested { IsTrue (F.is_honest files.old) → (start : Openings) → IsNested start (F.openings files.old) self.old.open_files →
-            OnOk result (IsNested start (F.openings files.new) self.new.open_files) }
+            IsNested start (F.openings files.new) self.new.open_files }
+        ensures opened { IsTrue (F.is_honest files.old) → (start : Openings) → IsNested start (F.openings files.old) self.old.open_files →
+            OnErr result (OpensWithin (heeded (F.sources files.old) (chosen self.old.setup))
+            (state (F.sources files.old) start (F.openings files.old) self.old) (opened_since start (F.openings files.new))) }
         ensures goes_on { OnOk result ((ended self.new ≡ true) ⊎ GoesOn (is_mode_ended self.old.progress.reader.mode) self.old.open_files self.new.open_files) }
         ensures goes { OnOk result (self.new.open_files.lexer.has_failed ≡ false) }
         ensures setup { self.new.setup ≡ self.old.setup }
@@ -466,7 +483,10 @@ impl<'a> Session<'a> {
             OnOk result ((told : List ℕ) → state (F.sources files.old) start (F.openings files.new) self.new told
             ≡ included (F.sources files.old) (chosen self.old.setup) unit text.now (state (F.sources files.old) start (F.openings files.old) self.old told)) }
         ensures nested { IsTrue (F.is_honest files.old) → (start : Openings) → IsNested start (F.openings files.old) self.old.open_files →
-            OnOk result (IsNested start (F.openings files.new) self.new.open_files) }
+            IsNested start (F.openings files.new) self.new.open_files }
+        ensures opened { IsTrue (F.is_honest files.old) → (start : Openings) → IsNested start (F.openings files.old) self.old.open_files →
+            OnErr result (OpensWithin (included (F.sources files.old) (chosen self.old.setup) unit text.now)
+            (state (F.sources files.old) start (F.openings files.old) self.old) (opened_since start (F.openings files.new))) }
         ensures goes_on { OnOk result ((ended self.new ≡ true) ⊎ GoesOn false self.old.open_files self.new.open_files) }
         ensures goes { OnOk result (self.new.open_files.lexer.has_failed ≡ false) }
         ensures setup { self.new.setup ≡ self.old.setup }
@@ -511,6 +531,8 @@ impl<'a> Session<'a> {
             ≡ left (state (F.sources files.old) start (F.openings files.old) self.old told)) }
         ensures nested { IsTrue (F.is_honest files.old) → (start : Openings) → IsNested start (F.openings files.old) self.old.open_files →
             IsNested start (F.openings files.new) self.new.open_files }
+        ensures opened { IsTrue (F.is_honest files.old) → (start : Openings) → IsNested start (F.openings files.old) self.old.open_files →
+            opened_since start (F.openings files.new) ≡ opened_since start (F.openings files.old) }
         ensures goes_on { OnOk result ((ended self.new ≡ true) ⊎ GoesOn true self.old.open_files self.new.open_files) }
         ensures kind { IfErr result (λ fault. IsOfReading fault) }
         ensures cause { IfErr result (λ fault. IfRead fault (λ name. IsUnreadable (F.faults files.old) (F.faults files.new) self.new.open_files)) }

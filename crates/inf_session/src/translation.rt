@@ -1,15 +1,16 @@
 //! The compilation of a main source with the files that it includes.
 ghost use Rattle.std.specs.Prelude.{◌≡◌, ℕ, ◌+◌, ◌<◌, ◌≤◌, ◌⊎◌, List, [], None, false, IsTrue, IfOk, IfErr, OnErr, length};
 ghost use Rattle.inf_token.specs.Files.{Openings, Rose};
-ghost use Rattle.inf_sources.specs.Open.{AllGiven, IsNested, NamesAreOpened};
+ghost use Rattle.inf_sources.specs.Open.{AllGiven, IsNested, NamesAreOpened, opened_since};
 ghost use Rattle.inf_session.specs.Choices.{chosen};
 ghost use Rattle.inf_work.specs.Works.{work as work_of};
-ghost use Rattle.inf_session.specs.Comes.{Begins, Comes, Concludes, Delivers, Heard, IsUnread, Stops, TakesFront};
+ghost use Rattle.inf_session.specs.Comes.{Begins, Comes, Concludes, Delivers, Heard, IsUnread, OpenedPart, Stops, TakesFront};
 ghost use Rattle.inf_session.specs.Given.{GivesAtLeast, IsUnreadable};
 ghost use Rattle.inf_session.specs.Standing.{IsSet, state};
 ghost use Rattle.inf_session.specs.Outcome.{finished};
 ghost use Rattle.inf_session.specs.Endings.{seen};
-ghost use Rattle.inf_session.specs.Session.{start};
+ghost use Rattle.inf_session.specs.Leading.{OpensAll};
+ghost use Rattle.inf_session.specs.Session.{run, start};
 ghost use Rattle.inf_session.specs.Faults.{IfMessages, IfRead, IfStory};
 
 use crate::ending::{Ending, finish, no_file};
@@ -60,6 +61,9 @@ pub fn translate<F: Files, M: Sink>(
         (F.openings files.old) (F.openings files.new) (M.taken messages.old) (M.taken messages.new) compiled) }
     ensures begins { IsTrue (F.is_honest files.old) → OnErr result (Begins (F.sources files.old) (chosen setup.entry) serial.now name.now
         (M.taken messages.old) (M.taken messages.new)) }
+    // At any fault the openings are those of a part of the reading.
+    ensures opened { IsTrue (F.is_honest files.old) → OnErr result (OpenedPart (F.sources files.old) (chosen setup.entry) name.now
+        (F.openings files.old) (F.openings files.new)) }
     // After a fault of reading these are all that come with the tokens that were read.
     ensures heard { IsTrue (F.is_honest files.old) → IfErr result (λ fault. IfRead fault (λ told. Heard (F.sources files.old) (chosen setup.entry)
         (start (F.sources files.old) (chosen setup.entry) name.now) (M.taken messages.old) (M.taken messages.new))) }
@@ -110,6 +114,11 @@ fn read_out<F: Files, M: Sink>(
     ensures heard { IsTrue (F.is_honest files.old) → (start : Openings) → IsNested start (F.openings files.old) session.entry.open_files →
         IfErr result.1 (λ fault. IfRead fault (λ name. Heard (F.sources files.old) (chosen session.entry.setup)
         (state (F.sources files.old) start (F.openings files.old) session.entry []) (M.taken messages.old) (M.taken messages.new))) }
+    ensures nested { IsTrue (F.is_honest files.old) → (start : Openings) → IsNested start (F.openings files.old) session.entry.open_files →
+        IsNested start (F.openings files.new) result.0 }
+    ensures opened { IsTrue (F.is_honest files.old) → (start : Openings) → IsNested start (F.openings files.old) session.entry.open_files →
+        OnErr result.1 ((turns : ℕ) × OpensAll (run (F.sources files.old) (chosen session.entry.setup) turns)
+        (state (F.sources files.old) start (F.openings files.old) session.entry) (opened_since start (F.openings files.new))) }
     ensures errors { IfOk result.1 (λ compiled. compiled.status ≡ Status.Errors → compiled.story ≡ None) }
     ensures cause { IfErr result.1 (λ fault. IfRead fault (λ name. IsUnreadable (F.faults files.old) (F.faults files.new) result.0)) }
     ensures messages { IfErr result.1 (λ fault. IfMessages fault (Rose (M.failures messages.old) (M.failures messages.new))) }

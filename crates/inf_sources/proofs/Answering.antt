@@ -1,17 +1,18 @@
 -- What an inclusion comes to, by what the names of the open files answer.
-use Rattle.std.proofs.Common.{◌≡◌, ℕ, suc, ◌+◌, ◌-◌, ◌≤◌, List, [], ◌∷◌, ◌++◌, length, drop, reverse, cond, not, nat_le, Bool, true, false, Option, Some, unwrap_or, refl, sym, ap, subst, ◌∙◌, arith, length-append}
+use Rattle.std.proofs.Common.{◌≡◌, ◌⊎◌, inl, inr, ℕ, suc, ◌+◌, ◌-◌, ◌≤◌, List, [], ◌∷◌, ◌++◌, length, drop, reverse, cond, not, nat_le, Bool, true, false, Option, Some, unwrap_or, refl, sym, ap, subst, ◌∙◌, arith, length-append}
 use Rattle.std.specs.Prelude.{slice_get}
 use Rattle.std.proofs.lemmas.Bool.{le-leb, leb-true}
 use Rattle.std.proofs.lemmas.List.{length-reverse}
 use Rattle.inf_token.specs.Files.{Openings, Sources}
-use Rattle.inf_lexer.specs.Entering.{first_there, with_opened}
+use Rattle.inf_lexer.specs.Entering.{ClosedAgain, first_there, with_opened}
 use Rattle.inf_lexer.specs.Names.{Nest, can_name, candidates, entered, innermost_name, name_at, number_of}
 use Rattle.inf_lexer.specs.Readers.{Reader, at_front}
-use Rattle.inf_sources.specs.Inclusions.{Inclusion, OpensNone, Opens, by_first, inclusion, nested_by}
-use Rattle.inf_sources.specs.Open.{AllWait, IsNested, Open, Waits, cursors_at, files_of, nesting}
+use Rattle.inf_sources.specs.Inclusions.{Inclusion, OpenedInVain, OpensNone, Opens, by_first, inclusion, nested_by}
+use Rattle.inf_sources.specs.declared.faults.IncludeFault.TheVariants as vain
+use Rattle.inf_sources.specs.Open.{AllWait, IsNested, Open, Waits, cursors_at, files_of, nesting, opened_since}
 use Rattle.inf_sources.specs.declared.open_files.Included.TheVariants as included
 use Rattle.inf_sources.proofs.Entered.{Fits, files_more, waits_more}
-use Rattle.inf_sources.proofs.Openings.{entered_nested, entered_nesting}
+use Rattle.inf_sources.proofs.Openings.{entered_nested, entered_nesting, opened_and_closed}
 use Rattle.inf_sources.proofs.Places.{innermost_of, waiting_length}
 
 pub is_true : (b : Bool) → (b ≡ false → ⊥) → b ≡ true
@@ -91,6 +92,19 @@ first_is s directories text start now files first n e fit flat there =
     ∙ ap (λ b. by_tests true b (first_there s (candidates directories (innermost_name files.nest) text)))
     (is_false (nat_le 16 (length files.nest.open_files)) (λ h. flat (leb-true 16 (length files.nest.open_files) h)))
     ∙ ap (λ o. by_tests true false o) there
+
+-- what was opened where the device refused, or the file was one too many
+pub opened_in_vain : (s : Sources) (directories : List (List ℕ)) (text : List ℕ) (start old new : Openings) (before : Open) → IsNested start old before
+    → IsNumbered before → (can_name text ≡ false → ⊥) → (16 ≤ length before.nest.open_files → ⊥)
+    → (new ≡ old) ⊎ ClosedAgain s before.nest.names (candidates directories (innermost_name before.nest) text) old new
+    → OpenedInVain vain.Device (inclusion s directories text (nesting s start old before)) (nesting s start old before) (opened_since start new)
+opened_in_vain s directories text start old new before n e fit flat (inl same) = inl (ap (λ (o : Openings). opened_since start o) same)
+opened_in_vain s directories text start old new before n e fit flat (inr c) = inr (record {
+  name = c.name;
+  is_opened = first_is s directories text start old before (Some c.name) n e fit flat c.is_first;
+  is_too_many = c.is_too_many;
+  openings_are = opened_and_closed start old new c.name n.more c.is_closed;
+})
 
 -- what is open behind a file that was entered
 pub entered_is : (s : Sources) (start old new : Openings) (before : Open) (name : List ℕ) (nest : Nest) (lexer : Reader) (outer : List Reader) → IsNested start old before

@@ -1,11 +1,10 @@
 -- Each name is that of an opening.
-use Rattle.std.proofs.Common.{◌≡◌, ◌⊎◌, inl, inr, ℕ, suc, ◌+◌, ◌≤◌, List, [], ◌∷◌, ◌++◌, length, Bool, true, false, cond, Result, Ok, Err, ap, refl, ◌∙◌, arith, length-append}
+use Rattle.std.proofs.Common.{◌≡◌, inl, inr, ℕ, suc, ◌+◌, ◌≤◌, List, [], ◌∷◌, ◌++◌, length, Bool, true, false, cond, Err, ap, ◌∙◌, arith, length-append}
 use Rattle.std.specs.List.{list_any}
 use Rattle.std.specs.Str.{bytes_eq}
 use Rattle.inf_token.specs.Files.{Openings, Sources, opened}
-use Rattle.inf_lexer.specs.Entering.{Leaves, with_closed, with_opened}
+use Rattle.inf_lexer.specs.Entering.{Leaves, with_opened}
 use Rattle.inf_lexer.specs.Names.{Nest, entered, with_name}
-use Rattle.inf_lexer.specs.Readers.{Reader}
 use Rattle.inf_lexer.specs.declared.enter_faults.EnterFault.{EnterFault}
 use Rattle.inf_lexer.specs.declared.enter_faults.EnterFault.TheVariants as fault
 
@@ -31,3 +30,12 @@ left_counts sources known names old new fault.Memory h = omega (arith, ap (λ (o
 left_counts sources known names old new fault.Device (inl same) = omega (arith, ap (λ (o : Openings). length o.all) same)
 left_counts sources known names old new fault.Device (inr c) =
     omega (arith, ap (λ (o : Openings). length o.all) c.is_closed, length-append old.all (opened c.name ∷ []))
+
+-- where the main source was not entered nothing was opened
+pub main_unopened : (sources : Sources) (names : List (List ℕ)) (old new : Openings) (f : EnterFault) → Leaves sources [] names old new (Err f) → new ≡ old
+main_unopened sources names old new fault.BadName h = h
+main_unopened sources names old new fault.TooDeep h = h
+main_unopened sources names old new fault.Absent h = h.1
+main_unopened sources names old new fault.Memory h = h
+main_unopened sources names old new fault.Device (inl same) = same
+main_unopened sources names old new fault.Device (inr c) = absurd (omega (arith, c.is_too_many))

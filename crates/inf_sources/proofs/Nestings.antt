@@ -9,7 +9,7 @@ use Rattle.inf_lexer.specs.Readers.{Reader, read_out}
 use Rattle.inf_lexer.specs.Unread.{Gave, innermost_place, to_come}
 use Rattle.inf_sources.specs.Cursors.{Cursor, behind, read}
 use Rattle.inf_sources.specs.Inclusions.{Nesting, closed}
-use Rattle.inf_sources.specs.Open.{AreNested, IsNested, Open, Reads, closed_to, cursor_of, cursors_at, nesting, rest_of}
+use Rattle.inf_sources.specs.Open.{AreNested, IsNested, Open, Reads, closed_to, cursor_of, cursors_at, nesting, opened_since, rest_of}
 use Rattle.inf_sources.proofs.Places.{innermost_of, last_of, names_of, names_same, nested_as, nested_more, reverse_last, waiting_same}
 
 -- the same files are open
@@ -33,8 +33,14 @@ names_behind : (n : ℕ) (old new : List Opening) → names_of new ≡ names_of 
 names_behind n old new e =
     sym (drop-map (λ (o : Opening). o.name) n new) ∙ ap (λ names. drop n names) e ∙ drop-map (λ (o : Opening). o.name) n old
 
-abbrev cursor_by : Reader → List ℕ → Cursor
-cursor_by r rest = cursor_of r rest
+-- what is given of the innermost opening changes no name
+names_given : (s : Sources) (old new : Openings) (bytes : List ℕ) → Gave s old new bytes → names_of new.all ≡ names_of old.all
+names_given s old new bytes gave =
+    names_same old.all new.all (innermost_place old) gave.count gave.others
+    (ap (λ (i : ℕ). (get_or new.all i (opened [])).name) (ap (λ (ps : List ℕ). get_or ps (length ps - 1) 0) (sym gave.places)) ∙ gave.name)
+
+pub opened_as_before : (s : Sources) (start old new : Openings) (bytes : List ℕ) → Gave s old new bytes → opened_since start new ≡ opened_since start old
+opened_as_before s start old new bytes gave = names_behind (length start.all) old.all new.all (names_given s old new bytes gave)
 
 cursor_behind : (before after : Reader) (r : Read) (rest : List ℕ) → rest ≡ r.rest → after.lines ≡ r.lines → after.file ≡ before.file → after.set ≡ before.set
     → after.limit ≡ before.limit → (was : List ℕ) → cursor_of after rest ≡ behind (cursor_of before was) r
@@ -56,9 +62,6 @@ reads_on s start old new before after token bytes n gave nest outer e file same 
     let r : Read = read c in
     let at = innermost_of (length old.all) (reverse old.open_places) before.lexer (reverse before.outer) n.nested in
     let place : innermost_place old ≡ at.place = last_of old.open_places at.place at.rest at.is in
-    let names : names_of new.all ≡ names_of old.all =
-    names_same old.all new.all (innermost_place old) gave.count gave.others
-    (ap (λ (i : ℕ). (get_or new.all i (opened [])).name) (ap (λ (ps : List ℕ). get_or ps (length ps - 1) 0) (sym gave.places)) ∙ gave.name) in
     let cursor : cursor_of after.lexer (to_come s new after.lexer.window) ≡ behind c r =
     cursor_behind before.lexer after.lexer r (to_come s new after.lexer.window) (ap (λ (x : Read). x.rest) e) (ap (λ (x : Read). x.lines) e) same.2 same.0 same.1
     (to_come s old before.lexer.window) in
@@ -75,7 +78,7 @@ reads_on s start old new before after token bytes n gave nest outer e file same 
       bytes = ap (λ (x : Read). x.kept.bytes) e;
       goes_on =
           ap (λ (x : Nest). made x.names (names_of (drop (length start.all) new.all)) (cursor_of after.lexer (to_come s new after.lexer.window)) (cursors_at s new.all (drop 1 (reverse new.open_places)) (reverse after.outer))) nest
-          ∙ ap (λ x. made before.nest.names x (cursor_of after.lexer (to_come s new after.lexer.window)) (cursors_at s new.all (drop 1 (reverse new.open_places)) (reverse after.outer))) (names_behind (length start.all) old.all new.all names)
+          ∙ ap (λ x. made before.nest.names x (cursor_of after.lexer (to_come s new after.lexer.window)) (cursors_at s new.all (drop 1 (reverse new.open_places)) (reverse after.outer))) (opened_as_before s start old new bytes gave)
           ∙ ap (λ x. made before.nest.names (names_of (drop (length start.all) old.all)) x (cursors_at s new.all (drop 1 (reverse new.open_places)) (reverse after.outer))) cursor
           ∙ ap (λ x. made before.nest.names (names_of (drop (length start.all) old.all)) (behind c r) x) waits;
     }

@@ -1,17 +1,17 @@
 -- What is open after a file was entered.
-use Rattle.std.proofs.Common.{◌≡◌, ℕ, suc, zero, ◌<◌, ◌≤◌, List, [], ◌∷◌, ◌++◌, length, drop, reverse, get_or, Some, unwrap_or, refl, sym, ap, subst, ◌∙◌, arith, length-append}
+use Rattle.std.proofs.Common.{◌≡◌, ◌⊎◌, inl, inr, ℕ, suc, zero, ◌<◌, ◌≤◌, List, [], ◌∷◌, ◌++◌, length, drop, reverse, get_or, Some, unwrap_or, refl, sym, ap, subst, ◌∙◌, arith, length-append}
 use Rattle.std.specs.Prelude.{slice_get}
 use Rattle.std.proofs.Math.Seq.{get_or-append_seam}
 use Rattle.inf_characters.specs.declared.characters.CharSet.{CharSet}
 use Rattle.inf_token.specs.Files.{Opening, Openings, Sources, opened}
-use Rattle.inf_lexer.specs.Entering.{with_opened}
+use Rattle.inf_lexer.specs.Entering.{ClosedAgain, with_closed, with_opened}
 use Rattle.inf_lexer.specs.Names.{Nest, entered, number_of}
 use Rattle.inf_lexer.specs.Readers.{Reader, at_front}
 use Rattle.inf_lexer.specs.Unread.{innermost, innermost_place, to_come, unread}
 use Rattle.inf_sources.specs.Cursors.{Cursor, front}
 use Rattle.inf_sources.specs.Inclusions.{Nesting, main_opened, with_opened as one_more}
-use Rattle.inf_sources.specs.Open.{AreNested, IsNested, Open, cursor_of, cursors_at, nesting, rest_of}
-use Rattle.inf_sources.proofs.Places.{innermost_of, last_of, names_of, reverse_last, waiting_same}
+use Rattle.inf_sources.specs.Open.{AreNested, IsNested, Open, cursor_of, cursors_at, nesting, opened_since, rest_of}
+use Rattle.inf_sources.proofs.Places.{innermost_of, last_of, names_of, nested_more, reverse_last, waiting_same}
 
 last_is : (old : Openings) (name : List ℕ) → innermost_place (with_opened name old) ≡ length old.all
 last_is old name = last_of (old.open_places ++ length old.all ∷ []) (length old.all) (reverse old.open_places) (reverse_last old.open_places (length old.all))
@@ -104,6 +104,27 @@ entered_nesting s start old before name set limit n =
     (drop_more (length start.all) old.all (opened name) n.more)
     ∙ ap (λ x. made (names_of (drop (length start.all) old.all) ++ name ∷ []) x (cursors_at s new.all (drop 1 (reverse new.open_places)) (reverse (before.outer ++ before.lexer ∷ [])))) (front_is s old name set limit number)
     ∙ ap (λ x. made (names_of (drop (length start.all) old.all) ++ name ∷ []) (front set limit number (unwrap_or (s name) [])) x) waits
+
+-- one that was closed at once
+
+closed_nested : (start old : Openings) (before : Open) (name : List ℕ) → IsNested start old before → IsNested start (with_closed name old) before
+closed_nested start old before name n = record {
+  more = omega (arith, n.more, length-append old.all (opened name ∷ []));
+  nested = nested_more (length old.all) (length (old.all ++ opened name ∷ [])) (reverse old.open_places) (before.lexer ∷ reverse before.outer)
+      (omega (arith, length-append old.all (opened name ∷ []))) n.nested;
+  others = n.others;
+}
+
+pub failed_nested : (s : Sources) (known names : List (List ℕ)) (start old new : Openings) (before : Open) → IsNested start old before
+    → (new ≡ old) ⊎ ClosedAgain s known names old new → IsNested start new before
+failed_nested s known names start old new before n (inl same) = subst (λ (o : Openings). IsNested start o before) (sym same) n
+failed_nested s known names start old new before n (inr c) =
+    subst (λ (o : Openings). IsNested start o before) (sym c.is_closed) (closed_nested start old before c.name n)
+
+pub opened_and_closed : (start old new : Openings) (name : List ℕ) → length start.all ≤ length old.all → new ≡ with_closed name old
+    → opened_since start new ≡ opened_since start old ++ name ∷ []
+opened_and_closed start old new name more closes =
+    ap (λ (o : Openings). opened_since start o) closes ∙ drop_more (length start.all) old.all (opened name) more
 
 -- what a call leaves
 

@@ -1,10 +1,12 @@
 -- Which file an inclusion opens, and what is open then (Designer's Manual, fourth edition, sections 38 and 39).
-use Rattle.std.specs.Prelude.{ℕ, ◌+◌, List, [], ◌∷◌, ◌++◌, length, nat_le, not, if◌then◌else◌, Option, Some, None, slice_get, unwrap_or}
+use Rattle.std.specs.Prelude.{◌≡◌, ℕ, ◌+◌, ◌≤◌, ◌⊎◌, List, [], ◌∷◌, ◌++◌, length, nat_le, not, if◌then◌else◌, Option, Some, None, slice_get, unwrap_or}
 use Rattle.inf_characters.specs.declared.characters.CharSet.{CharSet}
 use Rattle.inf_token.specs.Files.{Sources}
 use Rattle.inf_lexer.specs.Entering.{first_there}
 use Rattle.inf_lexer.specs.Names.{can_name, candidates, number_of, with_name}
 use Rattle.inf_sources.specs.Cursors.{Cursor, front}
+use Rattle.inf_sources.specs.declared.faults.IncludeFault.{IncludeFault}
+use Rattle.inf_sources.specs.declared.faults.IncludeFault.TheVariants as fault
 use Rattle.inf_sources.specs.declared.open_files.Included.{Included}
 use Rattle.inf_sources.specs.declared.open_files.Included.TheVariants as included
 
@@ -80,3 +82,15 @@ nested_by set limit sources (OpensNone why) n = n
 abbrev pub answer_of : Inclusion → Included
 answer_of (Opens name) = included.Entered
 answer_of (OpensNone why) = why
+
+-- The file that an inclusion opens was opened, is one more than can be numbered, and was closed at once.
+pub record OpensTooMany (i : Inclusion) (was : Nesting) (openings : List (List ℕ)) : Type 0 where
+  pub name : List ℕ
+  pub is_opened : i ≡ Opens name
+  pub is_too_many : 65535 ≤ number_of name was.names
+  pub openings_are : openings ≡ was.openings ++ name ∷ []
+
+-- what has been opened where an inclusion could not be tried
+abbrev pub OpenedInVain : IncludeFault → Inclusion → Nesting → List (List ℕ) → Type 0
+OpenedInVain fault.Memory i was openings = openings ≡ was.openings
+OpenedInVain fault.Device i was openings = (openings ≡ was.openings) ⊎ OpensTooMany i was openings

@@ -43,11 +43,15 @@ cursors_at sources all (p ∷ places) (r ∷ readers) =
     cursor_of r (rest_of sources (get_or all p (opened [])) r.window) ∷ cursors_at sources all places readers
 cursors_at sources all places readers = []
 
+-- the names of the openings now behind those that were there before, in their order
+abbrev pub opened_since : Openings → Openings → List (List ℕ)
+opened_since start now = map (λ (p : Opening). p.name) (drop (length start.all) now.all)
+
 -- The files that are open now, where these openings were before them. The innermost opening was opened last.
 abbrev pub nesting : Sources → Openings → Openings → Open → Nesting
 nesting sources start now files = record {
   names = files.nest.names;
-  openings = map (λ (p : Opening). p.name) (drop (length start.all) now.all);
+  openings = opened_since start now;
   cursor = cursor_of files.lexer (to_come sources now files.lexer.window);
   waiting = cursors_at sources now.all (drop 1 (reverse now.open_places)) (reverse files.outer);
 }

@@ -1,12 +1,12 @@
 //! The files that are open, each with its lexer.
-ghost use Rattle.std.specs.Prelude.{◌≡◌, ◌≢◌, ℕ, ◌+◌, ◌-◌, ◌≤◌, ◌<◌, ◌⊎◌, ◌++◌, [], ◌∷◌, true, false, if◌then◌else◌, is_ok, min, IfOk, OnOk, OnErr, IsErrOf, IsOk, IsTrue, None, Some, length, map};
+ghost use Rattle.std.specs.Prelude.{◌≡◌, ◌≢◌, ℕ, ◌+◌, ◌-◌, ◌≤◌, ◌<◌, ◌⊎◌, ◌++◌, [], ◌∷◌, true, false, if◌then◌else◌, is_ok, min, IfErr, IfOk, OnOk, OnErr, IsErrOf, IsOk, IsTrue, None, Some, length, map};
 ghost use Rattle.inf_token.specs.Files.{Openings, Rose, last_count};
 ghost use Rattle.inf_lexer.specs.Entering.{has_one_too_many};
 ghost use Rattle.inf_lexer.specs.Names.{candidates, innermost_name};
 ghost use Rattle.inf_lexer.specs.Readers.{Took, at_front};
 ghost use Rattle.inf_lexer.specs.Unread.{IsAtEnd};
-ghost use Rattle.inf_sources.specs.Inclusions.{answer_of, closed, inclusion, main_opened, nested_by};
-ghost use Rattle.inf_sources.specs.Open.{AllGiven, IsNested, NamesAreOpened, Reads, closed_to, nesting};
+ghost use Rattle.inf_sources.specs.Inclusions.{OpenedInVain, answer_of, closed, inclusion, main_opened, nested_by};
+ghost use Rattle.inf_sources.specs.Open.{AllGiven, IsNested, NamesAreOpened, Reads, closed_to, nesting, opened_since};
 
 use crate::faults::IncludeFault;
 use inf_lexer::{EnterFault, LexFault, Lexer, Stack, Token};
@@ -74,8 +74,8 @@ impl OpenFiles {
             IfOk result (λ o. NamesAreOpened (length (F.openings files.old).all) (F.openings files.new) o) }
         ensures given_all { IsTrue (F.is_honest files.old) →
             IfOk result (λ o. AllGiven (F.sources files.old) (length (F.openings files.old).all) (F.openings files.new) o) }
-        ensures absent { IsTrue (F.is_honest files.old) → IsErrOf result EnterFault.Absent →
-            (F.sources files.old name.now ≡ None) × (F.openings files.new ≡ F.openings files.old) }
+        ensures absent { IsTrue (F.is_honest files.old) → IsErrOf result EnterFault.Absent → F.sources files.old name.now ≡ None }
+        ensures unopened { IsTrue (F.is_honest files.old) → OnErr result (F.openings files.new ≡ F.openings files.old) }
         ensures empty { IsErrOf result EnterFault.BadName → length name.now ≡ 0 }
         ensures never { IsErrOf result EnterFault.TooDeep → ⊥ }
         ensures cause { IsErrOf result EnterFault.Device → Rose (F.faults files.old) (F.faults files.new) }
@@ -130,6 +130,8 @@ impl OpenFiles {
             (nesting (F.sources files.old) start (F.openings files.new) self.new)) }
         ensures nested { IsTrue (F.is_honest files.old) → (start : Openings) → IsNested start (F.openings files.old) self.old →
             IsNested start (F.openings files.new) self.new }
+        ensures opened { IsTrue (F.is_honest files.old) → (start : Openings) → IsNested start (F.openings files.old) self.old →
+            opened_since start (F.openings files.new) ≡ opened_since start (F.openings files.old) }
         ensures names { IsTrue (F.is_honest files.old) → (base : ℕ) → NamesAreOpened base (F.openings files.old) self.old →
             NamesAreOpened base (F.openings files.new) self.new }
         ensures given_all { IsTrue (F.is_honest files.old) → (start : Openings) → IsNested start (F.openings files.old) self.old →
@@ -179,7 +181,11 @@ impl OpenFiles {
             ≡ nested_by self.old.nest.set self.old.nest.limit (F.sources files.old)
             (inclusion (F.sources files.old) (map (λ d. d.now) directories.now) text.now was) was) }
         ensures nested { IsTrue (F.is_honest files.old) → (start : Openings) → IsNested start (F.openings files.old) self.old →
-            OnOk result (IsNested start (F.openings files.new) self.new) }
+            IsNested start (F.openings files.new) self.new }
+        ensures in_vain { IsTrue (F.is_honest files.old) → (start : Openings) → IsNested start (F.openings files.old) self.old →
+            IfErr result (λ fault. let was = nesting (F.sources files.old) start (F.openings files.old) self.old in
+            OpenedInVain fault (inclusion (F.sources files.old) (map (λ d. d.now) directories.now) text.now was) was
+            (opened_since start (F.openings files.new))) }
         ensures names { IsTrue (F.is_honest files.old) → (base : ℕ) → NamesAreOpened base (F.openings files.old) self.old →
             NamesAreOpened base (F.openings files.new) self.new }
         ensures given_all { IsTrue (F.is_honest files.old) → (start : Openings) → IsNested start (F.openings files.old) self.old →

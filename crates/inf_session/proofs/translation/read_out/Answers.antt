@@ -1,6 +1,7 @@
 use Rattle.std.proofs.Common.{ℕ, [], IfOk, refl, subst, sym}
 use Rattle.std.proofs.lemmas.Result.{on_err_weaker}
-use Rattle.inf_sources.specs.Open.{NamesAreOpened, Open}
+use Rattle.inf_opcode.proofs.Growing.{on_err}
+use Rattle.inf_sources.specs.Open.{IsNested, NamesAreOpened, Open, opened_since}
 use Rattle.inf_work.specs.Works.{work as work_of}
 use Rattle.inf_session.specs.Choices.{chosen}
 use Rattle.inf_session.specs.Comes.{Concludes, Delivers, Heard}
@@ -9,6 +10,7 @@ use Rattle.inf_session.specs.Session.{run}
 use Rattle.inf_session.specs.Outcome.{finished}
 use Rattle.inf_session.specs.Standing.{state}
 use Rattle.inf_session.proofs.Concluding.{concludes, heard_of, if_ok_more, stops_ending, stops_reading}
+use Rattle.inf_session.proofs.Leadings.{opened_behind}
 use Rattle.inf_session.proofs.Standings.{read_more}
 use Rattle.inf_session.proofs.translation.read_out.Goals as goal
 
@@ -65,3 +67,19 @@ returns-in-Err-clause-heard g c = λ honest start nested.
     let new = g.M.Sink.taken c.read.new.messages in
     read_more c.in-Err.fault (λ name. (turns : ℕ) × WroteAll (run s o turns) was old new) (λ name. Heard s o (was []) old new)
     (λ name w. heard_of s o was old new w.0 w.1) (c.in-Err.ensures.unread honest start nested)
+
+pub returns-in-Ok-clause-nested : goal.returns-in-Ok-clause-nested
+returns-in-Ok-clause-nested g c = λ honest start nested.
+    subst (λ (x : Open). IsNested start (g.F.Files.openings c.read.new.files) x) (sym c.finish.ensures.files) (c.read.ensures.nested honest start nested)
+
+pub returns-in-Ok-clause-opened : goal.returns-in-Ok-clause-opened
+returns-in-Ok-clause-opened g c = λ honest start nested.
+    let files = g.F.Files in
+    let s = files.sources c.args.files.now in
+    let here = files.openings c.read.new.files in
+    let read = c.in-Ok.ensures.read honest start nested in
+    on_err c.finish.result.1 (
+      read.0,
+      opened_behind s (chosen c.args.session.setup) read.0 (state s start (files.openings c.args.files.now) c.args.session) (state s start here c.read.new.self)
+          (g.M.Sink.taken c.args.messages.now) (g.M.Sink.taken c.read.new.messages) (opened_since start here) read.1 (λ told. refl),
+    )

@@ -1,16 +1,17 @@
-use Rattle.std.proofs.Common.{◌≡◌, [], IsTrue, length, ap, subst, sym, ◌∙◌}
+use Rattle.std.proofs.Common.{◌≡◌, ℕ, [], inr, IsTrue, length, ap, subst, sym, ◌∙◌}
 use Rattle.std.proofs.lemmas.Result.{on_err_weaker}
 use Rattle.inf_token.specs.Files.{Sources}
 use Rattle.inf_lexer.specs.Readers.{at_front}
-use Rattle.inf_sources.specs.Open.{AllGiven, IsNested, NamesAreOpened, Open, nesting}
+use Rattle.inf_sources.specs.Open.{AllGiven, IsNested, NamesAreOpened, Open, nesting, opened_since}
 use Rattle.inf_session.specs.Given.{GivesAtLeast}
 use Rattle.inf_sources.specs.Inclusions.{main_opened}
-use Rattle.inf_session.specs.Choices.{chosen, most_quoted}
+use Rattle.inf_session.specs.Choices.{Choices, chosen, most_quoted}
 use Rattle.inf_session.specs.Comes.{Comes, Concludes, Stops}
-use Rattle.inf_session.specs.Session.{start}
+use Rattle.inf_session.specs.Leading.{OpensAll}
+use Rattle.inf_session.specs.Session.{run, start}
 use Rattle.inf_session.specs.Standing.{state}
 use Rattle.inf_session.specs.declared.setup.Setup.{Setup}
-use Rattle.inf_session.proofs.Concluding.{begins_of, begun_is, comes_of, given_none, if_ok_both, if_ok_more, unread}
+use Rattle.inf_session.proofs.Concluding.{begins_of, begun_is, comes_of, given_none, if_ok_both, if_ok_more, opened_some, unread}
 use Rattle.inf_session.proofs.translation.translate.Goals as goal
 
 pub returns-clause-comes : goal.returns-clause-comes
@@ -88,3 +89,27 @@ returns-clause-read g c =
     (λ honest. c.read_out-open_files.ensures.names (still honest) (length old.all)
     (subst (λ (x : Open). NamesAreOpened (length old.all) (files.openings c.enter_main.new.files) x) (sym c.new-session.ensures.files) (c.in-Ok.ensures.names honest)))
     (λ honest. c.close.ensures.all (subst (λ b. IsTrue b) (sym c.read_out-open_files.ensures.honesty) (still honest)))
+
+pub returns-clause-opened : goal.returns-clause-opened
+returns-clause-opened g c = λ honest.
+    let files = g.F.Files in
+    let s = files.sources c.args.files.now in
+    let o = chosen c.args.setup in
+    let old = files.openings c.args.files.now in
+    let mid = files.openings c.enter_main.new.files in
+    let now = files.openings c.read_out-open_files.new.files in
+    let session = c.new-session.result in
+    let name = c.args.name.now in
+    let still = subst (λ b. IsTrue b) (sym c.enter_main.ensures.honesty) honest in
+    let last = subst (λ b. IsTrue b) (sym c.read_out-open_files.ensures.honesty) still in
+    let nested = subst (λ (x : Open). IsNested old mid x) (sym c.new-session.ensures.files) (c.in-Ok.ensures.nested honest) in
+    let limit : nesting s old mid session.open_files ≡ main_opened o.set (most_quoted o) s name =
+    ap (λ (x : Open). nesting s old mid x) c.new-session.ensures.files ∙ c.in-Ok.ensures.nesting honest ∙ ap (λ n. main_opened o.set n s name) c.of-limit.ensures.value in
+    let begun : state s old mid session [] ≡ start s o name =
+    begun_is s o name old mid session limit c.new-session.ensures.standing c.new-session.ensures.going c.new-session.ensures.conditionals c.new-session.ensures.quoted in
+    let closed = c.close.ensures.closed last old (c.read_out-open_files.ensures.nested still old nested) in
+    on_err_weaker c.read_out-open_files.result.1
+    (λ k. inr (opened_some s o name old now (files.openings c.close.new.files) (state s old mid session) k.0 begun closed
+    (subst (λ (p : Setup). OpensAll (run s (chosen p) k.0) (state s old mid session) (opened_since old now)) c.new-session.ensures.setup
+    (subst (λ (y : Sources). OpensAll (run y (chosen session.setup) k.0) (state y old mid session) (opened_since old now)) c.enter_main.ensures.sources k.1))))
+    (c.read_out-open_files.ensures.opened still old nested)

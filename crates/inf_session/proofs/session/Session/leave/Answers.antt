@@ -1,5 +1,6 @@
-use Rattle.std.proofs.Common.{ap, subst, sym, ◌∙◌}
+use Rattle.std.proofs.Common.{List, ap, drop, length, map, subst, sym, ◌∙◌}
 use Rattle.inf_conditionals.specs.Ends.{file_told}
+use Rattle.inf_token.specs.Files.{Opening}
 use Rattle.inf_sources.specs.Open.{nesting}
 use Rattle.inf_work.specs.Works.{work as work_of}
 use Rattle.inf_session.specs.Given.{GivesAtLeast}
@@ -35,3 +36,11 @@ returns-then-not-leave-clause-left g c = λ honest start nested told.
     c.in_ok-end_file.ensures.left (c.in_ok-end_file.ensures.told ∙ ap (λ n. file_told n.names was.conditionals was.progress.work.report) c.names.ensures)
     (ap (λ f. nesting s start (files.openings f) c.leave.new.self) last.1.1 ∙ ap (λ o. nesting s start old o) last.1.0)
     (none_waits s start old was.open_files last.0)
+
+pub returns-clause-opened : goal.returns-clause-opened
+returns-clause-opened g c = λ honest start nested.
+    ap (λ (all : List Opening). map (λ (p : Opening). p.name) (drop (length start.all) all)) (c.leave.ensures.all honest)
+
+pub returns-then-not-leave-clause-opened : goal.returns-then-not-leave-clause-opened
+returns-then-not-leave-clause-opened g c = λ honest start nested.
+    ap (λ (all : List Opening). map (λ (p : Opening). p.name) (drop (length start.all) all)) (c.leave.ensures.all honest)

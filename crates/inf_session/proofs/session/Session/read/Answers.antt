@@ -1,13 +1,13 @@
 use Rattle.std.proofs.Common.{rules, ℕ, ◌+◌, IfErr, IsTrue, length, ap, refl, sym, subst, ◌∙◌, arith}
 use Rattle.inf_opcode.proofs.Growing.{on_err}
 use Rattle.inf_token.specs.Files.{Sources}
-use Rattle.inf_sources.specs.Open.{AllGiven}
+use Rattle.inf_sources.specs.Open.{AllGiven, opened_since}
 use Rattle.inf_session.specs.Choices.{Choices, chosen}
 use Rattle.inf_session.specs.Faults.{IfRead}
-use Rattle.inf_session.specs.Leading.{CutsShort, Writes, WroteAll}
+use Rattle.inf_session.specs.Leading.{CutsShort, OpensAll, Writes, WroteAll}
 use Rattle.inf_session.specs.Session.{run}
 use Rattle.inf_session.specs.Standing.{state}
-use Rattle.inf_session.proofs.Leadings.{cuts_on, run_sum, writes_none, writes_on, wrote_on}
+use Rattle.inf_session.proofs.Leadings.{cuts_on, opened_on, run_sum, writes_none, writes_on, wrote_on}
 use Rattle.inf_session.proofs.Standings.{if_read_more}
 use Rattle.inf_session.proofs.session.Session.read.Goals as goal
 
@@ -133,3 +133,30 @@ returns-in_err-step-clause-unread g c = λ honest start nested.
           (subst (λ (x : Choices). WroteAll (run s x w.0) (state s start here c.loop-self.self) between new) (ap chosen inv.setup)
           (subst (λ (x : Sources). WroteAll (run x p w.0) (state x start here c.loop-self.self) between new) inv.sources w.1)),
     )) last
+
+pub returns-in_err-step-clause-opened : goal.returns-in_err-step-clause-opened
+returns-in_err-step-clause-opened g c = λ honest start nested.
+    let files = g.F.Files in
+    let inv = c.loop-self.invariant in
+    let s = files.sources c.args.files.now in
+    let o = chosen c.args.self.now.setup in
+    let p = chosen c.loop-self.self.setup in
+    let so_far = inv.led honest start nested in
+    let still = subst (λ b. IsTrue b) (sym inv.honesty) honest in
+    let here = files.openings c.loop-self.files in
+    let mid = state s start here c.loop-self.self in
+    let opened = opened_since start (files.openings c.step.new.files) in
+    let ran = c.in_err-step.ensures.opened still start (inv.nested honest start nested) in
+    let all : OpensAll (run s o ran.0) mid opened =
+    subst (λ (x : Choices). OpensAll (run s x ran.0) mid opened) (ap chosen inv.setup)
+    (subst (λ (x : Sources). OpensAll (run x p ran.0) (state x start here c.loop-self.self) opened) inv.sources ran.1) in
+    on_err c.from_residual.result (
+      so_far.0 + ran.0,
+      opened_on s o so_far.0 ran.0 (state s start (files.openings c.args.files.now) c.args.self.now) mid
+          (g.M.Sink.taken c.args.messages.now) (g.M.Sink.taken c.loop-self.messages) opened so_far.1 all,
+    )
+
+pub returns-in_err-step-clause-nested : goal.returns-in_err-step-clause-nested
+returns-in_err-step-clause-nested g c = λ honest start nested.
+    let inv = c.loop-self.invariant in
+    c.step.ensures.nested (subst (λ b. IsTrue b) (sym inv.honesty) honest) start (inv.nested honest start nested)

@@ -1,13 +1,13 @@
 use Rattle.std.proofs.Common.{rules, ◌≡◌, ℕ, List, suc, zero, [], false, IfErr, IsTrue, length, ap, refl, sym, subst, ◌∙◌, arith}
 use Rattle.inf_opcode.proofs.Growing.{on_err}
 use Rattle.inf_token.specs.Files.{Sources}
-use Rattle.inf_sources.specs.Open.{AllGiven}
+use Rattle.inf_sources.specs.Open.{AllGiven, opened_since}
 use Rattle.inf_session.specs.Choices.{Choices, chosen}
 use Rattle.inf_session.specs.Faults.{IfRead}
-use Rattle.inf_session.specs.Leading.{CutsShort, Writes, WroteAll}
+use Rattle.inf_session.specs.Leading.{CutsShort, OpensWithin, Writes, WroteAll}
 use Rattle.inf_session.specs.Session.{has_ended, run, turn}
 use Rattle.inf_session.specs.Standing.{ended, parted, state}
-use Rattle.inf_session.proofs.Leadings.{cuts_then, part_first, part_none, part_then, still_going, writes_none, writes_then, wrote_all}
+use Rattle.inf_session.proofs.Leadings.{cuts_then, opened_then, part_first, part_none, part_then, still_going, writes_none, writes_then, wrote_all}
 use Rattle.inf_session.proofs.Standings.{if_read_more}
 use Rattle.inf_session.proofs.Weighing.{ends_or_falls, falls_then}
 use Rattle.inf_session.specs.Weights.{weight}
@@ -188,3 +188,40 @@ returns-in_err-turn-2-clause-unread g c = λ honest start nested.
     let same : IfErr c.from_residual-in_err-turn-2.result (λ fault. IfRead fault (λ name. new ≡ between)) = search rules in
     if_read_more c.from_residual-in_err-turn-2.result (new ≡ between) ((turns : ℕ) × WroteAll (run s o turns) was old new)
     (λ e. (suc so_far.0, wrote_all (run s o (suc so_far.0)) was mid old between new (λ told. refl) so_far.1.1 e)) same
+
+pub returns-in_err-turn-clause-opened : goal.returns-in_err-turn-clause-opened
+returns-in_err-turn-clause-opened g c = λ honest start nested.
+    let files = g.F.Files in
+    let s = files.sources c.args.files.now in
+    let o = chosen c.args.self.now.setup in
+    let was = state s start (files.openings c.args.files.now) c.args.self.now in
+    let old = g.M.Sink.taken c.args.messages.now in
+    let going : ended c.args.self.now ≡ false = sym c.has_ended.ensures ∙ c.if-has_ended.false in
+    on_err c.from_residual.result
+    (opened_then s o zero was was old old (opened_since start (files.openings c.turn.new.files)) (λ told. going) (writes_none s o was old) (c.in_err-turn.ensures.opened honest start nested))
+
+pub returns-in_err-turn-2-clause-opened : goal.returns-in_err-turn-2-clause-opened
+returns-in_err-turn-2-clause-opened g c = λ honest start nested.
+    let files = g.F.Files in
+    let inv = c.loop-self.invariant in
+    let s = files.sources c.args.files.now in
+    let o = chosen c.args.self.now.setup in
+    let p = chosen c.loop-self.self.setup in
+    let open_still : parted c.loop-self.self ≡ false = sym c.has_parted.ensures ∙ c.loop-self-test.true in
+    let so_far = inv.led honest start nested in
+    let still = subst (λ b. IsTrue b) (sym inv.honesty) honest in
+    let here = files.openings c.loop-self.files in
+    let mid = state s start here c.loop-self.self in
+    let opened = opened_since start (files.openings c.turn-in-loop-self.new.files) in
+    let within : OpensWithin (turn s o) mid opened =
+    subst (λ (x : Choices). OpensWithin (turn s x) mid opened) (ap chosen inv.setup)
+    (subst (λ (x : Sources). OpensWithin (turn x p) (state x start here c.loop-self.self) opened) inv.sources
+    (c.in_err-turn-2.ensures.opened still start (inv.nested honest start nested))) in
+    on_err c.from_residual-in_err-turn-2.result
+    (opened_then s o (suc so_far.0) (state s start (files.openings c.args.files.now) c.args.self.now) mid (g.M.Sink.taken c.args.messages.now) (g.M.Sink.taken c.loop-self.messages) opened
+    (λ told. still_going (mid told) open_still) so_far.1.1 within)
+
+pub returns-in_err-turn-2-clause-nested : goal.returns-in_err-turn-2-clause-nested
+returns-in_err-turn-2-clause-nested g c = λ honest start nested.
+    let inv = c.loop-self.invariant in
+    c.turn-in-loop-self.ensures.nested (subst (λ b. IsTrue b) (sym inv.honesty) honest) start (inv.nested honest start nested)

@@ -1,10 +1,13 @@
-use Rattle.std.proofs.Common.{inl, inr, ◌||◌, IsTrue, length, ap, refl, sym, subst, ◌∙◌}
+use Rattle.std.proofs.Common.{List, ℕ, inl, inr, ◌||◌, IsTrue, length, ap, refl, sym, subst, ◌∙◌}
 use Rattle.inf_opcode.proofs.Growing.{on_err}
 use Rattle.inf_token.specs.Files.{Sources}
-use Rattle.inf_sources.specs.Open.{AllGiven}
+use Rattle.inf_sources.specs.Open.{AllGiven, opened_since}
 use Rattle.inf_unit.specs.Messages.{Reported}
 use Rattle.inf_reader.specs.Reading.{is_mode_ended}
-use Rattle.inf_session.specs.Choices.{chosen}
+use Rattle.inf_session.specs.Choices.{Choices, chosen}
+use Rattle.inf_session.specs.Leading.{OpensWithin}
+use Rattle.inf_session.specs.Session.{State, followed}
+use Rattle.inf_session.proofs.Opening.{turned_within}
 use Rattle.inf_session.specs.Standing.{state}
 use Rattle.inf_session.proofs.Leadings.{cut_at_once}
 use Rattle.inf_session.proofs.Standings.{as_before, turn_cut, turn_writes}
@@ -84,3 +87,39 @@ returns-clause-given_all g c = λ honest start nested h.
     subst (λ (x : Sources). AllGiven x n new c.follow.new.self.open_files) c.in_ok-take_token.ensures.sources
     (c.in_ok-follow.ensures.given_all still start (c.in_ok-take_token.ensures.nested honest start nested)
     (subst (λ (x : Sources). AllGiven x n mid c.take_token.new.self.open_files) (sym c.in_ok-take_token.ensures.sources) (c.in_ok-take_token.ensures.given_all honest start nested h)))
+
+pub returns-in_err-take_token-clause-opened : goal.returns-in_err-take_token-clause-opened
+returns-in_err-take_token-clause-opened g c = λ honest start nested.
+    on_err c.from_residual.result (inl (λ told. c.take_token.ensures.opened honest start nested))
+
+pub returns-in_err-follow-clause-opened : goal.returns-in_err-follow-clause-opened
+returns-in_err-follow-clause-opened g c = λ honest start nested.
+    let files = g.F.Files in
+    let s = files.sources c.args.files.now in
+    let t = files.sources c.take_token.new.files in
+    let o = chosen c.args.self.now.setup in
+    let p = chosen c.take_token.new.self.setup in
+    let here = files.openings c.take_token.new.files in
+    let opened = opened_since start (files.openings c.follow.new.files) in
+    let mid = c.take_token.new.self in
+    let still = subst (λ b. IsTrue b) (sym c.in_ok-take_token.ensures.honesty) honest in
+    let within : OpensWithin (followed s o) (state s start here mid) opened =
+    subst (λ (x : Choices). OpensWithin (followed s x) (state s start here mid) opened) (ap chosen c.in_ok-take_token.ensures.setup.0)
+    (subst (λ (x : Sources). OpensWithin (followed x p) (state x start here mid) opened) c.in_ok-take_token.ensures.sources
+    (c.in_err-follow.ensures.opened still start (c.in_ok-take_token.ensures.nested honest start nested))) in
+    on_err c.from_residual-in_err-follow.result
+    (turned_within s o (state s start (files.openings c.args.files.now) c.args.self.now) (state s start here mid) opened (c.in_ok-take_token.ensures.stepped honest start nested) within)
+
+pub returns-in_err-flush-clause-opened : goal.returns-in_err-flush-clause-opened
+returns-in_err-flush-clause-opened g c = λ honest start nested.
+    let files = g.F.Files in
+    let s = files.sources c.args.files.now in
+    let o = chosen c.args.self.now.setup in
+    let here = files.openings c.take_token.new.files in
+    let then_at = files.openings c.follow.new.files in
+    let mid = state s start here c.take_token.new.self in
+    let still = subst (λ b. IsTrue b) (sym c.in_ok-take_token.ensures.honesty) honest in
+    let after = c.in_ok-follow.ensures.followed still start (c.in_ok-take_token.ensures.nested honest start nested) in
+    on_err c.from_residual-in_err-flush.result
+    (turned_within s o (state s start (files.openings c.args.files.now) c.args.self.now) mid (opened_since start then_at) (c.in_ok-take_token.ensures.stepped honest start nested)
+    (inr (λ told. ap (λ (x : State). x.nesting.openings) (as_before s (files.sources c.take_token.new.files) o (chosen c.take_token.new.self.setup) start here then_at c.take_token.new.self c.follow.new.self c.in_ok-take_token.ensures.sources (ap chosen c.in_ok-take_token.ensures.setup.0) after told))))

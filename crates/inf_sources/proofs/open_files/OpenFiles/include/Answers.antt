@@ -3,11 +3,13 @@ use Rattle.inf_lexer.specs.Entering.{Leaves}
 use Rattle.inf_lexer.specs.Names.{Nest, can_name, candidates, innermost_name, number_of}
 use Rattle.inf_lexer.specs.Readers.{Reader}
 use Rattle.inf_lexer.specs.declared.enter_faults.EnterFault.TheVariants as fault
-use Rattle.inf_sources.specs.Inclusions.{answer_of, inclusion, nested_by}
-use Rattle.inf_sources.specs.Open.{AllGiven, IsNested, Open, nesting}
+use Rattle.inf_sources.specs.Inclusions.{OpenedInVain, answer_of, inclusion, nested_by}
+use Rattle.inf_sources.specs.declared.faults.IncludeFault.TheVariants as vain
+use Rattle.inf_sources.specs.Open.{AllGiven, IsNested, Open, nesting, opened_since}
 use Rattle.inf_sources.specs.declared.open_files.Included.TheVariants as included
-use Rattle.inf_sources.proofs.Answering.{is_true, deep_is, entered_fits, entered_is, entered_nested_of, first_is}
+use Rattle.inf_sources.proofs.Answering.{is_true, deep_is, entered_fits, entered_is, entered_nested_of, first_is, opened_in_vain}
 use Rattle.inf_sources.proofs.Fronts.{entered_given, failed_given}
+use Rattle.inf_sources.proofs.Openings.{failed_nested}
 use Rattle.inf_sources.proofs.open_files.OpenFiles.include.Goals as goal
 
 pub invariant_of-self-in-Ok : goal.invariant_of-self-in-Ok
@@ -161,3 +163,37 @@ returns-in-Err-Device-clause-given_all g c = λ honest start nested given.
     (subst (λ (outer : List Reader). AllGiven s (length start.all) new (record { nest = c.self.inside.names; lexer = c.self.inside.lexer; outer = outer }))
     (sym c.in_ok-reserve.ensures.items)
     (failed_given s before.nest.names names start old new before n left all))) nested given
+
+pub returns-in-Err-Device-clause-nested : goal.returns-in-Err-Device-clause-nested
+returns-in-Err-Device-clause-nested g c = λ honest start nested.
+    let files = g.F.Files in
+    let s = files.sources c.args.files.now in
+    let old = files.openings c.args.files.now in
+    let new = files.openings c.enter.new.files in
+    let before : Open = record { nest = c.self.inside.names; lexer = c.self.inside.lexer; outer = c.self.inside.outer.items } in
+    let names = candidates (map (λ d. d.now) c.args.directories.now) (innermost_name before.nest) c.args.text.now in
+    let left : Leaves s before.nest.names names old new (Err fault.Device) =
+    subst (λ f. Leaves s before.nest.names names old new (Err f)) c.in-Err-Device.field-0-is (c.in-Err-Device.ensures.leaves honest) in
+    subst (λ (o : Open). IsNested start old o → IsNested start new (record { nest = c.enter.new.self; lexer = c.self.inside.lexer; outer = c.reserve.new.self.items })) c.self.view_is
+    (λ n. subst (λ (nest : Nest). IsNested start new (record { nest = nest; lexer = c.self.inside.lexer; outer = c.reserve.new.self.items }))
+    (sym c.in-Err-Device.ensures.err)
+    (subst (λ (outer : List Reader). IsNested start new (record { nest = c.self.inside.names; lexer = c.self.inside.lexer; outer = outer }))
+    (sym c.in_ok-reserve.ensures.items)
+    (failed_nested s before.nest.names names start old new before n left))) nested
+
+pub returns-in-Err-Device-clause-in_vain : goal.returns-in-Err-Device-clause-in_vain
+returns-in-Err-Device-clause-in_vain g c = λ honest start nested.
+    let files = g.F.Files in
+    let s = files.sources c.args.files.now in
+    let old = files.openings c.args.files.now in
+    let new = files.openings c.enter.new.files in
+    let before : Open = record { nest = c.self.inside.names; lexer = c.self.inside.lexer; outer = c.self.inside.outer.items } in
+    let directories = map (λ d. d.now) c.args.directories.now in
+    let text = c.args.text.now in
+    let names = candidates directories (innermost_name before.nest) text in
+    let fit : can_name text ≡ false → ⊥ = λ h. let never = (c.in-Err-Device.ensures.bad_name h).0 in cc in
+    let flat : 16 ≤ length before.nest.open_files → ⊥ = λ h. let never = (c.in-Err-Device.ensures.too_deep (is_true (can_name text) fit) h).0 in cc in
+    let left : Leaves s before.nest.names names old new (Err fault.Device) =
+    subst (λ f. Leaves s before.nest.names names old new (Err f)) c.in-Err-Device.field-0-is (c.in-Err-Device.ensures.leaves honest) in
+    subst (λ (o : Open). IsNested start old o → OpenedInVain vain.Device (inclusion s directories text (nesting s start old o)) (nesting s start old o) (opened_since start new)) c.self.view_is
+    (λ n. opened_in_vain s directories text start old new before n c.self.invariant.0 fit flat left) nested

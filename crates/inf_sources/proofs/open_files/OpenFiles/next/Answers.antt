@@ -1,7 +1,7 @@
 use Rattle.std.proofs.Common.{length, refl, subst}
 use Rattle.inf_sources.specs.Open.{AllGiven, IsNested, Open, Reads, nesting}
 use Rattle.inf_sources.proofs.Fronts.{read_given}
-use Rattle.inf_sources.proofs.Nestings.{nested_on, reads_on}
+use Rattle.inf_sources.proofs.Nestings.{nested_on, opened_as_before, reads_on}
 use Rattle.inf_sources.proofs.open_files.OpenFiles.next.Goals as goal
 
 pub returns-clause-token : goal.returns-clause-token
@@ -27,6 +27,18 @@ returns-clause-nested g c = λ honest start nested.
     let along = c.next.ensures.gave honest in
     subst (λ (o : Open). IsNested start old o → IsNested start new after) c.self.view_is
     (λ n. nested_on start old new before after n along.gave.places along.gave.count refl) nested
+
+pub returns-clause-opened : goal.returns-clause-opened
+returns-clause-opened g c = λ honest start nested.
+    let files = g.F.Files in
+    let along = c.next.ensures.gave honest in
+    opened_as_before (files.sources c.args.files.now) start (files.openings c.args.files.now) (files.openings c.next.new.files) along.bytes along.gave
+
+pub returns-in_err-token-clause-opened : goal.returns-in_err-token-clause-opened
+returns-in_err-token-clause-opened g c = λ honest start nested.
+    let files = g.F.Files in
+    let along = c.next.ensures.gave honest in
+    opened_as_before (files.sources c.args.files.now) start (files.openings c.args.files.now) (files.openings c.next.new.files) along.bytes along.gave
 
 pub returns-clause-given_all : goal.returns-clause-given_all
 returns-clause-given_all g c = λ honest start nested given.

@@ -1,6 +1,6 @@
 -- The items so far stand behind what stood before.
 use Rattle.inf_assembler.specs.Routines.{IsOpen, Were, contents_of, moment_of}
-use Rattle.inf_assembler_tests.proofs.items.write_all.Given as goal
+use Rattle.inf_assembler_tests.proofs.routines.write_all.Given as goal
 
 abbrev pub invariant-loop-item : goal.invariant-loop-item
 invariant-loop-item g l =

@@ -1,0 +1,270 @@
+//! What commands do.
+use crate::metered::{Metered, Pace};
+use crate::words::{bytes_of, number, word};
+use inf_lexer::{EnterFault, LexFault, Lexer, Stack, Token, TokenKind};
+use inf_text::CharSet;
+use inf_token::memory_files::MemoryFiles;
+use std::alloc::{AllocError, Global};
+use std::collections::BTreeMap;
+use std::str;
+
+/// A folder of sources, and the files of it that are open, one inside the other.
+#[derive(Drop)]
+pub(crate) struct Session {
+    alloc: Global,
+    folder: BTreeMap<String, Vec<u8>>,
+    files: Metered,
+    stack: Stack,
+    lexers: Vec<Lexer>,
+}
+
+/// What gives all bytes at once, up to the end.
+const AT_ONCE: Pace = Pace {
+    most: [usize::MAX, usize::MAX],
+    reads: usize::MAX,
+    is_endless: false,
+};
+
+/// The pace that a command asks for.
+fn pace_of(command: &str) -> Pace {
+    Pace {
+        most: [number(command, 3), number(command, 4)],
+        reads: number(command, 5),
+        is_endless: word(command, 6) == "endless",
+    }
+}
+
+impl Session {
+    /// With an empty folder.
+    pub(crate) fn new(alloc: Global) -> Session {
+        let empty = MemoryFiles::new(alloc, BTreeMap::new(alloc));
+        Session {
+            alloc,
+            folder: BTreeMap::new(alloc),
+            files: Metered::new(empty, AT_ONCE),
+            stack: Stack::new(alloc, CharSet::Ascii, 0),
+            lexers: Vec::new(alloc),
+        }
+    }
+
+    /// Obeys the commands of a line, and answers what comes of each.
+    pub(crate) fn answer(&mut self, line: &str) -> Result<String, AllocError> {
+        let mut answer = String::new(self.alloc);
+        for command in line.split(" | ") {
+            if !answer.is_empty() {
+                answer.push_str(" | ")?;
+            }
+            answer.push_str(self.obey(command)?.as_str())?;
+        }
+        Ok(answer)
+    }
+
+    /// Obeys a command, and answers what comes of it.
+    fn obey(&mut self, command: &str) -> Result<String, AllocError> {
+        let name = word(command, 0);
+        match name {
+            "!" => return String::from_str(self.alloc, command),
+            "clear" => self.folder = BTreeMap::new(self.alloc),
+            "source" => self.add_source(word(command, 1), 0, "", word(command, 2))?,
+            "long" => self.add_source(
+                word(command, 1),
+                number(command, 2),
+                word(command, 3),
+                word(command, 4),
+            )?,
+            "numbers" => self.add_numbers(number(command, 1))?,
+            "new" => self.begin(word(command, 1), word(command, 2), pace_of(command))?,
+            "leave" => self.leave(),
+            _ => return self.told(name, command),
+        }
+        String::from_str(self.alloc, name)
+    }
+
+    /// What comes of a command that has something to tell.
+    fn told(&mut self, name: &str, command: &str) -> Result<String, AllocError> {
+        match name {
+            "main" => self.enter_main(word(command, 1)),
+            "enter" => self.enter(word(command, 1), command.split(' ').nth(2)),
+            "next" => self.next(),
+            "rest" => self.rest(),
+            "tokens" => self.tokens(command),
+            "ahead" => self.ahead(command),
+            "many" => self.enter_many(number(command, 1)),
+            "name" => self.name(word(command, 1)),
+            "opened" => format!(in self.alloc; "{}", self.files.opened),
+            "reads" => format!(in self.alloc; "{}", self.files.reads),
+            "given" => format!(in self.alloc; "{}", self.files.given),
+            _ => format!(in self.alloc; "no command: {name}"),
+        }
+    }
+
+    /// Puts a source into the folder: a piece so many times, and a text behind them.
+    fn add_source(
+        &mut self,
+        name: &str,
+        count: usize,
+        piece: &str,
+        text: &str,
+    ) -> Result<(), AllocError> {
+        let piece = bytes_of(self.alloc, piece)?;
+        let mut source = Vec::new(self.alloc);
+        for _ in 0..count {
+            source.extend_from_slice(piece.as_slice())?;
+        }
+        source.extend_from_slice(bytes_of(self.alloc, text)?.as_slice())?;
+        self.folder
+            .insert(String::from_str(self.alloc, name)?, source)?;
+        Ok(())
+    }
+
+    /// Puts so many empty sources into the folder, which have numbers for names.
+    fn add_numbers(&mut self, count: usize) -> Result<(), AllocError> {
+        for number in 0..count {
+            let name = format!(in self.alloc; "{number}")?;
+            self.folder.insert(name, Vec::new(self.alloc))?;
+        }
+        Ok(())
+    }
+
+    /// Begins anew with the sources of the folder.
+    fn begin(&mut self, set: &str, limit: &str, pace: Pace) -> Result<(), AllocError> {
+        let set = match set {
+            "ascii" => CharSet::Ascii,
+            _ => CharSet::Latin1,
+        };
+        let whole = MemoryFiles::new(self.alloc, self.folder.clone()?);
+        self.files = Metered::new(whole, pace);
+        self.stack = Stack::new(self.alloc, set, limit.parse().unwrap_or(0));
+        self.lexers = Vec::new(self.alloc);
+        Ok(())
+    }
+
+    /// Keeps the lexer of a file that was entered.
+    fn entered(&mut self, answer: Result<Lexer, EnterFault>) -> Result<String, AllocError> {
+        match answer {
+            Ok(lexer) => {
+                self.lexers.push(lexer)?;
+                String::from_str(self.alloc, "entered")
+            }
+            Err(fault) => format!(in self.alloc; "{fault:?}"),
+        }
+    }
+
+    /// Enters a main source.
+    fn enter_main(&mut self, name: &str) -> Result<String, AllocError> {
+        let answer = self.stack.enter_main(&mut self.files, name);
+        self.entered(answer)
+    }
+
+    /// Enters the file that a text names in directories with commas between them, or in none.
+    fn enter(&mut self, text: &str, directories: Option<&str>) -> Result<String, AllocError> {
+        let text = bytes_of(self.alloc, text)?;
+        let mut found = Vec::new(self.alloc);
+        if let Some(directories) = directories {
+            for directory in directories.split(',') {
+                found.push(directory)?;
+            }
+        }
+        let answer = self
+            .stack
+            .enter(&mut self.files, found.as_slice(), text.as_slice());
+        self.entered(answer)
+    }
+
+    /// Leaves the innermost file.
+    fn leave(&mut self) {
+        if self.files.depth > 0 {
+            self.stack.leave(&mut self.files);
+            let _ = self.lexers.pop();
+        }
+    }
+
+    /// The next token of the innermost file.
+    fn token(&mut self) -> Result<Token, LexFault> {
+        if self.files.depth == 0 {
+            return Err(LexFault::Read);
+        }
+        match self.lexers.last_mut() {
+            Some(lexer) => lexer.next(&mut self.files),
+            None => Err(LexFault::Read),
+        }
+    }
+
+    /// Reads a token, and tells its place and its spelling.
+    fn next(&mut self) -> Result<String, AllocError> {
+        let (kind, place) = match self.token() {
+            Ok(token) => (token.kind, token.place),
+            Err(fault) => return format!(in self.alloc; "{fault:?}"),
+        };
+        let Some(lexer) = self.lexers.last() else {
+            return String::from_str(self.alloc, "no file");
+        };
+        let spelling = str::from_utf8(lexer.spelling()).unwrap_or("not ASCII");
+        format!(in self.alloc; "{kind:?} {}:{} {spelling:?}", place.file, place.line)
+    }
+
+    /// Reads all tokens that are left of the innermost file, and tells their lines.
+    fn rest(&mut self) -> Result<String, AllocError> {
+        let mut told = String::new(self.alloc);
+        for _ in 0..u64::MAX {
+            let (kind, line) = match self.token() {
+                Ok(token) => (token.kind, token.place.line),
+                Err(fault) => {
+                    told.push_str(format!(in self.alloc; "{fault:?}")?.as_str())?;
+                    break;
+                }
+            };
+            told.push_str(format!(in self.alloc; "{kind:?} {line}")?.as_str())?;
+            if kind == TokenKind::End {
+                break;
+            }
+            told.push_str(", ")?;
+        }
+        Ok(told)
+    }
+
+    /// Reads all tokens of a text.
+    fn tokens(&mut self, command: &str) -> Result<String, AllocError> {
+        self.add_source("t.inf", 0, "", word(command, 3))?;
+        self.begin(word(command, 1), word(command, 2), AT_ONCE)?;
+        self.enter_main("t.inf")?;
+        self.rest()
+    }
+
+    /// Reads names of one length, and tells whether at most so many bytes are given ahead.
+    fn ahead(&mut self, command: &str) -> Result<String, AllocError> {
+        let (length, most) = (number(command, 2), number(command, 3));
+        let mut end: usize = 0;
+        for _ in 0..number(command, 1) {
+            let is_name = matches!(self.token(), Ok(token) if token.kind == TokenKind::Name);
+            end = end.saturating_add(length);
+            let given = self.files.given;
+            if !is_name || given.saturating_add(1) < end || given > end.saturating_add(most) {
+                return format!(in self.alloc; "{given} bytes at {end}");
+            }
+        }
+        String::from_str(self.alloc, "kept")
+    }
+
+    /// Enters and leaves sources that have numbers for names.
+    fn enter_many(&mut self, count: usize) -> Result<String, AllocError> {
+        for number in 0..count {
+            let name = format!(in self.alloc; "{number}")?;
+            let answer = self.enter_main(name.as_str())?;
+            if answer.as_str() != "entered" {
+                return Ok(answer);
+            }
+            self.leave();
+        }
+        String::from_str(self.alloc, "entered")
+    }
+
+    /// The name of a file.
+    fn name(&self, number: &str) -> Result<String, AllocError> {
+        let name = match number.parse() {
+            Ok(file) => self.stack.name(file),
+            Err(_) => None,
+        };
+        String::from_str(self.alloc, name.unwrap_or("none"))
+    }
+}

@@ -1,0 +1,94 @@
+-- What has been opened where a turn was given up.
+use Rattle.std.proofs.Common.{◌≡◌, inl, inr, ℕ, List, ◌++◌, Bool, true, false, cond, refl, sym, ap, ◌∙◌}
+use Rattle.inf_token.specs.Files.{Openings, Sources}
+use Rattle.inf_characters.specs.declared.characters.CharSet.{CharSet}
+use Rattle.inf_scanner.specs.declared.tokens.Place.{Place}
+use Rattle.inf_unit.proofs.Cases.{of_both}
+use Rattle.inf_unit.specs.Directives.{Asked, Include}
+use Rattle.inf_reader.specs.Reading.{is_mode_ended}
+use Rattle.inf_reader.specs.declared.mode.Mode.{Mode}
+use Rattle.inf_reader.specs.declared.mode.Mode.TheVariants as mode
+use Rattle.inf_sources.specs.Inclusions.{Inclusion, Nesting, OpenedInVain, Opens, OpensNone, inclusion, nested_by}
+use Rattle.inf_sources.specs.Open.{Open, nesting, opened_since}
+use Rattle.inf_sources.specs.declared.faults.IncludeFault.TheVariants as vain
+use Rattle.inf_sources.specs.declared.open_files.Included.{Included}
+use Rattle.inf_sources.specs.declared.open_files.Included.TheVariants as answer
+use Rattle.inf_session.specs.Choices.{Choices}
+use Rattle.inf_session.specs.Leading.{OpensAll, OpensWithin}
+use Rattle.inf_session.specs.Session.{State, answered, asked_nothing, followed, has_ended, heeded, included, included_by, is_resting, left, none_included, piece_closed, rested, stepped, turn}
+use Rattle.inf_session.specs.Standing.{state}
+use Rattle.inf_session.specs.declared.session.Session.{Session}
+
+-- An inclusion
+
+none_opened : (unit : Place) (text : List ℕ) (why : Included) (s : State) → (none_included unit text why s).nesting ≡ s.nesting
+none_opened unit text answer.Entered s = refl
+none_opened unit text answer.NotThere s = refl
+none_opened unit text answer.TooDeep s = refl
+
+included_opens : (sources : Sources) (o : Choices) (unit : Place) (text : List ℕ) (set : CharSet) (limit : ℕ) (i : Inclusion) (s : State)
+    → (nested_by set limit sources i s.nesting).openings ≡ (included_by sources o unit text i s).nesting.openings
+included_opens sources o unit text set limit (Opens name) s = refl
+included_opens sources o unit text set limit (OpensNone why) s = ap (λ (n : Nesting). n.openings) (sym (none_opened unit text why s))
+
+-- it was tried
+pub tried : (sources : Sources) (o : Choices) (unit : Place) (text : List ℕ) (set : CharSet) (limit : ℕ) (start old new : Openings) (before : Session) (after : Open)
+    → nesting sources start new after
+    ≡ nested_by set limit sources (inclusion sources o.directories text (nesting sources start old before.open_files)) (nesting sources start old before.open_files)
+    → OpensWithin (included sources o unit text) (state sources start old before) (opened_since start new)
+tried sources o unit text set limit start old new before after e =
+    inr (λ told. ap (λ (n : Nesting). n.openings) e
+    ∙ included_opens sources o unit text set limit (inclusion sources o.directories text (nesting sources start old before.open_files)) (state sources start old before told))
+
+-- it could not be tried, or its file is one too many
+pub in_vain : (sources : Sources) (o : Choices) (unit : Place) (text : List ℕ) (start old : Openings) (before : Session) (openings : List (List ℕ))
+    → OpenedInVain vain.Device (inclusion sources o.directories text (nesting sources start old before.open_files)) (nesting sources start old before.open_files) openings
+    → OpensWithin (included sources o unit text) (state sources start old before) openings
+in_vain sources o unit text start old before openings (inl same) = inl (λ told. same)
+in_vain sources o unit text start old before openings (inr t) =
+    inr (λ told. t.openings_are ∙ sym (ap (λ (i : Inclusion). (included_by sources o unit text i (state sources start old before told)).nesting.openings) t.is_opened))
+
+-- What a directive asks
+
+pub not_ended : (m : Mode) → (m ≡ mode.Ended → ⊥) → is_mode_ended m ≡ false
+not_ended mode.Reads h = refl
+not_ended mode.SkipsDirective h = refl
+not_ended mode.SkipsRoutine h = refl
+not_ended mode.Ended h = absurd (h refl)
+
+pub heeds : (sources : Sources) (o : Choices) (unit : Place) (text : List ℕ) (s : State) → s.work.report.counts.is_over ≡ false → is_mode_ended s.reading.mode ≡ false
+    → s.work.asked ≡ Include text unit → included sources o unit text (asked_nothing s) ≡ heeded sources o s
+heeds sources o unit text s going reads asks =
+    sym (ap (λ b. cond b s (cond (is_mode_ended s.reading.mode) (left s) (answered s.work.asked sources o (asked_nothing s)))) going
+    ∙ ap (λ b. cond b (left s) (answered s.work.asked sources o (asked_nothing s))) reads
+    ∙ ap (λ (a : Asked). answered a sources o (asked_nothing s)) asks)
+
+pub heeded_within : (sources : Sources) (o : Choices) (unit : Place) (text : List ℕ) (was mid : List ℕ → State) (openings : List (List ℕ))
+    → ((told : List ℕ) → (was told).work.report.counts.is_over ≡ false) → ((told : List ℕ) → is_mode_ended (was told).reading.mode ≡ false)
+    → ((told : List ℕ) → (was told).work.asked ≡ Include text unit) → ((told : List ℕ) → mid told ≡ asked_nothing (was told))
+    → OpensWithin (included sources o unit text) mid openings → OpensWithin (heeded sources o) was openings
+heeded_within sources o unit text was mid openings going reads asks same (inl h) =
+    inl (λ told. h told ∙ ap (λ (s : State). s.nesting.openings) (same told))
+heeded_within sources o unit text was mid openings going reads asks same (inr h) =
+    inr (λ told. h told ∙ ap (λ (s : State). (included sources o unit text s).nesting.openings) (same told)
+    ∙ ap (λ (s : State). s.nesting.openings) (heeds sources o unit text (was told) (going told) (reads told) (asks told)))
+
+-- Behind it
+
+rested_nesting : (s : State) → (rested s).nesting ≡ s.nesting
+rested_nesting s =
+    of_both (λ (t : State). t.nesting ≡ s.nesting) (has_ended s) s (cond (is_resting s) (piece_closed s) s) (λ _. refl)
+    (λ _. of_both (λ (t : State). t.nesting ≡ s.nesting) (is_resting s) (piece_closed s) s (λ _. refl) (λ _. refl))
+
+pub followed_within : (sources : Sources) (o : Choices) (was : List ℕ → State) (openings : List (List ℕ))
+    → OpensWithin (heeded sources o) was openings → OpensWithin (followed sources o) was openings
+followed_within sources o was openings (inl h) = inl h
+followed_within sources o was openings (inr h) = inr (λ told. h told ∙ ap (λ (n : Nesting). n.openings) (sym (rested_nesting (heeded sources o (was told)))))
+
+-- A turn
+
+-- behind its token
+pub turned_within : (sources : Sources) (o : Choices) (was mid : List ℕ → State) (openings : List (List ℕ)) → ((told : List ℕ) → mid told ≡ stepped (was told))
+    → OpensWithin (followed sources o) mid openings → OpensWithin (turn sources o) was openings
+turned_within sources o was mid openings first (inl h) = inl (λ told. h told ∙ ap (λ (s : State). s.nesting.openings) (first told))
+turned_within sources o was mid openings first (inr h) = inr (λ told. h told ∙ ap (λ (s : State). (followed sources o s).nesting.openings) (first told))

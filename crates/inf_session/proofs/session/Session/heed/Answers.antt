@@ -1,0 +1,48 @@
+use Rattle.std.proofs.Common.{◌≡◌, List, ℕ, inl, ap, false, refl, sym, ◌∙◌}
+use Rattle.std.proofs.lemmas.Result.{on_err_weaker, on_ok_weaker}
+use Rattle.inf_opcode.proofs.Growing.{on_err}
+use Rattle.inf_reader.specs.Reading.{is_mode_ended}
+use Rattle.inf_sources.specs.Open.{opened_since}
+use Rattle.inf_unit.specs.Directives.{Asked, Include}
+use Rattle.inf_work.specs.Actions.{Work}
+use Rattle.inf_session.specs.Choices.{chosen}
+use Rattle.inf_session.specs.Session.{State, asked_nothing, included}
+use Rattle.inf_session.specs.Standing.{state}
+use Rattle.inf_session.proofs.Opening.{heeded_within, heeds, not_ended}
+use Rattle.inf_session.proofs.session.Session.heed.Goals.{in-Ended, in_default}
+use Rattle.inf_session.proofs.session.Session.heed.Goals as goal
+
+pub returns-in-Include-clause-heeded : goal.returns-in-Include-clause-heeded
+returns-in-Include-clause-heeded g c = λ honest start nested.
+    let files = g.F.Files in
+    let s = files.sources c.args.files.now in
+    let o = chosen c.args.self.now.setup in
+    let text = c.as_slice.result.now in
+    let unit = c.in-Include.unit in
+    let was = state s start (files.openings c.args.files.now) c.args.self.now in
+    let going = sym c.is_over.ensures ∙ c.if-is_over.false in
+    let reads : is_mode_ended c.args.self.now.progress.reader.mode ≡ false =
+    elim c.match-matches.branch [ in-Ended w ↦ (let never = sym w.matches-is ∙ c.if-matches.false in cc) | in_default w ↦ not_ended c.args.self.now.progress.reader.mode w.in_default.not-Ended ] in
+    let asks = sym c.in-Include.ensures.asked ∙ ap (λ (t : List ℕ). Include t unit) (sym c.as_slice.ensures.value) in
+    on_ok_weaker c.include.result
+    (λ h told. h told ∙ ap (λ (w : Work). included s o unit text (record (was told) { work = w })) c.take_asked.ensures.nothing
+    ∙ heeds s o unit text (was told) going reads asks)
+    (c.include.ensures.included honest start nested)
+
+pub returns-in-Include-clause-opened : goal.returns-in-Include-clause-opened
+returns-in-Include-clause-opened g c = λ honest start nested.
+    let files = g.F.Files in
+    let s = files.sources c.args.files.now in
+    let o = chosen c.args.self.now.setup in
+    let text = c.as_slice.result.now in
+    let unit = c.in-Include.unit in
+    let old = files.openings c.args.files.now in
+    let was = state s start old c.args.self.now in
+    let going = sym c.is_over.ensures ∙ c.if-is_over.false in
+    let reads : is_mode_ended c.args.self.now.progress.reader.mode ≡ false =
+    elim c.match-matches.branch [ in-Ended w ↦ (let never = sym w.matches-is ∙ c.if-matches.false in cc) | in_default w ↦ not_ended c.args.self.now.progress.reader.mode w.in_default.not-Ended ] in
+    let asks = sym c.in-Include.ensures.asked ∙ ap (λ (t : List ℕ). Include t unit) (sym c.as_slice.ensures.value) in
+    on_err_weaker c.include.result
+    (λ h. heeded_within s o unit text was (λ told. record (was told) { work = _ }) (opened_since start (files.openings c.include.new.files)) (λ told. going) (λ told. reads) (λ told. asks)
+    (λ told. ap (λ (w : Work). record (was told) { work = w }) c.take_asked.ensures.nothing) h)
+    (c.include.ensures.opened honest start nested)
