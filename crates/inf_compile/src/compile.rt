@@ -69,7 +69,8 @@ pub fn compile<F: Files, M: Sink, S: Sink>(
     // After a fault of reading it is all that comes with the tokens that were read, which is so of some number of turns from the start.
     ensures heard { let name = source_name options.now.source in
         IsTrue (F.is_honest files.old) → IfErr result (λ fault. IfRead fault (λ told. Heard (F.sources files.old) (chosen_by options.now)
-        (start (F.sources files.old) (chosen_by options.now) name) (M.taken messages.old) (M.taken messages.new))) }
+        (start (F.sources files.old) (chosen_by options.now) name) (F.given files.old) (F.given files.new)
+        (F.openings files.old) (F.openings files.new) (M.taken messages.old) (M.taken messages.new))) }
 
     // With any reader nothing is left open, and no story comes with an error.
     ensures depth { F.depth files.new ≡ F.depth files.old }

@@ -1,5 +1,6 @@
 pub mod Giving
 pub mod Hearing
+pub mod Unfinished
 pub mod Taken
 pub mod Scanned
 pub mod NameLists

@@ -1,10 +1,10 @@
 -- What a lexer is.
-use Rattle.std.specs.Prelude.{◌≡◌, ◌+◌, ◌<◌, ◌≤◌, ◌⊎◌, ℕ, List, [], length, Bool, true, false}
+use Rattle.std.specs.Prelude.{◌≡◌, ◌+◌, ◌<◌, ◌≤◌, ◌⊎◌, ℕ, List, [], ◌++◌, length, Bool, true, false}
 use Rattle.inf_characters.specs.declared.characters.CharSet.{CharSet}
 use Rattle.inf_scanner.specs.Kept.{Kept, nothing_kept}
 use Rattle.inf_scanner.specs.Lines.{first_line}
 use Rattle.inf_scanner.specs.TokenLaws.{is_run}
-use Rattle.inf_scanner.specs.Tokens.{Read}
+use Rattle.inf_scanner.specs.Tokens.{Read, next_token}
 use Rattle.inf_scanner.specs.declared.lines.Lines.{Lines}
 use Rattle.inf_scanner.specs.declared.tokens.Token.{Token}
 use Rattle.inf_scanner.specs.declared.tokens.TokenKind.{TokenKind}
@@ -45,3 +45,16 @@ pub record Took (k : TokenKind) (before after : View) (kept : Kept) : Type 0 whe
   pub last : k ≡ kind.End → IsAtEnd after
   pub again : IsAtEnd before → k ≡ kind.End
   pub short : is_run k ≡ true → length kept.bytes ≤ 32
+
+-- These bytes, at the front of what is still to come, do not end the next token: whatever follows them it takes them all, and of some
+-- bytes that may follow one at least.
+pub record IsUnfinished (set : CharSet) (limit : ℕ) (lines : Lines) (bytes : List ℕ) : Type 0 where
+  pub all : (behind : List ℕ) → length (next_token set limit lines (bytes ++ behind)).rest ≤ length behind
+  pub more : List ℕ
+  pub takes : length (next_token set limit lines (bytes ++ more)).rest < length more
+
+-- What is still to come, but for what was not given, does not end the next token.
+pub record StaysUnfinished (set : CharSet) (limit : ℕ) (lines : Lines) (coming unread : List ℕ) : Type 0 where
+  pub bytes : List ℕ
+  pub whole : coming ≡ bytes ++ unread
+  pub is_unfinished : IsUnfinished set limit lines bytes

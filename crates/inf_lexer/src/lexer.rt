@@ -1,10 +1,10 @@
 //! The tokens of an open source, one after another.
 ghost use Rattle.std.specs.Prelude.{◌≡◌, ◌+◌, ◌-◌, ◌<◌, ◌≤◌, ◌⊎◌, [], false, true, length, min, is_err, IsTrue, IsErrOf, IfOk, OnOk, Err};
 ghost use Rattle.inf_token.specs.Files.{Rose, last_count};
-ghost use Rattle.inf_lexer.specs.Unread.{Along, Ends, Heard, to_come};
+ghost use Rattle.inf_lexer.specs.Unread.{Along, Ends, Heard, to_come, unread};
 ghost use Rattle.inf_scanner.specs.Scanning.{Found, begun, find, is_quoted, sight};
 ghost use Rattle.inf_scanner.specs.Tokens.{Read, next_token};
-ghost use Rattle.inf_lexer.specs.Readers.{Took, at_front, read_out};
+ghost use Rattle.inf_lexer.specs.Readers.{StaysUnfinished, Took, at_front, read_out};
 
 use crate::faults::LexFault;
 use crate::window::Window;
@@ -39,6 +39,9 @@ fn scan<F: Files>(
     ensures more { window.old.given ≤ window.new.given }
     ensures cause { IsErrOf result LexFault.Read →
         Rose (F.faults files.old) (F.faults files.new) ⊎ (16777216 < window.new.given) }
+    ensures unfinished { IsErrOf result LexFault.Read → window.new.given ≤ 16777216 → IsTrue (F.is_honest files.old) →
+        StaysUnfinished set limit seen.old.lines (to_come (F.sources files.old) (F.openings files.old) window.old)
+        (unread (F.sources files.old) (F.openings files.new)) }
     ensures memory { IsErrOf result LexFault.Memory → IsTrue (F.is_honest files.old) →
         is_quoted (find set limit State.Gap (begun seen.old.lines) (to_come (F.sources files.old) (F.openings files.old) window.old)).ending ≡ true }
     ensures given { min (F.given files.old + (window.new.given - window.old.given)) last_count ≤ F.given files.new }
@@ -158,6 +161,9 @@ impl Lexer {
         // A refusal has its cause, and is the last answer but `Read`.
         ensures cause { IsErrOf result LexFault.Read → (self.old.has_failed ≡ true)
             ⊎ (Rose (F.faults files.old) (F.faults files.new) ⊎ (16777216 < self.new.window.given)) }
+        ensures unfinished { self.old.has_failed ≡ false → IsErrOf result LexFault.Read → self.new.window.given ≤ 16777216 → IsTrue (F.is_honest files.old) →
+            StaysUnfinished self.old.set self.old.limit self.old.lines (to_come (F.sources files.old) (F.openings files.old) self.old.window)
+            (unread (F.sources files.old) (F.openings files.new)) }
         ensures memory { IsErrOf result LexFault.Memory → IsTrue (F.is_honest files.old) →
             is_quoted (find self.old.set self.old.limit State.Gap (begun self.old.lines)
             (to_come (F.sources files.old) (F.openings files.old) self.old.window)).ending ≡ true }

@@ -64,6 +64,8 @@ impl Window {
         ensures more { self.old.given ≤ self.new.given }
         ensures few { IfOk result (λ _. self.new.given ≤ 16777216) }
         ensures err { IfErr result (λ fault. fault ≡ LexFault.Read) }
+        ensures refused { IsErr result → (self.old.left ≡ []) × (self.old.is_over ≡ false) }
+        ensures unread { IsErr result → self.new.given ≤ 16777216 → self.new.given ≡ self.old.given }
         ensures cause { IsErr result →
             Rose (F.faults files.old) (F.faults files.new) ⊎ (16777216 < self.new.given) }
         ensures given { min (F.given files.old + (self.new.given - self.old.given)) last_count
@@ -101,6 +103,7 @@ impl Window {
         ensures taken { self.new.given ≡ self.old.given + length self.new.left }
         ensures few { IfOk result (λ _. self.new.given ≤ 16777216) }
         ensures err { IfErr result (λ fault. fault ≡ LexFault.Read) }
+        ensures unread { IsErr result → self.new.given ≤ 16777216 → self.new.given ≡ self.old.given }
         ensures cause { IsErr result →
             Rose (F.faults files.old) (F.faults files.new) ⊎ (16777216 < self.new.given) }
         ensures given { min (F.given files.old + (self.new.given - self.old.given)) last_count

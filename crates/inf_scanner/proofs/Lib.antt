@@ -1,4 +1,5 @@
 pub mod Beginning
+pub mod Growing
 pub mod Quoted
 pub mod Runs
 pub mod SpellingLaws

@@ -6,7 +6,7 @@ use Rattle.inf_scanner.specs.declared.scanner.State.{State}
 use Rattle.inf_scanner.specs.declared.scanner.Turn.{Turn}
 use Rattle.inf_scanner.specs.declared.scanner.Turn.TheVariants as turn_to
 
-abbrev after_turn : CharSet → ℕ → Turn × Sight → ℕ → List ℕ → Found
+abbrev pub after_turn : CharSet → ℕ → Turn × Sight → ℕ → List ℕ → Found
 after_turn set limit t b bs =
     elim t.0 [
       | turn_to.On next ↦ find set limit next t.1 bs

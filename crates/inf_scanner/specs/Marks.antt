@@ -1,5 +1,5 @@
 -- The marks of the language (Designer's Manual, fourth edition, sections 1.5 and 3).
-use Rattle.std.specs.Prelude.{ℕ, List, [], ◌∷◌, ◌==◌, if◌then◌else◌, Option, Some, None}
+use Rattle.std.specs.Prelude.{ℕ, List, [], ◌∷◌, ◌==◌, if◌then◌else◌, Bool, true, false, Option, Some, None}
 use Rattle.inf_scanner.specs.declared.tokens.Mark.{Mark}
 use Rattle.inf_scanner.specs.declared.tokens.Mark.TheVariants as mark
 
@@ -45,6 +45,21 @@ longer_mark mark.Less b = if b == 61 then Some mark.LessOrEqual else if b == 60 
 longer_mark mark.Dot b = if b == 38 then Some mark.DotAnd else if b == 35 then Some mark.DotHash else None
 longer_mark mark.Hash b = if b == 35 then Some mark.DoubleHash else None
 longer_mark _ b = None
+
+-- whether some mark is this one and one more byte
+abbrev pub can_grow : Mark → Bool
+can_grow mark.Minus = true
+can_grow mark.Decrement = true
+can_grow mark.Plus = true
+can_grow mark.BitAnd = true
+can_grow mark.BitOr = true
+can_grow mark.BitNot = true
+can_grow mark.Assign = true
+can_grow mark.Greater = true
+can_grow mark.Less = true
+can_grow mark.Dot = true
+can_grow mark.Hash = true
+can_grow _ = false
 
 -- how each mark is spelled
 abbrev pub mark_bytes : Mark → List ℕ

@@ -1,8 +1,8 @@
 -- Tokens byte by byte, over the whole of what is left of a source (Designer's Manual, fourth edition, sections 1.1 to 1.4).
-use Rattle.std.specs.Prelude.{ℕ, List, [], ◌∷◌, Bool, true, false, not, ◌&&◌, ◌||◌, ◌==◌, nat_le, if◌then◌else◌, Some, None}
+use Rattle.std.specs.Prelude.{ℕ, ◌<◌, List, [], ◌∷◌, length, Bool, true, false, not, ◌&&◌, ◌||◌, ◌==◌, nat_le, if◌then◌else◌, Option, Some, None}
 use Rattle.inf_characters.specs.Characters.{is_line_end, is_white}
 use Rattle.inf_characters.specs.declared.characters.CharSet.{CharSet}
-use Rattle.inf_scanner.specs.Marks.{first_mark, longer_mark}
+use Rattle.inf_scanner.specs.Marks.{can_grow, first_mark, longer_mark}
 use Rattle.inf_scanner.specs.declared.scanner.State.{State}
 use Rattle.inf_scanner.specs.declared.scanner.State.TheVariants as state
 use Rattle.inf_scanner.specs.declared.scanner.Ending.{Ending}
@@ -71,6 +71,16 @@ at_end (state.Mark m) = ending.Mark m
 at_end state.Text = ending.Unclosed
 at_end (state.Quote after_at) = ending.Unclosed
 
+-- whether a byte may still come that is of the token: with any but a mark that none is longer than
+abbrev pub goes_on : State → Bool
+goes_on (state.Mark m) = can_grow m
+goes_on _ = true
+
+-- what the token is at once, where none may
+abbrev pub ended_at : State → Option Ending
+ended_at (state.Mark m) = if can_grow m then None else Some (ending.Mark m)
+ended_at _ = None
+
 -- how many bytes are kept: of a quoted token as many as the limit, and 32 of every other
 abbrev pub most : ℕ → State → ℕ
 most limit state.Text = limit
@@ -137,6 +147,11 @@ find set limit s seen (b ∷ bs) =
       | turn_to.Behind e ↦ record { ending = e; seen = t.1; rest = b ∷ bs }
     ]
 
+-- Of some bytes that may follow, the token takes one at least.
+pub record TakesMore (set : CharSet) (limit : ℕ) (s : State) (seen : Sight) : Type 0 where
+  pub more : List ℕ
+  pub takes : length (find set limit s seen more).rest < length more
+
 -- the token that is found behind a byte of which this came
 abbrev pub found_after : CharSet → ℕ → Turn → Sight → List ℕ → Found
 found_after set limit (turn_to.On next) seen bs = find set limit next seen bs
@@ -147,6 +162,11 @@ found_after set limit (turn_to.Behind e) seen bs = record { ending = e; seen = s
 abbrev pub is_on : Turn → Bool
 is_on (turn_to.On _) = true
 is_on _ = false
+
+-- whether a token that goes on is one with which a byte that may come can
+abbrev pub is_open : Turn → Bool
+is_open (turn_to.On s) = goes_on s
+is_open _ = true
 
 abbrev pub sight : code.Seen → Sight
 sight s = record { first = s.first; kept = s.spelling; lines = s.lines }

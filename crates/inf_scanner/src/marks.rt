@@ -1,6 +1,6 @@
 //! The marks, byte by byte: each front of a mark is a mark.
-ghost use Rattle.std.specs.Prelude.{◌≡◌, ℕ, IsTrue};
-ghost use Rattle.inf_scanner.specs.Marks.{first_mark, longer_mark};
+ghost use Rattle.std.specs.Prelude.{◌≡◌, ℕ, IsTrue, not};
+ghost use Rattle.inf_scanner.specs.Marks.{can_grow, first_mark, longer_mark};
 
 use crate::tokens::Mark;
 
@@ -65,20 +65,21 @@ pub(crate) fn longer_mark(mark: Mark, byte: u8) -> Option<Mark>
 
 /// Whether no mark is this one and one more byte.
 pub(crate) fn is_whole(mark: Mark) -> bool
-    ensures { IsTrue result → (byte : ℕ) → longer_mark mark byte ≡ None }
+    ensures grows { result ≡ not (can_grow mark) }
+    ensures none { IsTrue result → (byte : ℕ) → longer_mark mark byte ≡ None }
 {
-    !matches!(
-        mark,
+    match mark {
         Mark::Minus
-            | Mark::Decrement
-            | Mark::Plus
-            | Mark::BitAnd
-            | Mark::BitOr
-            | Mark::BitNot
-            | Mark::Assign
-            | Mark::Greater
-            | Mark::Less
-            | Mark::Dot
-            | Mark::Hash
-    )
+        | Mark::Decrement
+        | Mark::Plus
+        | Mark::BitAnd
+        | Mark::BitOr
+        | Mark::BitNot
+        | Mark::Assign
+        | Mark::Greater
+        | Mark::Less
+        | Mark::Dot
+        | Mark::Hash => false,
+        _ => true,
+    }
 }

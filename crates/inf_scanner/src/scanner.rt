@@ -1,9 +1,10 @@
 //! Tokens byte by byte: each byte is passed over, is kept, or ends the token.
-ghost use Rattle.std.specs.Prelude.{◌≡◌, ℕ, ◌+◌, ◌<◌, ◌≤◌, ◌^◌, ◌++◌, List, drop, length, true, IfOk, IsErr, OnErr};
+ghost use Rattle.std.specs.Prelude.{◌≡◌, ℕ, ◌+◌, ◌<◌, ◌≤◌, ◌^◌, ◌++◌, List, drop, length, true, IfOk, IfSome, IsErr, OnErr};
+ghost use Rattle.inf_characters.specs.declared.characters.CharSet.{CharSet as Set};
 ghost use Rattle.inf_scanner.specs.Lines.{first_line};
 ghost use Rattle.std.specs.List.{prefix_len};
 ghost use Rattle.inf_scanner.specs.Runs.{is_blank, is_name_byte, is_plain, stays};
-ghost use Rattle.inf_scanner.specs.Scanning.{is_run_byte, begins_number, step_of, begin, at_end, most, is_gap, turn, sight, marked, begun, find, found_after, is_behind, is_on, is_quoted, most_behind};
+ghost use Rattle.inf_scanner.specs.Scanning.{is_run_byte, begins_number, step_of, begin, at_end, most, is_gap, turn, sight, marked, begun, ended_at, find, found_after, goes_on, is_behind, is_on, is_open, is_quoted, most_behind, Sight};
 
 use crate::lines::Lines;
 use crate::marks::{first_mark, is_whole, longer_mark};
@@ -209,6 +210,18 @@ impl State {
         }
     }
 
+    /// What the token is at once, where no byte can go on with it.
+    fn ended(self) -> Option<Ending>
+        ensures value { result ≡ ended_at self }
+        ensures found { IfSome result (λ e. (set : Set) (limit : ℕ) (seen : Sight) (rest : List ℕ) →
+            record { ending = e; seen = seen; rest = rest } ≡ find set limit self seen rest) }
+    {
+        match self {
+            State::Mark(mark) if is_whole(mark) => Some(Ending::Mark(mark)),
+            _ => None,
+        }
+    }
+
     /// How many bytes of it are kept, where `limit` is for a quoted token.
     fn most(self, limit: u32) -> usize
         ensures { result ≡ most limit self }
@@ -264,7 +277,8 @@ impl Seen {
         }
     }
 
-    /// Takes bytes up to the end of the token, or all of them. Answers how many, and what came of the last that it looked at.
+    /// Takes bytes up to the end of the token, or all of them. Answers how many, and what came of the last that it looked at. A mark
+    /// that none is longer than ends at once, without a look at what follows.
     pub fn take_all(
         &mut self,
         set: CharSet,
@@ -277,6 +291,7 @@ impl Seen {
             ≡ find set limit from (sight self.old) (bytes.now ++ rest)) }
         ensures within { IfOk result (λ r. r.0 ≤ length bytes.now) }
         ensures all { IfOk result (λ r. is_on r.1 ≡ true → r.0 ≡ length bytes.now) }
+        ensures opens { IfOk result (λ r. goes_on from ≡ true → is_open r.1 ≡ true) }
         ensures few { IfOk result (λ r. self.new.lines.line ≤ self.old.lines.line + r.0) }
         ensures memory { IsErr result → (rest : List ℕ) → is_quoted (find set limit from (sight self.old) (bytes.now ++ rest)).ending ≡ true }
     {
@@ -290,10 +305,10 @@ impl Seen {
                 return Ok((taken, Turn::On(state)));
             };
             match self.take(set, limit, state, *byte)? {
-                Turn::On(State::Mark(mark)) if is_whole(mark) => {
-                    return Ok((taken + 1, Turn::Last(Ending::Mark(mark))));
-                }
-                Turn::On(next) => state = next,
+                Turn::On(next) => match next.ended() {
+                    Some(ending) => return Ok((taken + 1, Turn::Last(ending))),
+                    None => state = next,
+                },
                 Turn::Last(ending) => return Ok((taken + 1, Turn::Last(ending))),
                 Turn::Behind(ending) => return Ok((taken, Turn::Behind(ending))),
             }
@@ -311,6 +326,7 @@ impl Seen {
     ) -> Result<(usize, State), AllocError>
         ensures found { IfOk result (λ r. (set : CharSet) (rest : List ℕ) → find set limit r.1 (sight self.new) (drop r.0 bytes.now ++ rest)
             ≡ find set limit state (sight self.old) (bytes.now ++ rest)) }
+        ensures opens { IfOk result (λ r. goes_on state ≡ true → goes_on r.1 ≡ true) }
         ensures within { IfOk result (λ r. r.0 ≤ length bytes.now) }
         ensures line { self.new.lines.line ≡ self.old.lines.line }
         ensures memory { IsErr result → 32 < most limit state }

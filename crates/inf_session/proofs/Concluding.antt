@@ -4,7 +4,8 @@ use Rattle.inf_token.specs.Files.{Opening, Openings, Sources, opened}
 use Rattle.inf_symbol.specs.Sinks.{Takes}
 use Rattle.inf_sources.specs.Inclusions.{Nesting, main_opened}
 use Rattle.inf_sources.specs.Cursors.{Cursor}
-use Rattle.inf_lexer.specs.Unread.{View, innermost_place, unread_of}
+use Rattle.std.proofs.lemmas.Bool.{cases_lt}
+use Rattle.inf_lexer.specs.Unread.{View, innermost_place, unread as unread_now, unread_of}
 use Rattle.inf_sources.proofs.Places.{innermost_of, last_of}
 use Rattle.inf_conditionals.specs.Open.{Conditions, no_conditions}
 use Rattle.inf_sources.specs.Open.{AllGiven, AreCounted, AreNested, IsCounted, IsGiven, IsNested, NamesAreOpened, Open, closed_to, cursor_of, cursors_at, nesting, opened_since, rest_of}
@@ -19,12 +20,13 @@ use Rattle.inf_characters.specs.declared.characters.CharSet.{CharSet}
 use Rattle.inf_lexer.specs.Readers.{Reader, at_front}
 use Rattle.inf_session.specs.declared.faults.Fault.{Fault}
 use Rattle.inf_session.specs.declared.faults.Fault.TheVariants as fault
-use Rattle.inf_session.specs.Leading.{CutsShort, IsFront, OpensAll, Writes, WroteAll}
+use Rattle.inf_session.specs.Leading.{CutsShort, GivenUp, IsFront, NeedsMore, OpensAll, Writes}
 use Rattle.inf_session.specs.Outcome.{Ending, IsCompiled, IsOutcomeOf, ending_of, finished}
 use Rattle.inf_session.specs.Session.{IsRead, State, has_ended, run, start}
 use Rattle.inf_session.specs.Standing.{state}
 use Rattle.inf_session.specs.declared.session.Session.{Session}
 use Rattle.inf_session.specs.declared.translation.Compiled.{Compiled}
+use Rattle.inf_session.proofs.Standings.{if_read_more}
 use Rattle.inf_session.proofs.Leadings.{end_begins, front_more, front_then, same_end, takes_none, takes_then}
 
 -- fronts of what follows the same
@@ -230,12 +232,33 @@ unread (Err fault.Messages) first before mid now gb gn h old between new f e le 
 unread (Err (fault.Story n)) first before mid now gb gn h old between new f e le same given names all = tt
 
 -- all was written that comes with some turns
-pub heard_of : (s : Sources) (o : Choices) (was : List ℕ → State) (old new : Option (List ℕ)) (turns : ℕ) → WroteAll (run s o turns) was old new → Heard s o (was []) old new
-heard_of s o was old new turns all = record { turns = turns; takes = subst (λ (lines : List ℕ). Takes old new lines) (sym (all.same [])) all.takes }
+heard_of : (s : Sources) (o : Choices) (st : State) (was : List ℕ → State) (gb gn : ℕ) (old now new : Openings) (f : Open) (before after : Option (List ℕ)) → was [] ≡ st
+    → new.all ≡ now.all → GivesAtLeast gb f gn → GivenUp s o was before after f.lexer.window.given (unread_now s now) → Heard s o st gb gn old new before after
+heard_of s o st was gb gn old now new f before after begun all given g = record {
+  turns = g.turns;
+  takes = subst (λ (x : State). Takes before after (run s o g.turns x).told) begun (subst (λ (lines : List ℕ). Takes before after lines) (sym (g.wrote.same [])) g.wrote.takes);
+  needs = elim (cases_lt 16777216 f.lexer.window.given) [
+    | inl far ↦ inl (gave_too_much gb gn f far given)
+    | inr few ↦ inr (inr (
+      innermost_place now,
+      subst (λ (xs : List Opening). NeedsMore (run s o g.turns st) (unread_of s (get_or xs (innermost_place now) (opened [])))) (sym all)
+          (subst (λ (x : State). NeedsMore (run s o g.turns x) (unread_now s now)) begun (g.needs few [])),
+    ))
+  ];
+}
+
+pub heard_from : {T : Type 0} (r : Result T Fault) (s : Sources) (o : Choices) (st : State) (was : List ℕ → State) (gb gn : ℕ) (old now new : Openings) (f : Open) (before after : Option (List ℕ))
+    → was [] ≡ st → new.all ≡ now.all → GivesAtLeast gb f gn → IfErr r (λ x. IfRead x (λ name. GivenUp s o was before after f.lexer.window.given (unread_now s now)))
+    → IfErr r (λ x. IfRead x (λ name. Heard s o st gb gn old new before after))
+heard_from r s o st was gb gn old now new f before after begun all given g =
+    if_read_more r (GivenUp s o was before after f.lexer.window.given (unread_now s now)) (Heard s o st gb gn old new before after)
+    (heard_of s o st was gb gn old now new f before after begun all given) g
 
 -- before the first turn nothing is
-pub heard_none : (s : Sources) (o : Choices) (name : List ℕ) (old new : Option (List ℕ)) → new ≡ old → Heard s o (start s o name) old new
-heard_none s o name old new e = record { turns = zero; takes = subst (λ (n : Option (List ℕ)). Takes old n []) (sym e) (takes_none old) }
+pub heard_none : (s : Sources) (o : Choices) (name : List ℕ) (gb gn : ℕ) (old new : Openings) (before after : Option (List ℕ)) → new ≡ old → after ≡ before
+    → Heard s o (start s o name) gb gn old new before after
+heard_none s o name gb gn old new before after same e =
+    record { turns = zero; takes = subst (λ (n : Option (List ℕ)). Takes before n []) (sym e) (takes_none before); needs = inr (inl same) }
 
 -- what was opened where reading was given up
 pub opened_some : (s : Sources) (o : Choices) (name : List ℕ) (old now new : Openings) (was : List ℕ → State) (turns : ℕ) → was [] ≡ start s o name

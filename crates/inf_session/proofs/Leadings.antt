@@ -1,5 +1,5 @@
 -- Where turns lead: what has ended stays, turns follow one another, and what was written is only added to.
-use Rattle.std.proofs.Common.{◌≡◌, inl, inr, ℕ, suc, zero, ◌+◌, ◌||◌, List, [], ◌∷◌, ◌++◌, Bool, true, false, Option, Some, None, cond, refl, sym, ap, subst, ◌∙◌, append_assoc, append-nil, arith}
+use Rattle.std.proofs.Common.{◌≡◌, inl, inr, ℕ, suc, zero, ◌+◌, ◌≤◌, ◌||◌, List, [], ◌∷◌, ◌++◌, Bool, true, false, Option, Some, None, cond, refl, sym, ap, subst, ◌∙◌, append_assoc, append-nil, arith}
 use Rattle.inf_token.specs.Files.{Sources}
 use Rattle.inf_symbol.specs.Sinks.{Takes}
 use Rattle.inf_unit.proofs.Cases.{of_both}
@@ -11,7 +11,7 @@ use Rattle.inf_unit.specs.Directives.{Asked, Nothing, Include, End}
 use Rattle.inf_reader.specs.Reading.{is_mode_ended}
 use Rattle.inf_scanner.specs.declared.tokens.Place.{Place}
 use Rattle.inf_session.specs.Choices.{Choices}
-use Rattle.inf_session.specs.Leading.{CutsShort, IsFront, OpensAll, OpensWithin, Writes, WroteAll}
+use Rattle.inf_session.specs.Leading.{CutsShort, GivenUp, IsFront, NeedsMore, OpensAll, OpensWithin, Writes, WroteAll}
 use Rattle.inf_session.specs.Session.{State, answered, asked_nothing, file_closed, followed, has_ended, heeded, included_by, is_parted, is_resting, left, left_by, none_included, part, piece_closed, rested, run, stepped, turn}
 
 -- Fronts
@@ -347,3 +347,25 @@ opened_on sources o a b was mid old between openings w h = λ told.
 pub opened_behind : (sources : Sources) (o : Choices) (n : ℕ) (was now : List ℕ → State) (old new : Option (List ℕ)) (openings : List (List ℕ))
     → Writes (run sources o n) was now old new → OpensAll (λ s. s) now openings → OpensAll (run sources o n) was openings
 opened_behind sources o n was now old new openings w h = λ told. h (told ++ w.lines) ∙ ap (λ (s : State). s.nesting.openings) (w.same told)
+
+-- Given up for a file
+
+-- behind some turns
+pub given_up : (sources : Sources) (o : Choices) (n : ℕ) (was mid : List ℕ → State) (old between new : Option (List ℕ)) (given : ℕ) (unread : List ℕ)
+    → Writes (run sources o n) was mid old between → ((told : List ℕ) → (mid told).told ≡ told) → new ≡ between
+    → (given ≤ 16777216 → (told : List ℕ) → NeedsMore (mid told) unread) → GivenUp sources o was old new given unread
+given_up sources o n was mid old between new given unread w told_is e needs = record {
+  turns = n;
+  wrote = wrote_all (run sources o n) was mid old between new told_is w e;
+  needs = λ few told. subst (λ (s : State). NeedsMore s unread) (w.same told) (needs few (told ++ w.lines));
+}
+
+-- behind others
+pub given_up_on : (sources : Sources) (o : Choices) (a : ℕ) (was mid : List ℕ → State) (old between new : Option (List ℕ)) (given : ℕ) (unread : List ℕ)
+    → Writes (run sources o a) was mid old between → GivenUp sources o mid between new given unread → GivenUp sources o was old new given unread
+given_up_on sources o a was mid old between new given unread w g = record {
+  turns = a + g.turns;
+  wrote = wrote_on sources o a g.turns was mid old between new w g.wrote;
+  needs = λ few told.
+      subst (λ (s : State). NeedsMore s unread) (ap (run sources o g.turns) (w.same told) ∙ sym (run_sum sources o a g.turns (was told))) (g.needs few (told ++ w.lines));
+}

@@ -142,6 +142,18 @@ pub if_read_more : {T : Type 0} (r : Result T Fault) (A B : Type 0) → (A → B
 if_read_more (Ok x) A B h p = tt
 if_read_more (Err f) A B h p = read_more f (λ name. A) (λ name. B) (λ name a. h a) p
 
+pub if_read_both : {T : Type 0} (r : Result T Fault) (A B C : Type 0) → (A → B → C) → IfErr r (λ f. IfRead f (λ name. A)) → IfErr r (λ f. IfRead f (λ name. B))
+    → IfErr r (λ f. IfRead f (λ name. C))
+if_read_both (Ok x) A B C h a b = tt
+if_read_both (Err fault.Memory) A B C h a b = tt
+if_read_both (Err (fault.Read name)) A B C h a b = h a b
+if_read_both (Err fault.Messages) A B C h a b = tt
+if_read_both (Err (fault.Story n)) A B C h a b = tt
+
+pub if_read_always : {T : Type 0} (r : Result T Fault) (A : Type 0) → A → IfErr r (λ f. IfRead f (λ name. A))
+if_read_always (Ok x) A a = tt
+if_read_always (Err f) A a = read_always f (λ name. A) (λ name. a)
+
 -- A turn, with what it tells
 
 -- there is nothing to tell

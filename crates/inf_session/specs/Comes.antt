@@ -3,7 +3,8 @@ use Rattle.std.specs.Prelude.{◌≡◌, ℕ, ◌+◌, ◌-◌, ◌<◌, ◌≤�
 use Rattle.inf_token.specs.Files.{Opening, Openings, Rose, Sources, last_count, opened}
 use Rattle.inf_symbol.specs.Sinks.{Takes}
 use Rattle.inf_session.specs.Choices.{Choices}
-use Rattle.inf_session.specs.Leading.{IsFront}
+use Rattle.inf_lexer.specs.Unread.{unread_of}
+use Rattle.inf_session.specs.Leading.{IsFront, NeedsMore}
 use Rattle.inf_sources.specs.Cursors.{Cursor}
 use Rattle.inf_sources.specs.Open.{IsGiven, IsNested, Open, nesting, opened_since}
 use Rattle.inf_session.specs.Outcome.{Ending, IsOutcome, ending_of}
@@ -64,11 +65,6 @@ pub record Comes (sources : Sources) (o : Choices) (serial name : List ℕ) (old
   pub delivers : Delivers ending c before after
   pub opened : OpenedBy (sources name) sources o name old new
 
--- What was written is all that comes with the tokens that were read from here on: of so many turns.
-pub record Heard (sources : Sources) (o : Choices) (s : State) (before after : Option (List ℕ)) : Type 0 where
-  pub turns : ℕ
-  pub takes : Takes before after (run sources o turns s).told
-
 -- What was written is a front of the messages of the outcome.
 pub record Begins (sources : Sources) (o : Choices) (serial name : List ℕ) (before after : Option (List ℕ)) : Type 0 where
   pub front : List ℕ
@@ -96,6 +92,14 @@ most_source_bytes = 16777216
 -- between two moments a reader gave more bytes than a source may have, or its count stands at the last value
 abbrev pub GaveTooMuch : ℕ → ℕ → Type 0
 GaveTooMuch before now = min (before + (most_source_bytes + 1)) last_count ≤ now
+
+-- What was written is all that comes with the tokens that were read from here on, of so many turns: behind them more is needed than was
+-- given of one of the openings, or a file is asked for; or a file has too many bytes; or nothing was opened.
+pub record Heard (sources : Sources) (o : Choices) (s : State) (given_before given_now : ℕ) (old new : Openings) (before after : Option (List ℕ)) : Type 0 where
+  pub turns : ℕ
+  pub takes : Takes before after (run sources o turns s).told
+  pub needs : GaveTooMuch given_before given_now
+      ⊎ ((new ≡ old) ⊎ ((place : ℕ) × NeedsMore (run sources o turns s) (unread_of sources (get_or new.all place (opened [])))))
 
 -- A file could not be opened or read: the device failed, or it gave more bytes than a source may have, or as many sources were
 -- opened as there may be names.

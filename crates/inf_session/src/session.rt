@@ -3,14 +3,16 @@ ghost use Rattle.std.specs.Prelude.{◌≡◌, ℕ, ◌+◌, ◌<◌, ◌≤◌,
 ghost use Rattle.inf_token.specs.Files.{Openings, Rose, Sources};
 ghost use Rattle.inf_reader.specs.Reading.{has_ended_at, is_mode_ended};
 ghost use Rattle.inf_reader.specs.Standing.{standing};
-ghost use Rattle.inf_sources.specs.Open.{AllGiven, IsNested, NamesAreOpened, opened_since};
+ghost use Rattle.inf_lexer.specs.Unread.{unread as unread_now};
+ghost use Rattle.inf_sources.specs.Cursors.{Unfinished};
+ghost use Rattle.inf_sources.specs.Open.{AllGiven, IsNested, NamesAreOpened, nesting, opened_since};
 ghost use Rattle.inf_session.specs.Choices.{chosen};
 ghost use Rattle.inf_session.specs.Faults.{IfMessages, IfRead, IfStory, IsOfReading};
 ghost use Rattle.inf_session.specs.Comes.{Delivers, TakesFront};
 ghost use Rattle.inf_session.specs.Given.{GivesAtLeast, IsUnreadable};
 ghost use Rattle.inf_session.specs.Outcome.{finished};
 ghost use Rattle.inf_work.specs.Works.{work as work_of};
-ghost use Rattle.inf_session.specs.Leading.{CutsShort, OpensAll, OpensWithin, Writes, WroteAll};
+ghost use Rattle.inf_session.specs.Leading.{CutsShort, GivenUp, IsInclusion, NeedsMore, OpensAll, OpensWithin, Writes};
 ghost use Rattle.inf_conditionals.specs.Open.{no_conditions};
 ghost use Rattle.inf_session.specs.Session.{begun_with, followed, heeded, included, left, part, quoted_behind, quoted_bytes, rested, run, stepped, turn};
 ghost use Rattle.inf_session.specs.Standing.{IsSet, came_to, ended, held_by, parted, resting, state};
@@ -117,8 +119,9 @@ impl<'a> Session<'a> {
         ensures is_open { length self.new.open_files.outer < F.depth files.new }
         ensures cause { IfErr result (λ fault. IfRead fault (λ name. IsUnreadable (F.faults files.old) (F.faults files.new) self.new.open_files)) }
         ensures unread { IsTrue (F.is_honest files.old) → (start : Openings) → IsNested start (F.openings files.old) self.old.open_files →
-            IfErr result (λ fault. IfRead fault (λ name. (turns : ℕ) × WroteAll (run (F.sources files.old) (chosen self.old.setup) turns)
-            (state (F.sources files.old) start (F.openings files.old) self.old) (M.taken messages.old) (M.taken messages.new))) }
+            IfErr result (λ fault. IfRead fault (λ name. GivenUp (F.sources files.old) (chosen self.old.setup)
+            (state (F.sources files.old) start (F.openings files.old) self.old) (M.taken messages.old) (M.taken messages.new)
+            self.new.open_files.lexer.window.given (unread_now (F.sources files.old) (F.openings files.new)))) }
         ensures told { IfErr result (λ fault. IfMessages fault (Rose (M.failures messages.old) (M.failures messages.new))) }
         ensures unless { IfErr result (λ fault. IfStory fault (λ n. ⊥)) }
         ensures given_all { IsTrue (F.is_honest files.old) → (start : Openings) → IsNested start (F.openings files.old) self.old.open_files →
@@ -180,8 +183,9 @@ impl<'a> Session<'a> {
         ensures is_open { length self.new.open_files.outer < F.depth files.new }
         ensures cause { IfErr result (λ fault. IfRead fault (λ name. IsUnreadable (F.faults files.old) (F.faults files.new) self.new.open_files)) }
         ensures unread { IsTrue (F.is_honest files.old) → (start : Openings) → IsNested start (F.openings files.old) self.old.open_files →
-            IfErr result (λ fault. IfRead fault (λ name. (turns : ℕ) × WroteAll (run (F.sources files.old) (chosen self.old.setup) turns)
-            (state (F.sources files.old) start (F.openings files.old) self.old) (M.taken messages.old) (M.taken messages.new))) }
+            IfErr result (λ fault. IfRead fault (λ name. GivenUp (F.sources files.old) (chosen self.old.setup)
+            (state (F.sources files.old) start (F.openings files.old) self.old) (M.taken messages.old) (M.taken messages.new)
+            self.new.open_files.lexer.window.given (unread_now (F.sources files.old) (F.openings files.new)))) }
         ensures told { IfErr result (λ fault. IfMessages fault (Rose (M.failures messages.old) (M.failures messages.new))) }
         ensures unless { IfErr result (λ fault. IfStory fault (λ n. ⊥)) }
         ensures given_all { IsTrue (F.is_honest files.old) → (start : Openings) → IsNested start (F.openings files.old) self.old.open_files →
@@ -301,6 +305,9 @@ impl<'a> Session<'a> {
         ensures set { IsSet self.new }
         ensures cause { IfErr result (λ fault. IfRead fault (λ name. IsUnreadable (F.faults files.old) (F.faults files.new) self.new.open_files)) }
         ensures unread { IfErr result (λ fault. IfRead fault (λ name. M.taken messages.new ≡ M.taken messages.old)) }
+        ensures needs { IsTrue (F.is_honest files.old) → (start : Openings) → IsNested start (F.openings files.old) self.old.open_files →
+            IfErr result (λ fault. IfRead fault (λ name. self.new.open_files.lexer.window.given ≤ 16777216 → (told : List ℕ) →
+            NeedsMore (state (F.sources files.old) start (F.openings files.old) self.old told) (unread_now (F.sources files.old) (F.openings files.new)))) }
         ensures told { IfErr result (λ fault. IfMessages fault (Rose (M.failures messages.old) (M.failures messages.new))) }
         ensures unless { IfErr result (λ fault. IfStory fault (λ n. ⊥)) }
         ensures given_all { IsTrue (F.is_honest files.old) → (start : Openings) → IsNested start (F.openings files.old) self.old.open_files →
@@ -338,6 +345,9 @@ impl<'a> Session<'a> {
         ensures setup { (self.new.setup ≡ self.old.setup) × (self.new.is_over ≡ self.old.is_over) }
         ensures few { OnOk result (self.new.open_files.lexer.window.given ≤ 16777216) }
         ensures kind { IfErr result (λ fault. IsOfReading fault) }
+        ensures unfinished { IsTrue (F.is_honest files.old) → (start : Openings) →
+            IfErr result (λ fault. IfRead fault (λ name. self.new.open_files.lexer.window.given ≤ 16777216 →
+            Unfinished (nesting (F.sources files.old) start (F.openings files.old) self.old.open_files).cursor (unread_now (F.sources files.old) (F.openings files.new)))) }
         ensures cause { IfErr result (λ fault. IfRead fault (λ name. IsUnreadable (F.faults files.old) (F.faults files.new) self.new.open_files)) }
         ensures given_all { IsTrue (F.is_honest files.old) → (start : Openings) → IsNested start (F.openings files.old) self.old.open_files →
             AllGiven (F.sources files.old) (length start.all) (F.openings files.old) self.old.open_files →
@@ -389,6 +399,7 @@ impl<'a> Session<'a> {
         ensures setup { self.new.setup ≡ self.old.setup }
         ensures set { IsSet self.new }
         ensures kind { IfErr result (λ fault. IsOfReading fault) }
+        ensures asks { IfErr result (λ fault. IfRead fault (λ name. IsInclusion (work_of self.old.progress.work).asked)) }
         ensures cause { IfErr result (λ fault. IfRead fault (λ name. IsUnreadable (F.faults files.old) (F.faults files.new) self.new.open_files)) }
         ensures given_all { IsTrue (F.is_honest files.old) → (start : Openings) → IsNested start (F.openings files.old) self.old.open_files →
             AllGiven (F.sources files.old) (length start.all) (F.openings files.old) self.old.open_files →
@@ -425,6 +436,7 @@ impl<'a> Session<'a> {
         ensures setup { self.new.setup ≡ self.old.setup }
         ensures set { IsSet self.new }
         ensures kind { IfErr result (λ fault. IsOfReading fault) }
+        ensures asks { IfErr result (λ fault. IfRead fault (λ name. IsInclusion (work_of self.old.progress.work).asked)) }
         ensures cause { IfErr result (λ fault. IfRead fault (λ name. IsUnreadable (F.faults files.old) (F.faults files.new) self.new.open_files)) }
         ensures given_all { IsTrue (F.is_honest files.old) → (start : Openings) → IsNested start (F.openings files.old) self.old.open_files →
             AllGiven (F.sources files.old) (length start.all) (F.openings files.old) self.old.open_files →
@@ -535,6 +547,7 @@ impl<'a> Session<'a> {
             opened_since start (F.openings files.new) ≡ opened_since start (F.openings files.old) }
         ensures goes_on { OnOk result ((ended self.new ≡ true) ⊎ GoesOn true self.old.open_files self.new.open_files) }
         ensures kind { IfErr result (λ fault. IsOfReading fault) }
+        ensures unless { IfErr result (λ fault. IfRead fault (λ name. ⊥)) }
         ensures cause { IfErr result (λ fault. IfRead fault (λ name. IsUnreadable (F.faults files.old) (F.faults files.new) self.new.open_files)) }
         ensures goes { self.old.open_files.lexer.has_failed ≡ false → self.new.open_files.lexer.has_failed ≡ false }
         ensures setup { self.new.setup ≡ self.old.setup }

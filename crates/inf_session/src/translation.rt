@@ -9,7 +9,8 @@ ghost use Rattle.inf_session.specs.Given.{GivesAtLeast, IsUnreadable};
 ghost use Rattle.inf_session.specs.Standing.{IsSet, state};
 ghost use Rattle.inf_session.specs.Outcome.{finished};
 ghost use Rattle.inf_session.specs.Endings.{seen};
-ghost use Rattle.inf_session.specs.Leading.{OpensAll};
+ghost use Rattle.inf_lexer.specs.Unread.{unread as unread_now};
+ghost use Rattle.inf_session.specs.Leading.{GivenUp, OpensAll};
 ghost use Rattle.inf_session.specs.Session.{run, start};
 ghost use Rattle.inf_session.specs.Faults.{IfMessages, IfRead, IfStory};
 
@@ -66,7 +67,8 @@ pub fn translate<F: Files, M: Sink>(
         (F.openings files.old) (F.openings files.new)) }
     // After a fault of reading these are all that come with the tokens that were read.
     ensures heard { IsTrue (F.is_honest files.old) → IfErr result (λ fault. IfRead fault (λ told. Heard (F.sources files.old) (chosen setup.entry)
-        (start (F.sources files.old) (chosen setup.entry) name.now) (M.taken messages.old) (M.taken messages.new))) }
+        (start (F.sources files.old) (chosen setup.entry) name.now) (F.given files.old) (F.given files.new)
+        (F.openings files.old) (F.openings files.new) (M.taken messages.old) (M.taken messages.new))) }
 
     // With any reader nothing is left open, no story comes with an error, and a fault has its cause.
     ensures depth { F.depth files.new ≡ F.depth files.old }
@@ -112,8 +114,9 @@ fn read_out<F: Files, M: Sink>(
         OnErr result.1 (Stops (F.sources files.old) (chosen session.entry.setup) serial.now
         (state (F.sources files.old) start (F.openings files.old) session.entry []) (M.taken messages.old) (M.taken messages.new)) }
     ensures heard { IsTrue (F.is_honest files.old) → (start : Openings) → IsNested start (F.openings files.old) session.entry.open_files →
-        IfErr result.1 (λ fault. IfRead fault (λ name. Heard (F.sources files.old) (chosen session.entry.setup)
-        (state (F.sources files.old) start (F.openings files.old) session.entry []) (M.taken messages.old) (M.taken messages.new))) }
+        IfErr result.1 (λ fault. IfRead fault (λ name. GivenUp (F.sources files.old) (chosen session.entry.setup)
+        (state (F.sources files.old) start (F.openings files.old) session.entry) (M.taken messages.old) (M.taken messages.new)
+        result.0.lexer.window.given (unread_now (F.sources files.old) (F.openings files.new)))) }
     ensures nested { IsTrue (F.is_honest files.old) → (start : Openings) → IsNested start (F.openings files.old) session.entry.open_files →
         IsNested start (F.openings files.new) result.0 }
     ensures opened { IsTrue (F.is_honest files.old) → (start : Openings) → IsNested start (F.openings files.old) session.entry.open_files →

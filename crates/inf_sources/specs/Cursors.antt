@@ -4,6 +4,7 @@ use Rattle.inf_characters.specs.declared.characters.CharSet.{CharSet}
 use Rattle.inf_scanner.specs.Lines.{first_line}
 use Rattle.inf_scanner.specs.Tokens.{Read, next_token}
 use Rattle.inf_scanner.specs.declared.lines.Lines.{Lines}
+use Rattle.inf_lexer.specs.Readers.{StaysUnfinished}
 
 -- The bytes that are still to come of a file, the line on which they begin, the file's number, its character set, and how many
 -- bytes a text or quote may have.
@@ -25,3 +26,7 @@ read c = next_token c.set c.limit c.lines c.rest
 -- what is still to come behind a token
 abbrev pub behind : Cursor → Read → Cursor
 behind c r = record c { rest = r.rest; lines = r.lines }
+
+-- what is still to come, but for what was not given, does not end the next token
+abbrev pub Unfinished : Cursor → List ℕ → Type 0
+Unfinished c unread = StaysUnfinished c.set c.limit c.lines c.rest unread

@@ -4,7 +4,8 @@ ghost use Rattle.inf_token.specs.Files.{Openings, Rose, last_count};
 ghost use Rattle.inf_lexer.specs.Entering.{has_one_too_many};
 ghost use Rattle.inf_lexer.specs.Names.{candidates, innermost_name};
 ghost use Rattle.inf_lexer.specs.Readers.{Took, at_front};
-ghost use Rattle.inf_lexer.specs.Unread.{IsAtEnd};
+ghost use Rattle.inf_lexer.specs.Unread.{IsAtEnd, unread};
+ghost use Rattle.inf_sources.specs.Cursors.{Unfinished};
 ghost use Rattle.inf_sources.specs.Inclusions.{OpenedInVain, answer_of, closed, inclusion, main_opened, nested_by};
 ghost use Rattle.inf_sources.specs.Open.{AllGiven, IsNested, NamesAreOpened, Reads, closed_to, nesting, opened_since};
 
@@ -132,6 +133,9 @@ impl OpenFiles {
             IsNested start (F.openings files.new) self.new }
         ensures opened { IsTrue (F.is_honest files.old) → (start : Openings) → IsNested start (F.openings files.old) self.old →
             opened_since start (F.openings files.new) ≡ opened_since start (F.openings files.old) }
+        ensures unfinished { IsTrue (F.is_honest files.old) → (start : Openings) → IsErrOf result LexFault.Read →
+            self.new.lexer.window.given ≤ 16777216 → Unfinished (nesting (F.sources files.old) start (F.openings files.old) self.old).cursor
+            (unread (F.sources files.old) (F.openings files.new)) }
         ensures names { IsTrue (F.is_honest files.old) → (base : ℕ) → NamesAreOpened base (F.openings files.old) self.old →
             NamesAreOpened base (F.openings files.new) self.new }
         ensures given_all { IsTrue (F.is_honest files.old) → (start : Openings) → IsNested start (F.openings files.old) self.old →

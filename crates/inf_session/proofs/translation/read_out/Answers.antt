@@ -4,14 +4,11 @@ use Rattle.inf_opcode.proofs.Growing.{on_err}
 use Rattle.inf_sources.specs.Open.{IsNested, NamesAreOpened, Open, opened_since}
 use Rattle.inf_work.specs.Works.{work as work_of}
 use Rattle.inf_session.specs.Choices.{chosen}
-use Rattle.inf_session.specs.Comes.{Concludes, Delivers, Heard}
-use Rattle.inf_session.specs.Leading.{WroteAll}
-use Rattle.inf_session.specs.Session.{run}
+use Rattle.inf_session.specs.Comes.{Concludes, Delivers}
 use Rattle.inf_session.specs.Outcome.{finished}
 use Rattle.inf_session.specs.Standing.{state}
-use Rattle.inf_session.proofs.Concluding.{concludes, heard_of, if_ok_more, stops_ending, stops_reading}
+use Rattle.inf_session.proofs.Concluding.{concludes, if_ok_more, stops_ending, stops_reading}
 use Rattle.inf_session.proofs.Leadings.{opened_behind}
-use Rattle.inf_session.proofs.Standings.{read_more}
 use Rattle.inf_session.proofs.translation.read_out.Goals as goal
 
 pub returns-in-Ok-clause-concludes : goal.returns-in-Ok-clause-concludes
@@ -58,15 +55,7 @@ returns-in-Ok-clause-names g c = λ honest base h.
     subst (λ (x : Open). NamesAreOpened base (g.F.Files.openings c.read.new.files) x) (sym c.finish.ensures.files) (c.read.ensures.names honest base h)
 
 pub returns-in-Err-clause-heard : goal.returns-in-Err-clause-heard
-returns-in-Err-clause-heard g c = λ honest start nested.
-    let files = g.F.Files in
-    let s = files.sources c.args.files.now in
-    let o = chosen c.args.session.setup in
-    let was = state s start (files.openings c.args.files.now) c.args.session in
-    let old = g.M.Sink.taken c.args.messages.now in
-    let new = g.M.Sink.taken c.read.new.messages in
-    read_more c.in-Err.fault (λ name. (turns : ℕ) × WroteAll (run s o turns) was old new) (λ name. Heard s o (was []) old new)
-    (λ name w. heard_of s o was old new w.0 w.1) (c.in-Err.ensures.unread honest start nested)
+returns-in-Err-clause-heard g c = λ honest start nested. c.in-Err.ensures.unread honest start nested
 
 pub returns-in-Ok-clause-nested : goal.returns-in-Ok-clause-nested
 returns-in-Ok-clause-nested g c = λ honest start nested.

@@ -7,11 +7,14 @@ use Rattle.inf_session.specs.Given.{GivesAtLeast}
 use Rattle.inf_sources.specs.Inclusions.{main_opened}
 use Rattle.inf_session.specs.Choices.{Choices, chosen, most_quoted}
 use Rattle.inf_session.specs.Comes.{Comes, Concludes, Stops}
-use Rattle.inf_session.specs.Leading.{OpensAll}
+use Rattle.std.proofs.Common.{IfErr}
+use Rattle.inf_lexer.specs.Unread.{unread as unread_now}
+use Rattle.inf_session.specs.Faults.{IfRead}
+use Rattle.inf_session.specs.Leading.{GivenUp, OpensAll}
 use Rattle.inf_session.specs.Session.{run, start}
 use Rattle.inf_session.specs.Standing.{state}
 use Rattle.inf_session.specs.declared.setup.Setup.{Setup}
-use Rattle.inf_session.proofs.Concluding.{begins_of, begun_is, comes_of, given_none, if_ok_both, if_ok_more, opened_some, unread}
+use Rattle.inf_session.proofs.Concluding.{begins_of, begun_is, comes_of, given_none, heard_from, if_ok_both, if_ok_more, opened_some, unread}
 use Rattle.inf_session.proofs.translation.translate.Goals as goal
 
 pub returns-clause-comes : goal.returns-clause-comes
@@ -113,3 +116,33 @@ returns-clause-opened g c = λ honest.
     (subst (λ (p : Setup). OpensAll (run s (chosen p) k.0) (state s old mid session) (opened_since old now)) c.new-session.ensures.setup
     (subst (λ (y : Sources). OpensAll (run y (chosen session.setup) k.0) (state y old mid session) (opened_since old now)) c.enter_main.ensures.sources k.1))))
     (c.read_out-open_files.ensures.opened still old nested)
+
+pub returns-clause-heard : goal.returns-clause-heard
+returns-clause-heard g c = λ honest.
+    let files = g.F.Files in
+    let s = files.sources c.args.files.now in
+    let o = chosen c.args.setup in
+    let old = files.openings c.args.files.now in
+    let mid = files.openings c.enter_main.new.files in
+    let now = files.openings c.read_out-open_files.new.files in
+    let new = files.openings c.close.new.files in
+    let f = c.read_out-open_files.result.0 in
+    let session = c.new-session.result in
+    let name = c.args.name.now in
+    let base = files.given c.args.files.now in
+    let before = g.M.Sink.taken c.args.messages.now in
+    let after = g.M.Sink.taken c.read_out-open_files.new.messages in
+    let still = subst (λ b. IsTrue b) (sym c.enter_main.ensures.honesty) honest in
+    let last = subst (λ b. IsTrue b) (sym c.read_out-open_files.ensures.honesty) still in
+    let nested = subst (λ (x : Open). IsNested old mid x) (sym c.new-session.ensures.files) (c.in-Ok.ensures.nested honest) in
+    let limit : nesting s old mid session.open_files ≡ main_opened o.set (most_quoted o) s name =
+    ap (λ (x : Open). nesting s old mid x) c.new-session.ensures.files ∙ c.in-Ok.ensures.nesting honest ∙ ap (λ n. main_opened o.set n s name) c.of-limit.ensures.value in
+    let begun : state s old mid session [] ≡ start s o name =
+    begun_is s o name old mid session limit c.new-session.ensures.standing c.new-session.ensures.going c.new-session.ensures.conditionals c.new-session.ensures.quoted in
+    let front = subst (λ (x : Open). (x.lexer ≡ at_front c.args.setup.set c.of-limit.result 0) × (x.outer ≡ [])) (sym c.new-session.ensures.files) c.in-Ok.ensures.front in
+    heard_from c.read_out-open_files.result.1 s o (start s o name) (state s old mid session) base (files.given c.close.new.files) old now new f before after begun (c.close.ensures.all last)
+    (subst (λ n. GivesAtLeast base f n) (sym c.close.ensures.given)
+    (c.read_out-open_files.ensures.given base (given_none base (files.given c.enter_main.new.files) c.args.setup.set c.of-limit.result session.open_files front c.enter_main.ensures.given)))
+    (subst (λ (p : Setup). IfErr c.read_out-open_files.result.1 (λ x. IfRead x (λ told. GivenUp s (chosen p) (state s old mid session) before after f.lexer.window.given (unread_now s now)))) c.new-session.ensures.setup
+    (subst (λ (y : Sources). IfErr c.read_out-open_files.result.1 (λ x. IfRead x (λ told. GivenUp y (chosen session.setup) (state y old mid session) before after f.lexer.window.given (unread_now y now)))) c.enter_main.ensures.sources
+    (c.read_out-open_files.ensures.heard still old nested)))

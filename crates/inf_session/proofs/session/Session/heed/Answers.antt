@@ -1,14 +1,15 @@
-use Rattle.std.proofs.Common.{◌≡◌, List, ℕ, inl, ap, false, refl, sym, ◌∙◌}
+use Rattle.std.proofs.Common.{◌≡◌, List, ℕ, ap, false, subst, sym, ◌∙◌}
 use Rattle.std.proofs.lemmas.Result.{on_err_weaker, on_ok_weaker}
-use Rattle.inf_opcode.proofs.Growing.{on_err}
 use Rattle.inf_reader.specs.Reading.{is_mode_ended}
 use Rattle.inf_sources.specs.Open.{opened_since}
 use Rattle.inf_unit.specs.Directives.{Asked, Include}
 use Rattle.inf_work.specs.Actions.{Work}
 use Rattle.inf_session.specs.Choices.{chosen}
-use Rattle.inf_session.specs.Session.{State, asked_nothing, included}
+use Rattle.inf_session.specs.Leading.{IsInclusion}
+use Rattle.inf_session.specs.Session.{included}
 use Rattle.inf_session.specs.Standing.{state}
 use Rattle.inf_session.proofs.Opening.{heeded_within, heeds, not_ended}
+use Rattle.inf_session.proofs.Standings.{if_read_always}
 use Rattle.inf_session.proofs.session.Session.heed.Goals.{in-Ended, in_default}
 use Rattle.inf_session.proofs.session.Session.heed.Goals as goal
 
@@ -46,3 +47,7 @@ returns-in-Include-clause-opened g c = λ honest start nested.
     (λ h. heeded_within s o unit text was (λ told. record (was told) { work = _ }) (opened_since start (files.openings c.include.new.files)) (λ told. going) (λ told. reads) (λ told. asks)
     (λ told. ap (λ (w : Work). record (was told) { work = w }) c.take_asked.ensures.nothing) h)
     (c.include.ensures.opened honest start nested)
+
+pub returns-in-Include-clause-asks : goal.returns-in-Include-clause-asks
+returns-in-Include-clause-asks g c =
+    if_read_always c.include.result _ (subst (λ (a : Asked). IsInclusion a) c.in-Include.ensures.asked tt)

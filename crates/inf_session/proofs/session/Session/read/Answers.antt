@@ -4,10 +4,11 @@ use Rattle.inf_token.specs.Files.{Sources}
 use Rattle.inf_sources.specs.Open.{AllGiven, opened_since}
 use Rattle.inf_session.specs.Choices.{Choices, chosen}
 use Rattle.inf_session.specs.Faults.{IfRead}
-use Rattle.inf_session.specs.Leading.{CutsShort, OpensAll, Writes, WroteAll}
+use Rattle.inf_lexer.specs.Unread.{unread as unread_now}
+use Rattle.inf_session.specs.Leading.{CutsShort, GivenUp, OpensAll, Writes}
 use Rattle.inf_session.specs.Session.{run}
 use Rattle.inf_session.specs.Standing.{state}
-use Rattle.inf_session.proofs.Leadings.{cuts_on, opened_on, run_sum, writes_none, writes_on, wrote_on}
+use Rattle.inf_session.proofs.Leadings.{cuts_on, given_up_on, opened_on, run_sum, writes_none, writes_on}
 use Rattle.inf_session.proofs.Standings.{if_read_more}
 use Rattle.inf_session.proofs.session.Session.read.Goals as goal
 
@@ -119,20 +120,19 @@ returns-in_err-step-clause-unread g c = λ honest start nested.
     let t = files.sources c.loop-self.files in
     let was = state s start (files.openings c.args.files.now) c.args.self.now in
     let here = files.openings c.loop-self.files in
+    let then_at = files.openings c.step.new.files in
     let old = g.M.Sink.taken c.args.messages.now in
     let between = g.M.Sink.taken c.loop-self.messages in
     let new = g.M.Sink.taken c.step.new.messages in
+    let given = c.step.new.self.open_files.lexer.window.given in
     let so_far = inv.led honest start nested in
     let still = subst (λ b. IsTrue b) (sym inv.honesty) honest in
     let nested_on = inv.nested honest start nested in
-    let last : IfErr c.from_residual.result (λ fault. IfRead fault (λ name. (turns : ℕ) × WroteAll (run t p turns) (state t start here c.loop-self.self) between new)) = search rules in
-    if_read_more c.from_residual.result ((turns : ℕ) × WroteAll (run t p turns) (state t start here c.loop-self.self) between new) ((turns : ℕ) × WroteAll (run s o turns) was old new)
-    (λ w. (
-      so_far.0 + w.0,
-      wrote_on s o so_far.0 w.0 was (state s start here c.loop-self.self) old between new so_far.1
-          (subst (λ (x : Choices). WroteAll (run s x w.0) (state s start here c.loop-self.self) between new) (ap chosen inv.setup)
-          (subst (λ (x : Sources). WroteAll (run x p w.0) (state x start here c.loop-self.self) between new) inv.sources w.1)),
-    )) last
+    let last : IfErr c.from_residual.result (λ fault. IfRead fault (λ name. GivenUp t p (state t start here c.loop-self.self) between new given (unread_now t then_at))) = search rules in
+    if_read_more c.from_residual.result (GivenUp t p (state t start here c.loop-self.self) between new given (unread_now t then_at)) (GivenUp s o was old new given (unread_now s then_at))
+    (λ w. given_up_on s o so_far.0 was (state s start here c.loop-self.self) old between new given (unread_now s then_at) so_far.1
+    (subst (λ (x : Choices). GivenUp s x (state s start here c.loop-self.self) between new given (unread_now s then_at)) (ap chosen inv.setup)
+    (subst (λ (x : Sources). GivenUp x p (state x start here c.loop-self.self) between new given (unread_now x then_at)) inv.sources w))) last
 
 pub returns-in_err-step-clause-opened : goal.returns-in_err-step-clause-opened
 returns-in_err-step-clause-opened g c = λ honest start nested.

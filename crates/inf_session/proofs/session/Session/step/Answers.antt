@@ -1,14 +1,15 @@
-use Rattle.std.proofs.Common.{rules, ◌≡◌, ℕ, List, suc, zero, [], false, IfErr, IsTrue, length, ap, refl, sym, subst, ◌∙◌, arith}
+use Rattle.std.proofs.Common.{rules, ◌≡◌, ℕ, ◌≤◌, List, suc, zero, [], false, IfErr, IsTrue, length, ap, refl, sym, subst, ◌∙◌, arith}
 use Rattle.inf_opcode.proofs.Growing.{on_err}
 use Rattle.inf_token.specs.Files.{Sources}
 use Rattle.inf_sources.specs.Open.{AllGiven, opened_since}
 use Rattle.inf_session.specs.Choices.{Choices, chosen}
 use Rattle.inf_session.specs.Faults.{IfRead}
-use Rattle.inf_session.specs.Leading.{CutsShort, OpensWithin, Writes, WroteAll}
+use Rattle.inf_lexer.specs.Unread.{unread as unread_now}
+use Rattle.inf_session.specs.Leading.{CutsShort, GivenUp, NeedsMore, OpensWithin, Writes}
 use Rattle.inf_session.specs.Session.{has_ended, run, turn}
 use Rattle.inf_session.specs.Standing.{ended, parted, state}
-use Rattle.inf_session.proofs.Leadings.{cuts_then, opened_then, part_first, part_none, part_then, still_going, writes_none, writes_then, wrote_all}
-use Rattle.inf_session.proofs.Standings.{if_read_more}
+use Rattle.inf_session.proofs.Leadings.{cuts_then, given_up, opened_then, part_first, part_none, part_then, still_going, writes_none, writes_then, wrote_all}
+use Rattle.inf_session.proofs.Standings.{if_read_both}
 use Rattle.inf_session.proofs.Weighing.{ends_or_falls, falls_then}
 use Rattle.inf_session.specs.Weights.{weight}
 use Rattle.inf_session.proofs.session.Session.step.Goals as goal
@@ -170,24 +171,40 @@ returns-in_err-turn-clause-unread g c = λ honest start nested.
     let was = state s start (files.openings c.args.files.now) c.args.self.now in
     let old = g.M.Sink.taken c.args.messages.now in
     let new = g.M.Sink.taken c.turn.new.messages in
+    let given = c.turn.new.self.open_files.lexer.window.given in
+    let unread = unread_now s (files.openings c.turn.new.files) in
+    let Needs = given ≤ 16777216 → (told : List ℕ) → NeedsMore (was told) unread in
+    let needed : IfErr c.turn.result (λ fault. IfRead fault (λ name. Needs)) = c.turn.ensures.needs honest start nested in
     let same : IfErr c.from_residual.result (λ fault. IfRead fault (λ name. new ≡ old)) = search rules in
-    if_read_more c.from_residual.result (new ≡ old) ((turns : ℕ) × WroteAll (run s o turns) was old new)
-    (λ e. (zero, wrote_all (run s o zero) was was old old new (λ told. refl) (writes_none s o was old) e)) same
+    let needs : IfErr c.from_residual.result (λ fault. IfRead fault (λ name. Needs)) = search rules in
+    if_read_both c.from_residual.result (new ≡ old) Needs (GivenUp s o was old new given unread)
+    (λ e n. record { turns = zero; wrote = wrote_all (run s o zero) was was old old new (λ told. refl) (writes_none s o was old) e; needs = n }) same needs
 
 pub returns-in_err-turn-2-clause-unread : goal.returns-in_err-turn-2-clause-unread
 returns-in_err-turn-2-clause-unread g c = λ honest start nested.
     let files = g.F.Files in
+    let inv = c.loop-self.invariant in
     let s = files.sources c.args.files.now in
+    let t = files.sources c.loop-self.files in
     let o = chosen c.args.self.now.setup in
     let was = state s start (files.openings c.args.files.now) c.args.self.now in
-    let mid = state s start (files.openings c.loop-self.files) c.loop-self.self in
+    let here = files.openings c.loop-self.files in
+    let mid = state s start here c.loop-self.self in
     let old = g.M.Sink.taken c.args.messages.now in
     let between = g.M.Sink.taken c.loop-self.messages in
     let new = g.M.Sink.taken c.turn-in-loop-self.new.messages in
-    let so_far = c.loop-self.invariant.led honest start nested in
+    let given = c.turn-in-loop-self.new.self.open_files.lexer.window.given in
+    let then_at = files.openings c.turn-in-loop-self.new.files in
+    let unread = unread_now s then_at in
+    let so_far = inv.led honest start nested in
+    let still = subst (λ b. IsTrue b) (sym inv.honesty) honest in
+    let Needs = given ≤ 16777216 → (told : List ℕ) → NeedsMore (state t start here c.loop-self.self told) (unread_now t then_at) in
+    let needed : IfErr c.turn-in-loop-self.result (λ fault. IfRead fault (λ name. Needs)) = c.turn-in-loop-self.ensures.needs still start (inv.nested honest start nested) in
     let same : IfErr c.from_residual-in_err-turn-2.result (λ fault. IfRead fault (λ name. new ≡ between)) = search rules in
-    if_read_more c.from_residual-in_err-turn-2.result (new ≡ between) ((turns : ℕ) × WroteAll (run s o turns) was old new)
-    (λ e. (suc so_far.0, wrote_all (run s o (suc so_far.0)) was mid old between new (λ told. refl) so_far.1.1 e)) same
+    let needs : IfErr c.from_residual-in_err-turn-2.result (λ fault. IfRead fault (λ name. Needs)) = search rules in
+    if_read_both c.from_residual-in_err-turn-2.result (new ≡ between) Needs (GivenUp s o was old new given unread)
+    (λ e n. given_up s o (suc so_far.0) was mid old between new given unread so_far.1.1 (λ told. refl) e
+    (subst (λ (x : Sources). given ≤ 16777216 → (told : List ℕ) → NeedsMore (state x start here c.loop-self.self told) (unread_now x then_at)) inv.sources n)) same needs
 
 pub returns-in_err-turn-clause-opened : goal.returns-in_err-turn-clause-opened
 returns-in_err-turn-clause-opened g c = λ honest start nested.

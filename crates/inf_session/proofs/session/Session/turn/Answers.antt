@@ -1,16 +1,20 @@
-use Rattle.std.proofs.Common.{List, ℕ, inl, inr, ◌||◌, IsTrue, length, ap, refl, sym, subst, ◌∙◌}
+use Rattle.std.proofs.Common.{rules, List, ℕ, ◌≤◌, IfErr, inl, inr, ◌||◌, IsTrue, length, ap, refl, sym, subst, ◌∙◌}
 use Rattle.inf_opcode.proofs.Growing.{on_err}
 use Rattle.inf_token.specs.Files.{Sources}
-use Rattle.inf_sources.specs.Open.{AllGiven, opened_since}
+use Rattle.inf_sources.specs.Open.{AllGiven, nesting, opened_since}
 use Rattle.inf_unit.specs.Messages.{Reported}
 use Rattle.inf_reader.specs.Reading.{is_mode_ended}
 use Rattle.inf_session.specs.Choices.{Choices, chosen}
-use Rattle.inf_session.specs.Leading.{OpensWithin}
-use Rattle.inf_session.specs.Session.{State, followed}
+use Rattle.inf_lexer.specs.Unread.{unread as unread_now}
+use Rattle.inf_sources.specs.Cursors.{Unfinished}
+use Rattle.inf_session.specs.Faults.{IfRead}
+use Rattle.inf_session.specs.Leading.{IsInclusion, NeedsMore, OpensWithin}
+use Rattle.inf_session.specs.Session.{State, followed, stepped}
+use Rattle.inf_work.specs.Works.{work as work_of}
 use Rattle.inf_session.proofs.Opening.{turned_within}
 use Rattle.inf_session.specs.Standing.{state}
 use Rattle.inf_session.proofs.Leadings.{cut_at_once}
-use Rattle.inf_session.proofs.Standings.{as_before, turn_cut, turn_writes}
+use Rattle.inf_session.proofs.Standings.{as_before, if_read_more, turn_cut, turn_writes}
 use Rattle.inf_session.proofs.Weighing.{falls}
 use Rattle.inf_session.proofs.session.Session.turn.Goals as goal
 
@@ -123,3 +127,28 @@ returns-in_err-flush-clause-opened g c = λ honest start nested.
     on_err c.from_residual-in_err-flush.result
     (turned_within s o (state s start (files.openings c.args.files.now) c.args.self.now) mid (opened_since start then_at) (c.in_ok-take_token.ensures.stepped honest start nested)
     (inr (λ told. ap (λ (x : State). x.nesting.openings) (as_before s (files.sources c.take_token.new.files) o (chosen c.take_token.new.self.setup) start here then_at c.take_token.new.self c.follow.new.self c.in_ok-take_token.ensures.sources (ap chosen c.in_ok-take_token.ensures.setup.0) after told))))
+
+pub returns-in_err-take_token-clause-needs : goal.returns-in_err-take_token-clause-needs
+returns-in_err-take_token-clause-needs g c = λ honest start nested.
+    let files = g.F.Files in
+    let s = files.sources c.args.files.now in
+    let old = files.openings c.args.files.now in
+    let unread = unread_now s (files.openings c.take_token.new.files) in
+    let few = c.take_token.new.self.open_files.lexer.window.given ≤ 16777216 in
+    let cut = Unfinished (nesting s start old c.args.self.now.open_files).cursor unread in
+    let unfinished = c.take_token.ensures.unfinished honest start in
+    let token : IfErr c.from_residual.result (λ fault. IfRead fault (λ name. few → cut)) = search rules in
+    if_read_more c.from_residual.result (few → cut) (few → (told : List ℕ) → NeedsMore (state s start old c.args.self.now told) unread) (λ u is told. inl (u is)) token
+
+pub returns-in_err-follow-clause-needs : goal.returns-in_err-follow-clause-needs
+returns-in_err-follow-clause-needs g c = λ honest start nested.
+    let files = g.F.Files in
+    let s = files.sources c.args.files.now in
+    let old = files.openings c.args.files.now in
+    let unread = unread_now s (files.openings c.follow.new.files) in
+    let few = c.follow.new.self.open_files.lexer.window.given ≤ 16777216 in
+    let asks = IsInclusion (work_of c.take_token.new.self.progress.work).asked in
+    let first = c.in_ok-take_token.ensures.stepped honest start nested in
+    let asked : IfErr c.from_residual-in_err-follow.result (λ fault. IfRead fault (λ name. asks)) = search rules in
+    if_read_more c.from_residual-in_err-follow.result asks (few → (told : List ℕ) → NeedsMore (state s start old c.args.self.now told) unread)
+    (λ a is told. inr (subst (λ (x : State). IsInclusion x.work.asked) (first told) a)) asked
