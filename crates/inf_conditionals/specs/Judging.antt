@@ -27,7 +27,7 @@ pub record Behind : Type 0 where
   pub judged : Judged
 
 abbrev pub none_handed : Judged
-none_handed = record { sign = None; token = None; lone = None }
+none_handed = record { sign = None; token = None; lone = None; ended = None }
 
 -- it belongs to a conditional
 abbrev pub passed : Conditions → Behind
@@ -56,11 +56,17 @@ turning is_quiet place c =
 abbrev pub closing : Bool → Place → Conditions → Behind
 closing is_quiet place c = if is_none_open (latest c) then lone is_quiet place c else passed (closed c)
 
+abbrev pub effected_by : Effect → Bool → Pending → Conditions → Behind
+effected_by (effect.Opens is_kept) is_quiet p c = passed (opened is_kept p c)
+effected_by effect.Turns is_quiet p c = turning is_quiet p.place c
+effected_by effect.Closes is_quiet p c = closing is_quiet p.place c
+effected_by effect.Nothing is_quiet p c = passed c
+
+-- it is a unit that has ended, but among tokens that are passed over
 abbrev pub effected : Effect → Bool → Pending → Conditions → Behind
-effected (effect.Opens is_kept) is_quiet p c = passed (opened is_kept p c)
-effected effect.Turns is_quiet p c = turning is_quiet p.place c
-effected effect.Closes is_quiet p c = closing is_quiet p.place c
-effected effect.Nothing is_quiet p c = passed c
+effected e is_quiet p c =
+    let b = effected_by e is_quiet p c in
+    record b { judged = record b.judged { ended = if is_quiet then None else Some p.place } }
 
 -- The tokens of a conditional directive
 

@@ -62,6 +62,7 @@ const NONE: Judged = Judged {
     sign: None,
     token: None,
     lone: None,
+    ended: None,
 };
 
 /// The token is kept.
@@ -69,6 +70,7 @@ const KEPT: Judged = Judged {
     sign: None,
     token: Some(Handed::Kept),
     lone: None,
+    ended: None,
 };
 
 impl Conditionals {
@@ -412,12 +414,14 @@ impl Conditionals {
             Effect::Closes => self.close_latest(),
             Effect::Nothing => false,
         };
+        let place = if is_quiet {
+            None
+        } else {
+            Some(directive.place)
+        };
         Ok(Judged {
-            lone: if is_lone && !is_quiet {
-                Some(directive.place)
-            } else {
-                None
-            },
+            lone: if is_lone { place } else { None },
+            ended: place,
             ..NONE
         })
     }

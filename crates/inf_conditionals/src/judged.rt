@@ -18,13 +18,14 @@ pub struct Sign {
     pub handed: Handed,
 }
 
-/// What a token comes to: what is handed on, first the `#` before it and then the token itself; and where a directive begins
-/// that ends or turns a conditional which is not there.
+/// What a token comes to: what is handed on, first the `#` before it and then the token itself; where a directive begins
+/// that ends or turns a conditional which is not there; and where a conditional directive begins that has ended.
 #[derive(Clone, Copy, Debug, PartialEq, Eq)]
 pub struct Judged {
     pub sign: Option<Sign>,
     pub token: Option<Handed>,
     pub lone: Option<Place>,
+    pub ended: Option<Place>,
 }
 
 /// Where a token comes to the reading.

@@ -63,8 +63,10 @@ fn close_call(rt: &HostRuntime, code: &mut Code, number: usize) -> Result<(), Fa
 #[test]
 fn a_call_takes_its_number(rt: HostRuntime) -> Result<(), Fail> {
     let mut code = Code::new(rt.alloc(), ROOMY);
+    assert_eq!(rt; (code.count(), code.references()), (0, 4));
     close_call(&rt, &mut code, 1)?;
     assert_eq!(rt; code.len(), 8);
+    assert_eq!(rt; (code.count(), code.references()), (16, 6));
     let area = code.fill(&[5, 0x00F4]);
     let bytes = [0x01, 0xDA, 0x2F, 0x00, 0xF4, 0x01, 0xB0, 0x00];
     assert_eq!(rt; area.as_slice(), bytes.as_slice());
@@ -129,8 +131,8 @@ fn a_routine_that_is_given_up_leaves_nothing(rt: HostRuntime) -> Result<(), Fail
 
 #[test]
 fn a_routine_takes_the_last_byte(rt: HostRuntime) -> Result<(), Fail> {
-    // The number of locals, the five bytes of a call, and what returns.
-    let mut code = code_of(&rt, 7);
+    // The first routine; the number of locals, the five bytes of a call, what returns, and a zero.
+    let mut code = code_of(&rt, 16);
     close_call(&rt, &mut code, 1)?;
     assert_eq!(rt; code.len(), 8);
     assert_eq!(rt; code.open(rt.alloc(), 0), CODE_IS_FULL);
@@ -138,8 +140,29 @@ fn a_routine_takes_the_last_byte(rt: HostRuntime) -> Result<(), Fail> {
 }
 
 #[test]
+fn the_zeros_behind_a_routine_take_bytes(rt: HostRuntime) -> Result<(), Fail> {
+    let mut code = code_of(&rt, 15);
+    code.open(rt.alloc(), 1)?;
+    emit_call(&mut code, 1)?;
+    assert_eq!(rt; code.close(RoutineKind::Plain), CODE_IS_FULL);
+    // No reference of it is left.
+    assert_eq!(rt; (code.count(), code.references()), (8, 5));
+    Ok(())
+}
+
+#[test]
+fn code_begins_once(rt: HostRuntime) {
+    let mut code = code_with(&rt, 8, 5);
+    assert_eq!(rt; code.begin(), None);
+    assert_eq!(rt; code.begin(), None);
+    assert_eq!(rt; (code.count(), code.references()), (8, 5));
+    assert_eq!(rt; code_with(&rt, 7, 4).begin(), Some(Setting::Code));
+    assert_eq!(rt; code_with(&rt, 8, 4).begin(), Some(Setting::Refs));
+}
+
+#[test]
 fn the_end_of_a_routine_takes_a_byte(rt: HostRuntime) -> Result<(), Fail> {
-    let mut code = code_of(&rt, 6);
+    let mut code = code_of(&rt, 14);
     code.open(rt.alloc(), 1)?;
     emit_call(&mut code, 1)?;
     assert_eq!(rt; code.close(RoutineKind::Plain), CODE_IS_FULL);
@@ -149,7 +172,7 @@ fn the_end_of_a_routine_takes_a_byte(rt: HostRuntime) -> Result<(), Fail> {
 
 #[test]
 fn nothing_returns_behind_an_instruction_that_leaves(rt: HostRuntime) -> Result<(), Fail> {
-    let mut code = code_of(&rt, 5);
+    let mut code = code_of(&rt, 13);
     code.open(rt.alloc(), 1)?;
     assert_eq!(rt; emit_call(&mut code, 1), CODE_IS_FULL);
     emit_return(&mut code, 1)?;
@@ -160,13 +183,13 @@ fn nothing_returns_behind_an_instruction_that_leaves(rt: HostRuntime) -> Result<
 
 #[test]
 fn no_routine_is_opened_in_no_bytes(rt: HostRuntime) {
-    let mut code = code_of(&rt, 0);
+    let mut code = code_of(&rt, 8);
     assert_eq!(rt; code.open(rt.alloc(), 0), CODE_IS_FULL);
 }
 
 #[test]
 fn finished_routines_count_with_the_open_one(rt: HostRuntime) -> Result<(), Fail> {
-    let mut code = code_of(&rt, 14);
+    let mut code = code_of(&rt, 22);
     close_call(&rt, &mut code, 1)?;
     code.open(rt.alloc(), 1)?;
     emit_call(&mut code, 1)?;
@@ -181,7 +204,7 @@ fn finished_routines_count_with_the_open_one(rt: HostRuntime) -> Result<(), Fail
 
 #[test]
 fn the_last_reference_is_the_limit(rt: HostRuntime) -> Result<(), Fail> {
-    let mut code = code_with(&rt, 1_000, 2);
+    let mut code = code_with(&rt, 1_000, 7);
     close_call(&rt, &mut code, 1)?;
     code.open(rt.alloc(), 1)?;
     emit_call(&mut code, 1)?;
@@ -195,7 +218,7 @@ fn the_last_reference_is_the_limit(rt: HostRuntime) -> Result<(), Fail> {
 
 #[test]
 fn of_two_limits_that_of_the_bytes_comes_first(rt: HostRuntime) -> Result<(), Fail> {
-    let mut code = code_with(&rt, 5, 0);
+    let mut code = code_with(&rt, 13, 5);
     code.open(rt.alloc(), 1)?;
     assert_eq!(rt; emit_call(&mut code, 1), CODE_IS_FULL);
     assert_eq!(rt; emit_return(&mut code, 1), REFS_ARE_FULL);

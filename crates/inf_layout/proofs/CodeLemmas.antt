@@ -14,16 +14,12 @@ use Rattle.inf_assembler.specs.declared.routines.RoutineKind.{RoutineKind}
 use Rattle.inf_assembler.specs.Places.{Places, size_at, with_some, closed_special, joined, closed_bytes, hole_at, closed_holes}
 use Rattle.inf_assembler.specs.Routines.{Contents, long_places, places, closing, body_bytes, routine_holes}
 use Rattle.inf_assembler.proofs.Passes.{closed_size}
-use Rattle.inf_layout.specs.Code.{CodeCell, Known, Awaited, known, size, padded, number_in, cell_bytes, code_bytes, cells_from, AreInOrder, whole_bytes, cells_with, routine_cells}
+use Rattle.inf_layout.specs.Code.{CodeCell, Known, Awaited, known, size, padded, number_in, cell_bytes, code_bytes, cells_from, AreInOrder, whole_bytes, cells_with, routine_cells, zeros_behind}
 
 -- bytes whose holes are filled with the numbers of their references
 abbrev pub filled : (Reference → ℕ) → List Hole → List ℕ → List ℕ
 filled number_of [] bytes = bytes
 filled number_of (hole ∷ others) bytes = filled number_of others (with_word bytes hole.place (number_of hole.reference))
-
--- the bytes of the padding behind so many bytes
-abbrev pub zeros_behind : ℕ → List ℕ
-zeros_behind count = take ((4 - count % 4) % 4) (0 ∷ 0 ∷ 0 ∷ [])
 
 -- the holes lie before the end
 in_order-bound : (place end : ℕ) (holes : List Hole) → AreInOrder place holes end → place ≤ end

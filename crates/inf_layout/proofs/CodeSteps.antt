@@ -1,6 +1,6 @@
 -- Code, step by step: its finished routines stay while one is open, and this one stands behind them when it is closed.
-use Rattle.std.specs.Prelude.{Result, Ok, Err, OnOk, OnErr}
-use Rattle.std.proofs.Common.{◌≡◌, ℕ, ◌+◌, List, [], ◌∷◌, ◌++◌, length, take, Option, Some, None, sym, ◌∙◌, ap, subst, arith, append_assoc, length-append, length-take}
+use Rattle.std.specs.Prelude.{Result, Ok, Err, OnOk, OnErr, ◌≤◌}
+use Rattle.std.proofs.Common.{◌≡◌, ℕ, ◌+◌, List, [], ◌∷◌, ◌++◌, length, take, Option, Some, None, refl, sym, ◌∙◌, ap, subst, arith, append_assoc, length-append, length-take}
 use Rattle.std.proofs.lemmas.List.{take_at, take-take, take_all, length-take-le}
 use Rattle.inf_area.specs.Holes.{Holes}
 use Rattle.inf_opcode.specs.Cells.{long_bytes, label_count}
@@ -9,9 +9,9 @@ use Rattle.inf_opcode.proofs.Counting.{labels-append}
 use Rattle.inf_assembler.specs.declared.routines.Closed.{Closed}
 use Rattle.inf_assembler.specs.declared.routines.RoutineKind.{RoutineKind}
 use Rattle.inf_assembler.specs.Routines.{State, Contents, Stands, IsOpen, Holds, Closes, contents_of, fresh, closing, routine_holes, body_bytes}
-use Rattle.inf_layout.specs.Code.{IsCode, AreInOrder, cells_from, size, padded, routine_cells, whole_bytes, with_instruction, routine_limits}
+use Rattle.inf_layout.specs.Code.{IsCode, AreInOrder, cells_from, size, padded, routine_cells, whole_bytes, with_instruction, routine_limits, zeros_behind}
 use Rattle.inf_layout.specs.declared.code.CodeLimits.{CodeLimits}
-use Rattle.inf_layout.proofs.CodeLemmas.{StandsFor, zeros_behind, size-cells_from, stands_for-closed}
+use Rattle.inf_layout.proofs.CodeLemmas.{StandsFor, size-cells_from, stands_for-closed}
 
 -- the bytes of the finished routines
 module _ (limits : CodeLimits) (finished : ℕ) (refs : Holes) (bytes : List ℕ) (routine : Option State) (is : IsCode limits finished refs bytes routine) where
@@ -31,7 +31,7 @@ module _ (limits : CodeLimits) (finished : ℕ) (refs : Holes) (bytes : List ℕ
   front_cut cut e = ap (take finished) e ∙ take-take finished finished bytes (omega arith)
 
   pub code_cut : (cut : List ℕ) → cut ≡ take finished bytes → IsCode limits finished refs cut None
-  code_cut cut e = record { within = omega (arith, ap length e, length_finished); in_order = is.in_order; limit = is.limit; behind = tt }
+  code_cut cut e = record { within = omega (arith, ap length e, length_finished); in_order = is.in_order; limit = is.limit; few = is.few; behind = tt }
 
   -- with bytes behind them
   pub front_longer : (longer more : List ℕ) → longer ≡ take finished bytes ++ more → take finished longer ≡ take finished bytes
@@ -49,6 +49,7 @@ module _ (limits : CodeLimits) (finished : ℕ) (refs : Holes) (bytes : List ℕ
           within = omega (arith, ap length front_opened, length_finished, length-take finished new);
           in_order = is.in_order;
           limit = is.limit;
+          few = is.few;
           behind = record { start = start; open_still = open_now; straight = ap (λ (c : Contents). label_count c.cells) told; limits = same };
         }
 
@@ -65,6 +66,7 @@ module _ (limits : CodeLimits) (finished : ℕ) (refs : Holes) (bytes new : List
         within = omega (arith, ap length front_emitted, length-take finished new, length-take-le finished bytes is.within);
         in_order = is.in_order;
         limit = is.limit;
+        few = is.few;
         behind = record {
           start = holds.start ∙ is.behind.start;
           open_still = holds.open_still;
@@ -113,7 +115,20 @@ module _ (kind : RoutineKind) (limits : CodeLimits) (finished : ℕ) (refs liste
       ap (cells_from 0 listed.list) (take_all (length whole) whole (omega arith)) ∙ (code_closed filled).are
       ∙ ap (λ n. before ++ padded (routine_cells n kind (contents_of routine bytes))) (sym (size_finished limits finished refs bytes (Some routine) is))
 
-  pub code_after : whole ≡ written ++ zeros_behind closed.len → IsCode limits (length whole) listed whole None
-  code_after filled =
+  pub code_after : whole ≡ written ++ zeros_behind closed.len → length whole ≤ limits.code → IsCode limits (length whole) listed whole None
+  code_after filled few =
       let end : 0 + length whole ≡ length whole = omega arith in
-      record { within = omega arith; in_order = subst (λ n. AreInOrder 0 listed.list n) end (code_closed filled).in_order; limit = ap (λ (h : Holes). h.limit) closes.holes ∙ is.limit; behind = tt }
+      record { within = omega arith; in_order = subst (λ n. AreInOrder 0 listed.list n) end (code_closed filled).in_order; limit = ap (λ (h : Holes). h.limit) closes.holes ∙ is.limit; few = few; behind = tt }
+
+-- so many bytes it has then
+pub closed_size : (kind : RoutineKind) (limits : CodeLimits) (finished : ℕ) (refs listed : Holes) (bytes written : List ℕ) (routine : State) (closed : Closed) → IsCode limits finished refs bytes (Some routine)
+    → Closes kind routine.start (contents_of routine bytes) bytes refs closed written listed
+    → size (cells_from 0 refs.list (take finished bytes) ++ padded (routine_cells (size (cells_from 0 refs.list (take finished bytes))) kind (contents_of routine bytes))) ≡ length written + length (zeros_behind closed.len)
+closed_size kind limits finished refs listed bytes written routine closed is closes =
+    let whole = written ++ zeros_behind closed.len in
+    let same = finished_closed kind limits finished refs listed bytes written whole routine closed is closes refl in
+    let stands = code_closed kind limits finished refs listed bytes written whole routine closed is closes refl in
+    let all : take (length whole) whole ≡ whole = take_all (length whole) whole (omega arith) in
+    let end : length (take (length whole) whole) ≡ 0 + length (take (length whole) whole) = omega arith in
+    let order : AreInOrder 0 listed.list (0 + length (take (length whole) whole)) = subst (λ n. AreInOrder 0 listed.list n) (omega (arith, ap length all)) stands.in_order in
+    ap size (sym same) ∙ size-cells_from 0 listed.list (take (length whole) whole) order ∙ ap length all ∙ length-append written (zeros_behind closed.len)

@@ -14,8 +14,8 @@ use Rattle.inf_assembler.specs.declared.routines.Setting.{Setting}
 use Rattle.inf_assembler.specs.declared.routines.Setting.TheVariants as setting
 use Rattle.inf_assembler.specs.Routines.{State, Contents, contents_of, full_with, refusal, is_full, fault_of}
 use Rattle.inf_layout.specs.declared.code.CodeLimits.{CodeLimits}
-use Rattle.inf_layout.specs.Code.{CodeCell, Known, Awaited, known, size, IsCode, awaited, bytes_with, references_with, full_behind, full_end, cells_from}
-use Rattle.inf_layout.proofs.CodeSteps.{size_finished, length_finished}
+use Rattle.inf_layout.specs.Code.{CodeCell, Known, Awaited, known, size, IsCode, awaited, bytes_with, references_with, full_behind, full_end, cells_from, padded, routine_cells}
+use Rattle.inf_layout.proofs.CodeSteps.{size_finished}
 use Rattle.inf_layout.proofs.Straight.{straight_fault}
 
 -- each hole is a reference that is awaited
@@ -35,23 +35,20 @@ awaited-cells_from place (hole ∷ holes) bytes =
     let rest = cells_from (hole.place + 2) holes (drop (hole.place + 2 - place) bytes) in
     omega (arith, awaited-append (known front) (Awaited hole.reference ∷ rest), awaited-known front, awaited-cells_from (hole.place + 2) holes (drop (hole.place + 2 - place) bytes))
 
+-- where no limit would be passed, that of bytes is not
+pub code_is_free : (full : Bool) (rest : Option Setting) → cond full (Some setting.Code) rest ≡ None → cond full (Some setting.Code) None ≡ None
+code_is_free true rest e = cc
+code_is_free false rest e = refl
+
 -- the first of three limits, and of two, of which some are passed
 abbrev of_three : Bool → Bool → Bool → Option Setting
 of_three labels code refs = cond labels (Some setting.Labels) (cond code (Some setting.Code) (cond refs (Some setting.Refs) None))
 
-abbrev of_two : Bool → Bool → Option Setting
-of_two code refs = cond code (Some setting.Code) (cond refs (Some setting.Refs) None)
+abbrev of_end : Bool → Bool → Bool → Option Setting
+of_end code refs zeros = cond code (Some setting.Code) (cond refs (Some setting.Refs) (cond zeros (Some setting.Code) None))
 
 abbrev faults : Bool → Bool → Option CloseFault
 faults code refs = cond code (Some (close_fault.Full setting.Code)) (cond refs (Some (close_fault.Full setting.Refs)) None)
-
--- another routine
-pub full_cut : (limits : CodeLimits) (finished : ℕ) (refs : Holes) (bytes : List ℕ) (routine : Option State) → IsCode limits finished refs bytes routine → (cut : List ℕ) → cut ≡ take finished bytes
-    → cond (nat_lt limits.code (length cut + 1)) (Some setting.Code) None ≡ cond (nat_lt limits.code (size (cells_from 0 refs.list (take finished bytes)) + 1)) (Some setting.Code) None
-full_cut limits finished refs bytes routine is cut at =
-    let before = cells_from 0 refs.list (take finished bytes) in
-    let len : length cut ≡ size before = ap length at ∙ length_finished limits finished refs bytes routine is ∙ sym (size_finished limits finished refs bytes routine is) in
-    ap (λ n. cond (nat_lt limits.code (n + 1)) (Some setting.Code) None) len
 
 -- more in the open routine, and its end
 module _ (limits : CodeLimits) (finished : ℕ) (refs : Holes) (bytes : List ℕ) (routine : State) (is : IsCode limits finished refs bytes (Some routine)) where
@@ -93,23 +90,36 @@ module _ (limits : CodeLimits) (finished : ℕ) (refs : Holes) (bytes : List ℕ
       ∙ ap (λ n. faults (is_full final limits.code (bytes_with before contents)) (nat_lt n (length refs.list + holes))) is.limit
       ∙ ap (λ n. faults (is_full final limits.code (bytes_with before contents)) (nat_lt limits.refs (n + holes))) refs_are
 
-  pub none_full : (kind : RoutineKind) → fault_of routine.start kind (contents_of routine bytes) routine.limits refs ≡ None
-      → full_end limits (cells_from 0 refs.list (take finished bytes)) (Some (contents_of routine bytes)) ≡ None
-  none_full kind e = none_of (is_full contents.is_final limits.code (bytes_with before contents)) (nat_lt limits.refs (references_with before contents)) (sym (end_is kind) ∙ e)
+  abbrev behind : RoutineKind → ℕ
+  behind kind = size (before ++ padded (routine_cells (size before) kind contents))
+
+  pub rest_full : (kind : RoutineKind) (zeros : Bool) → fault_of routine.start kind (contents_of routine bytes) routine.limits refs ≡ None
+      → nat_lt limits.code (behind kind) ≡ zeros → full_end limits kind (cells_from 0 refs.list (take finished bytes)) (Some (contents_of routine bytes)) ≡ cond zeros (Some setting.Code) None
+  rest_full kind zeros e over =
+      rest_of (is_full contents.is_final limits.code (bytes_with before contents)) (nat_lt limits.refs (references_with before contents)) (sym (end_is kind) ∙ e)
+      ∙ ap (λ z. cond z (Some setting.Code) None) over
     where
-      none_of : (code refs : Bool) → faults code refs ≡ None → of_two code refs ≡ None
-      none_of true refs e = cc
-      none_of false true e = cc
-      none_of false false e = refl
+      rest_of : (code refs : Bool) → faults code refs ≡ None → of_end code refs (nat_lt limits.code (behind kind)) ≡ cond (nat_lt limits.code (behind kind)) (Some setting.Code) None
+      rest_of true refs e = cc
+      rest_of false true e = cc
+      rest_of false false e = refl
 
   pub some_full : (kind : RoutineKind) (refused : CloseFault) (fault : GrowFault) → (refused ≡ close_fault.Memory) ⊎ (fault_of routine.start kind (contents_of routine bytes) routine.limits refs ≡ Some refused)
       → ((s : Setting) → refused ≡ close_fault.Full s → fault ≡ grow_fault.Full s) → (refused ≡ close_fault.Memory → fault ≡ grow_fault.Memory)
-      → (fault ≡ grow_fault.Memory) ⊎ (fault ≡ refusal (full_end limits (cells_from 0 refs.list (take finished bytes)) (Some (contents_of routine bytes))))
+      → (fault ≡ grow_fault.Memory) ⊎ (fault ≡ refusal (full_end limits kind (cells_from 0 refs.list (take finished bytes)) (Some (contents_of routine bytes))))
   some_full kind refused fault (inl memory) told want = inl (want memory)
   some_full kind refused fault (inr e) told want =
-      inr (one_of (is_full contents.is_final limits.code (bytes_with before contents)) (nat_lt limits.refs (references_with before contents)) (sym (end_is kind) ∙ e))
+      inr (one_of (is_full contents.is_final limits.code (bytes_with before contents)) (nat_lt limits.refs (references_with before contents)) (nat_lt limits.code (behind kind)) (sym (end_is kind) ∙ e))
     where
-      one_of : (code refs : Bool) → faults code refs ≡ Some refused → fault ≡ refusal (of_two code refs)
-      one_of true refs e = let same : refused ≡ close_fault.Full setting.Code = cc in told setting.Code same
-      one_of false true e = let same : refused ≡ close_fault.Full setting.Refs = cc in told setting.Refs same
-      one_of false false e = cc
+      one_of : (code refs zeros : Bool) → faults code refs ≡ Some refused → fault ≡ refusal (of_end code refs zeros)
+      one_of true refs zeros e = let same : refused ≡ close_fault.Full setting.Code = cc in told setting.Code same
+      one_of false true zeros e = let same : refused ≡ close_fault.Full setting.Refs = cc in told setting.Refs same
+      one_of false false zeros e = cc
+
+  pub zeros_full : (kind : RoutineKind) (zeros : Bool) (fault : GrowFault) → fault_of routine.start kind (contents_of routine bytes) routine.limits refs ≡ None
+      → nat_lt limits.code (size (cells_from 0 refs.list (take finished bytes) ++ padded (routine_cells (size (cells_from 0 refs.list (take finished bytes))) kind (contents_of routine bytes)))) ≡ zeros
+      → (fault ≡ grow_fault.Memory) ⊎ ((zeros ≡ true) × (fault ≡ grow_fault.Full setting.Code))
+      → (fault ≡ grow_fault.Memory) ⊎ (fault ≡ refusal (full_end limits kind (cells_from 0 refs.list (take finished bytes)) (Some (contents_of routine bytes))))
+  zeros_full kind zeros fault e over (inl memory) = inl memory
+  zeros_full kind zeros fault e over (inr (is, told)) =
+      inr (told ∙ ap refusal (ap (λ z. cond z (Some setting.Code) None) (sym is) ∙ sym (rest_full kind zeros e over)))

@@ -1,5 +1,5 @@
 -- The code of a story: finished routines, as bytes and the numbers that are known later, and the routine that is open.
-use Rattle.std.specs.Prelude.{◌≡◌, ℕ, ◌+◌, ◌-◌, ◌%◌, ◌≤◌, Bool, true, false, nat_lt, if◌then◌else◌, List, [], ◌∷◌, ◌++◌, length, map, take, drop, slice_get, Option, Some, None}
+use Rattle.std.specs.Prelude.{◌≡◌, ℕ, ◌+◌, ◌-◌, ◌%◌, ◌≤◌, ◌<◌, ◌^◌, Bool, true, false, nat_lt, if◌then◌else◌, List, [], ◌∷◌, ◌++◌, length, map, take, drop, slice_get, Option, Some, None}
 use Rattle.std.specs.List.{flat_map}
 use Rattle.std.specs.Option.{unwrap_or}
 use Rattle.inf_area.specs.declared.references.Hole.{Hole}
@@ -15,7 +15,7 @@ use Rattle.inf_assembler.specs.declared.routines.Limits.{Limits}
 use Rattle.inf_assembler.specs.declared.routines.RoutineKind.{RoutineKind}
 use Rattle.inf_assembler.specs.declared.routines.Setting.{Setting}
 use Rattle.inf_assembler.specs.declared.routines.Setting.TheVariants as setting
-use Rattle.inf_assembler.specs.Routines.{State, Contents, IsOpen, contents_of, with_cells, body_bytes, closing, routine_holes, is_full}
+use Rattle.inf_assembler.specs.Routines.{State, Contents, IsOpen, contents_of, fresh, with_cells, body_bytes, closing, routine_holes, is_full}
 use Rattle.inf_layout.specs.declared.code.CodeLimits.{CodeLimits}
 
 -- a byte, or the two bytes that a reference's number takes
@@ -37,8 +37,11 @@ size [] = 0
 size (cell ∷ cells) = cell_size cell + size cells
 
 -- the zeros behind so many bytes that fill them up to a multiple of 4
+abbrev pub zeros_behind : ℕ → List ℕ
+zeros_behind size = take ((4 - size % 4) % 4) (0 ∷ 0 ∷ 0 ∷ [])
+
 abbrev pub padding : ℕ → List CodeCell
-padding size = known (take ((4 - size % 4) % 4) (0 ∷ 0 ∷ 0 ∷ []))
+padding size = known (zeros_behind size)
 
 -- cells with these zeros
 abbrev pub padded : List CodeCell → List CodeCell
@@ -81,15 +84,22 @@ cells_with place kind contents (Some body) = cells_from place (routine_holes pla
 abbrev pub routine_cells : ℕ → RoutineKind → Contents → List CodeCell
 routine_cells place kind contents = cells_with place kind contents (body_bytes place contents)
 
--- the routines of a story: what they may hold, the finished ones, and the one that is open, if any
+-- The routines of a story: what it may hold, whether its code has begun, the finished routines of its source, and the one
+-- that is open, if any. Code begins with a first routine that the source does not have: it calls the source's Main.
 pub record Routines : Type 0 where
   pub limits : CodeLimits
+  pub has_begun : Bool
   pub finished : List CodeCell
   pub opened : Option Contents
 
 -- none, under these limits
 abbrev pub no_routines : CodeLimits → Routines
-no_routines limits = record { limits = limits; finished = []; opened = None }
+no_routines limits = record { limits = limits; has_begun = false; finished = []; opened = None }
+
+-- What is left of the limits for the routines of the source. The first routine has 8 bytes and one reference; the addresses of
+-- the property tables of the four objects that each story has are four more.
+abbrev pub room : CodeLimits → CodeLimits
+room limits = record { labels = limits.labels; code = limits.code - 8; refs = limits.refs - 5 }
 
 -- an instruction more in a routine, and in the one that is open
 abbrev pub with_instruction : Parts → Contents → Contents
@@ -131,9 +141,45 @@ bytes_with finished contents = size finished + 1 + length (long_bytes contents.c
 abbrev pub references_with : List CodeCell → Contents → ℕ
 references_with finished contents = awaited finished + hole_count contents.cells
 
--- the limit that another routine, which begins with the number of its locals, would pass
+-- the first limit that the beginning of code would pass
+abbrev pub full_first : CodeLimits → Option Setting
+full_first limits =
+    if nat_lt limits.code 8 then Some setting.Code else
+    if nat_lt limits.refs 5 then Some setting.Refs else None
+
+-- nothing, where it has begun
+abbrev pub full_unless : Bool → CodeLimits → Option Setting
+full_unless has_begun limits = if has_begun then None else full_first limits
+
+abbrev pub full_begun : Routines → Option Setting
+full_begun routines = full_unless routines.has_begun routines.limits
+
+-- code begins, unless that would pass a limit
+abbrev pub begun_unless : Option Setting → Routines → Routines
+begun_unless None routines = record routines { has_begun = true }
+begun_unless (Some s) routines = routines
+
+abbrev pub begun : Routines → Routines
+begun routines = begun_unless (full_begun routines) routines
+
+-- the bytes of code and the references of a story so far
+abbrev pub code_count : Routines → ℕ
+code_count routines = (if routines.has_begun then 8 else 0) + size routines.finished
+
+abbrev pub reference_count : Routines → ℕ
+reference_count routines = (if routines.has_begun then 5 else 4) + awaited routines.finished
+
+-- the first limit that another routine would pass behind so many bytes: it begins with the number of its locals, and code begins with it
+abbrev pub full_behind_bytes : CodeLimits → Bool → ℕ → Option Setting
+full_behind_bytes limits has_begun place =
+    if nat_lt (room limits).code (place + 1) then Some setting.Code else full_unless has_begun limits
+
 abbrev pub full_opened : Routines → Option Setting
-full_opened routines = if nat_lt routines.limits.code (size routines.finished + 1) then Some setting.Code else None
+full_opened routines = full_behind_bytes routines.limits routines.has_begun (size routines.finished)
+
+-- another routine of so many locals is open
+abbrev pub with_opened : ℕ → Routines → Routines
+with_opened locals routines = record routines { has_begun = true; opened = Some (fresh locals) }
 
 -- The first limit that more cells in the open routine would pass: that of its labels, branches and jumps, of all bytes, and of all references.
 abbrev pub full_behind : CodeLimits → List CodeCell → List Cell → Option Contents → Option Setting
@@ -144,17 +190,19 @@ full_behind limits finished cells (Some contents) =
     if nat_lt limits.refs (references_with finished contents + hole_count cells) then Some setting.Refs else None
 
 abbrev pub full_with : Parts → Routines → Option Setting
-full_with parts routines = full_behind routines.limits routines.finished (instruction_cells parts) routines.opened
+full_with parts routines = full_behind (room routines.limits) routines.finished (instruction_cells parts) routines.opened
 
--- the first limit that the open routine would pass with what returns at its end, or all references would
-abbrev pub full_end : CodeLimits → List CodeCell → Option Contents → Option Setting
-full_end limits finished None = None
-full_end limits finished (Some contents) =
+-- the first limit that the open routine would pass with what returns at its end, or all references would, or the routine with the
+-- zeros behind it
+abbrev pub full_end : CodeLimits → RoutineKind → List CodeCell → Option Contents → Option Setting
+full_end limits kind finished None = None
+full_end limits kind finished (Some contents) =
     if is_full contents.is_final limits.code (bytes_with finished contents) then Some setting.Code else
-    if nat_lt limits.refs (references_with finished contents) then Some setting.Refs else None
+    if nat_lt limits.refs (references_with finished contents) then Some setting.Refs else
+    if nat_lt limits.code (size (finished ++ padded (routine_cells (size finished) kind contents))) then Some setting.Code else None
 
-abbrev pub full_closed : Routines → Option Setting
-full_closed routines = full_end routines.limits routines.finished routines.opened
+abbrev pub full_closed : RoutineKind → Routines → Option Setting
+full_closed kind routines = full_end (room routines.limits) kind routines.finished routines.opened
 
 -- the limits of each routine
 abbrev pub routine_limits : CodeLimits → Limits
@@ -176,7 +224,12 @@ pub record IsCode (limits : CodeLimits) (finished : ℕ) (refs : Holes) (bytes :
   pub within : finished ≤ length bytes
   pub in_order : AreInOrder 0 refs.list finished
   pub limit : refs.limit ≡ limits.refs
+  pub few : finished ≤ limits.code
   pub behind : IsBehind limits finished bytes routine
+
+-- code that has begun has room for its beginning; limits are numbers of the program
+abbrev pub HasRoom : Bool → CodeLimits → Type 0
+HasRoom has_begun limits = ((limits.code < 2 ^ 64) × (limits.refs < 2 ^ 64)) × (has_begun ≡ true → (8 ≤ limits.code) × (5 ≤ limits.refs))
 
 -- whether a routine that has no label, branch or jump may be refused so: for want of room
 abbrev pub is_of_room : CloseFault → Bool

@@ -1,29 +1,76 @@
 //! The code of a story: its finished routines, and the one that is open.
-ghost use Rattle.std.specs.Prelude.{◌≡◌, ◌≤◌, ◌⊎◌, None, Some, IsTrue, MatchResult, OnOk, OnErr, length, take};
+ghost use Rattle.std.specs.Prelude.{◌≡◌, ◌≤◌, ◌⊎◌, ◌++◌, ◌+◌, None, Some, IsTrue, MatchResult, OnOk, OnErr, false, length, nat_lt, take, true};
 ghost use Rattle.inf_opcode.specs.Cells.{label_count};
 ghost use Rattle.inf_opcode.specs.Instructions.{IsProper, instruction_cells};
 ghost use Rattle.inf_opcode.specs.PartsOf.{parts_of};
 ghost use Rattle.inf_assembler.specs.declared.routines.Setting.{Setting};
+ghost use Rattle.inf_assembler.specs.declared.routines.Setting.TheVariants as code_setting;
 ghost use Rattle.inf_assembler.specs.declared.routines.CloseFault.TheVariants as close_fault;
 ghost use Rattle.inf_assembler.specs.declared.routines.GrowFault.TheVariants as grow_fault;
-ghost use Rattle.inf_assembler.specs.Routines.{fresh, refusal};
-ghost use Rattle.inf_layout.specs.Code.{awaited, size, number_in, code_bytes, with_item, with_closed, with_none_open, full_opened, full_with, full_closed, is_of_room};
+ghost use Rattle.inf_assembler.specs.Routines.{refusal};
+ghost use Rattle.inf_layout.specs.Code.{begun, code_count, reference_count, room, full_begun, full_behind_bytes, full_first, size, number_in, code_bytes, with_item, with_closed, with_none_open, with_opened, full_opened, full_with, full_closed, is_of_room, zeros_behind};
 
 use inf_area::{Area, FlatArea, Reference, Refs};
-use inf_assembler::{CloseFault, GrowFault, Limits, Routine, RoutineKind};
+use inf_assembler::{CloseFault, GrowFault, Limits, Routine, RoutineKind, Setting};
 use inf_opcode::Instruction;
 use std::alloc::Global;
 use std::marker::Model;
+
+/// The bytes of the first routine of each story, which calls `Main`, with the zeros behind it.
+const FIRST_ROUTINE_BYTES: usize = 8;
+
+/// The references of each story in tables: the addresses of the property tables of its first four objects.
+const TABLE_REFERENCES: usize = 4;
+
+/// These, and that of the first routine.
+const FIRST_REFERENCES: usize = 5;
 
 /// What code may hold.
 #[derive(Clone, Copy, Debug, PartialEq, Eq)]
 pub struct CodeLimits {
     /// The most labels, branches and jumps of a routine.
     pub labels: usize,
-    /// The most bytes of the finished routines and the open one, with every branch long.
+    /// The most bytes of all routines: the first one, which has 8, the finished ones with the zeros behind them, and the open one with
+    /// every branch long.
     pub code: usize,
-    /// The most references whose numbers are known later.
+    /// The most references whose numbers are known later: those of the routines, and four in tables.
     pub refs: usize,
+}
+
+impl CodeLimits {
+    /// What is left of the limits for the routines of the source.
+    fn room(self) -> CodeLimits
+        ensures { result ≡ room self }
+    {
+        CodeLimits {
+            labels: self.labels,
+            code: self.code.saturating_sub(FIRST_ROUTINE_BYTES),
+            refs: self.refs.saturating_sub(FIRST_REFERENCES),
+        }
+    }
+
+    /// The first limit that the beginning of code would pass.
+    fn full_first(self) -> Option<Setting>
+        ensures { result ≡ full_first self }
+    {
+        if self.code < FIRST_ROUTINE_BYTES {
+            Some(Setting::Code)
+        } else if self.refs < FIRST_REFERENCES {
+            Some(Setting::Refs)
+        } else {
+            None
+        }
+    }
+
+    /// The first limit that another routine would pass behind so many bytes.
+    fn full_opened(self, has_begun: bool, place: usize) -> Option<Setting>
+        ensures { result ≡ full_behind_bytes self has_begun place }
+    {
+        if self.room().code <= place {
+            return Some(Setting::Code);
+        }
+        if has_begun { None } else { self.full_first() }
+    }
 }
 
 /// The routines of a story: the bytes of the finished ones, with zeros in place of each number that
@@ -31,6 +78,8 @@ pub struct CodeLimits {
 #[derive(Debug, Drop)]
 pub struct Code {
     limits: CodeLimits,
+    // Whether it has its first routine, which calls `Main`.
+    has_begun: bool,
     area: FlatArea,
     refs: Refs,
     // How many bytes the finished routines have.
@@ -41,13 +90,13 @@ pub struct Code {
 
 impl Model for Code {
     ghost use Rattle.std.specs.Prelude.{take};
-    ghost use Rattle.inf_layout.specs.Code.{Routines, IsCode, cells_from, open_in};
+    ghost use Rattle.inf_layout.specs.Code.{Routines, HasRoom, IsCode, cells_from, open_in, room};
 
     ghost Value = { Routines };
 
-    ghost view = { λ code. record { limits = code.limits; finished = cells_from 0 code.refs.list (take code.finished code.area); opened = open_in code.area code.routine } };
+    ghost view = { λ code. record { limits = code.limits; has_begun = code.has_begun; finished = cells_from 0 code.refs.list (take code.finished code.area); opened = open_in code.area code.routine } };
 
-    ghost invariant = { λ code. IsCode code.limits code.finished code.refs code.area code.routine };
+    ghost invariant = { λ code. IsCode (room code.limits) code.finished code.refs code.area code.routine × HasRoom code.has_begun code.limits };
 }
 
 impl Code {
@@ -59,46 +108,84 @@ impl Code {
     {
         Code {
             limits,
+            has_begun: false,
             area: FlatArea::new(alloc),
-            refs: Refs::new(alloc, limits.refs),
+            refs: Refs::new(alloc, limits.room().refs),
             finished: 0,
             routine: None,
         }
     }
 
-    /// The number of bytes of the finished routines.
+    /// The number of bytes of the finished routines of the source: the place of the next.
     pub fn len(&self) -> usize
         ensures { result ≡ size self.now.finished }
     {
         self.finished
     }
 
-    /// How many references the finished routines have.
-    pub fn references(&self) -> usize
-        ensures { result ≡ awaited self.now.finished }
+    /// The number of bytes of code so far: those of the first routine, once code has begun, and of the finished ones.
+    pub fn count(&self) -> usize
+        ensures value { result ≡ code_count self.now }
+        ensures few { result ≤ self.now.limits.code }
     {
-        self.refs.len()
+        if self.has_begun {
+            FIRST_ROUTINE_BYTES + self.finished
+        } else {
+            self.finished
+        }
     }
 
-    /// Opens a routine of so many locals, at most 15. One that is open is given up.
+    /// How many references the story has so far: four in tables, that of the first routine, once code has begun, and those of the
+    /// finished routines.
+    pub fn references(&self) -> usize
+        ensures value { result ≡ reference_count self.now }
+        ensures few { 4 ≤ self.now.limits.refs → result ≤ self.now.limits.refs }
+    {
+        if self.has_begun {
+            FIRST_REFERENCES + self.refs.len()
+        } else {
+            TABLE_REFERENCES + self.refs.len()
+        }
+    }
+
+    /// Begins code with its first routine, unless it has begun. Answers the limit that this would pass, of two that of bytes; then
+    /// it does not begin.
+    pub fn begin(&mut self) -> Option<Setting>
+        ensures full { result ≡ full_begun self.old }
+        ensures begun { self.new ≡ begun self.old }
+    {
+        if self.has_begun {
+            return None;
+        }
+        let full = self.limits.full_first();
+        self.has_begun = full.is_none();
+        full
+    }
+
+    /// Opens a routine of so many locals, at most 15. One that is open is given up. Code begins with it, unless it has begun.
     ///
     /// Where it is refused, none is open. It is refused where the number of locals would pass the limit of
-    /// bytes, and else only for want of memory.
+    /// bytes, or the beginning of code a limit, and else only for want of memory.
     pub fn open(&mut self, alloc: Global, locals: u8) -> Result<(), GrowFault>
         requires { locals ≤ 15 }
-        ensures ok { OnOk result (self.new ≡ record self.old { opened = Some (fresh locals) }) }
+        ensures ok { OnOk result (self.new ≡ with_opened locals self.old) }
         ensures err { OnErr result (self.new ≡ with_none_open self.old) }
         ensures fault { let full = full_opened self.old in
             MatchResult result (λ _. full ≡ None) (λ fault. fault ≡ refusal full) }
     {
         self.routine = None;
+        if let Some(setting) = self.limits.full_opened(self.has_begun, self.finished) {
+            return Err(GrowFault::Full(setting));
+        }
         cut_back(&mut self.area, self.finished);
+        let room = self.limits.room();
         let limits = Limits {
-            labels: self.limits.labels,
-            code: self.limits.code,
+            labels: room.labels,
+            code: room.code,
         };
         let routine = Routine::open(alloc, &mut self.area, locals, limits)?;
         self.routine = Some(routine);
+        self.has_begun = true;
         Ok(())
     }
 
@@ -125,12 +212,12 @@ impl Code {
     /// zeros to a multiple of 4.
     ///
     /// Where it is refused the finished routines are as they were, and the open one is given up. It is
-    /// refused where what returns at its end would pass the limit of bytes, or all references theirs, and else
+    /// refused where what returns at its end or the zeros behind it would pass the limit of bytes, or all references theirs, and else
     /// only for want of memory.
     pub fn close(&mut self, kind: RoutineKind) -> Result<(), GrowFault>
         ensures ok { OnOk result (self.new ≡ with_closed kind self.old) }
         ensures err { OnErr result (self.new ≡ with_none_open self.old) }
-        ensures fault { let full = full_closed self.old in
+        ensures fault { let full = full_closed kind self.old in
             MatchResult result (λ _. full ≡ None) (λ fault. (fault ≡ grow_fault.Memory) ⊎ (fault ≡ refusal full)) }
     {
         let Some(routine) = self.routine.take() else {
@@ -141,10 +228,9 @@ impl Code {
             Ok(closed) => closed,
             Err(fault) => return Err(lacking(fault)),
         };
-        let zeros: &[u8] = &[0, 0, 0];
-        if let Err(fault) = self.area.append(&zeros[..(4 - closed.len % 4) % 4]) {
+        if let Err(fault) = fill_up(&mut self.area, closed.len, self.limits.room().code) {
             self.refs.keep(before);
-            return Err(GrowFault::from(fault));
+            return Err(fault);
         }
         self.finished = self.area.len();
         Ok(())
@@ -170,6 +256,26 @@ impl Code {
         }
         area
     }
+}
+
+/// Appends the zeros behind a routine of this length that fill it up to a multiple of 4.
+///
+/// It is refused where the area would have more bytes than its limit, and else only for want of memory; the area then stays as it was.
+fn fill_up(area: &mut FlatArea, len: usize, limit: usize) -> Result<(), GrowFault>
+    ensures ok { OnOk result (area.new ≡ area.old ++ zeros_behind len) }
+    ensures room { OnOk result (length area.new ≤ limit) }
+    ensures err { OnErr result (area.new ≡ area.old) }
+    ensures fault { let full = nat_lt limit (length area.old + length (zeros_behind len)) in
+        MatchResult result (λ _. full ≡ false) (λ fault. (fault ≡ grow_fault.Memory) ⊎ ((full ≡ true) × (fault ≡ grow_fault.Full code_setting.Code))) }
+{
+    let zeros: &[u8] = &[0, 0, 0];
+    let behind = &zeros[..(4 - len % 4) % 4];
+    let end = area.len();
+    if limit < end || limit - end < behind.len() {
+        return Err(GrowFault::Full(Setting::Code));
+    }
+    area.append(behind)?;
+    Ok(())
 }
 
 /// The number of a reference, or 0 where the list is too short.

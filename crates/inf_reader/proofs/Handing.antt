@@ -7,7 +7,7 @@ use Rattle.inf_unit.specs.Tokens.{Spelled}
 use Rattle.inf_conditionals.specs.declared.judged.Handed.{Handed}
 use Rattle.inf_conditionals.specs.declared.judged.Handed.TheVariants as handed
 use Rattle.inf_conditionals.specs.declared.judged.Judged.{Judged}
-use Rattle.inf_reader.specs.Handing.{handed_as, judged_taken, lone_told, sign_taken, token_taken, unfit_in}
+use Rattle.inf_reader.specs.Handing.{handed_as, judged_taken, lone_told, sign_taken, token_taken, unfit_in, unit_ended}
 use Rattle.inf_reader.specs.Reading.{Stand}
 use Rattle.inf_reader.specs.declared.mode.Mode.{Mode}
 use Rattle.inf_reader.specs.declared.mode.Mode.TheVariants as mode
@@ -30,9 +30,15 @@ lone_mode : (lone : Option Place) (files : FileNames) (s : Stand) → (lone_told
 lone_mode None files s = refl
 lone_mode (Some place) files s = refl
 
+ended_mode : (ended : Option Place) (files : FileNames) (s : Stand) → (unit_ended ended files s).reading.mode ≡ s.reading.mode
+ended_mode None files s = refl
+ended_mode (Some place) files s = refl
+
 pub end_taken : (files : FileNames) (bytes : List ℕ) (place : Place) (j : Judged) (h : Handed) (s : Stand) → j.token ≡ Some h
     → (judged_taken files (end_of bytes place) j s).reading.mode ≡ mode.Ended
 end_taken files bytes place j h s e =
-    lone_mode j.lone files (token_taken j.token files (end_of bytes place) (sign_taken j.sign files s))
+    let told = lone_told j.lone files (token_taken j.token files (end_of bytes place) (sign_taken j.sign files s)) in
+    ended_mode j.ended files told
+    ∙ lone_mode j.lone files (token_taken j.token files (end_of bytes place) (sign_taken j.sign files s))
     ∙ ap (λ o. (token_taken o files (end_of bytes place) (sign_taken j.sign files s)).reading.mode) e
     ∙ end_handed h files bytes place (sign_taken j.sign files s)

@@ -13,6 +13,7 @@ use Rattle.inf_conditionals.specs.declared.judged.Handed.TheVariants as handed
 use Rattle.inf_conditionals.specs.declared.judged.Judged.{Judged}
 use Rattle.inf_conditionals.specs.declared.judged.Sign.{Sign}
 use Rattle.inf_conditionals.specs.declared.judged.Site.{Site}
+use Rattle.inf_work.specs.Actions.{begun_at}
 use Rattle.inf_reader.specs.Reading.{Reading, Stand, bad, step}
 use Rattle.inf_reader.specs.declared.mode.Mode.{Mode}
 use Rattle.inf_reader.specs.declared.mode.Mode.TheVariants as mode
@@ -63,6 +64,12 @@ abbrev pub lone_told : Option Place → FileNames → Stand → Stand
 lone_told None files s = s
 lone_told (Some place) files s = record s { work = record s.work { report = with_lone files place s.work.report } }
 
--- first the `#` before the token, then the token, and then a directive that has no conditional to end or to turn
+-- a conditional directive is a unit
+abbrev pub unit_ended : Option Place → FileNames → Stand → Stand
+unit_ended None files s = s
+unit_ended (Some place) files s = record s { work = begun_at files place s.work }
+
+-- first the `#` before the token, then the token, and then a conditional directive that has ended: one that has no conditional to
+-- end or to turn is told
 abbrev pub judged_taken : FileNames → Spelled → Judged → Stand → Stand
-judged_taken files t j s = lone_told j.lone files (token_taken j.token files t (sign_taken j.sign files s))
+judged_taken files t j s = unit_ended j.ended files (lone_told j.lone files (token_taken j.token files t (sign_taken j.sign files s)))

@@ -106,6 +106,9 @@ impl Progress {
         if let Some(place) = judged.lone {
             tell_lone(place, files, &mut self.work.report)?;
         }
+        if let Some(place) = judged.ended {
+            self.work.begin(files, place)?;
+        }
         Ok(())
     }
 
@@ -161,6 +164,7 @@ impl Progress {
     }
 
     /// Tells the bad token of a piece, and passes over it.
+    #[inline(never)]
     fn bad(&mut self, files: &Stack, token: &Spelled<'_>) -> Result<(), AllocError>
         ensures { let before = reading self.old.reader in
             OnOk result (standing self.new ≡ bad files.now.names (spelled token.now) before (work self.old.work)) }

@@ -2,11 +2,11 @@
 use Rattle.std.proofs.Common.{◌≡◌, ℕ, List, true, Option, Some, None, refl}
 use Rattle.inf_report.specs.Messages.{StoryTooLong}
 use Rattle.inf_layout.specs.Story.{is_too_long, most_bytes}
-use Rattle.inf_work.specs.Actions.{Work}
+use Rattle.inf_work.specs.Actions.{Work, begun_at}
 use Rattle.inf_unit.proofs.Cases.{of_both}
 use Rattle.inf_unit.specs.Messages.{FileNames, Reported, with_fatal}
 use Rattle.inf_unit.specs.Names.{main_of, values, with_all_undeclared}
-use Rattle.inf_session.specs.Outcome.{Ending, begun, finished, first_line, is_clean, laid, refused}
+use Rattle.inf_session.specs.Outcome.{Ending, begun, finished, first_line, first_place, is_clean, laid, refused}
 use Rattle.inf_session.specs.declared.translation.Status.TheVariants as status
 
 -- a story that is too long is told
@@ -26,4 +26,6 @@ begun_none serial files w r (Some main) =
     of_both HasNone (is_clean r) (laid serial files main w r) (refused r) (λ _. laid_none serial files main w r) (λ _ _. refl)
 
 pub errors_none : (serial : List ℕ) (files : FileNames) (w : Work) → (finished serial files w).status ≡ status.Errors → (finished serial files w).story ≡ None
-errors_none serial files w = begun_none serial files w (with_all_undeclared files w.names.names w.report) (main_of w.names)
+errors_none serial files w =
+    let b = begun_at files first_place w in
+    begun_none serial files b (with_all_undeclared files b.names.names b.report) (main_of b.names)

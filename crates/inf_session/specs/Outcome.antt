@@ -2,7 +2,8 @@
 use Rattle.std.specs.Prelude.{◌≡◌, ℕ, List, ◌++◌, Bool, not, ◌&&◌, ◌==◌, if◌then◌else◌, Option, Some, None}
 use Rattle.inf_report.specs.Messages.{Location, NoMain, NoSource, StoryTooLong}
 use Rattle.inf_layout.specs.Story.{most_bytes, story, is_too_long}
-use Rattle.inf_work.specs.Actions.{Work}
+use Rattle.inf_scanner.specs.declared.tokens.Place.{Place}
+use Rattle.inf_work.specs.Actions.{Work, begun_at}
 use Rattle.inf_unit.specs.Messages.{FileNames, Reported, location, nothing_reported, with_closing, with_error, with_fatal}
 use Rattle.inf_unit.specs.Names.{main_of, values, with_all_undeclared}
 use Rattle.inf_token.specs.Files.{Sources}
@@ -25,8 +26,11 @@ abbrev pub is_clean : Reported → Bool
 is_clean r = not r.counts.is_over && (r.counts.errors == 0)
 
 -- messages about a whole source stand at its first line
+abbrev pub first_place : Place
+first_place = record { file = 0; line = 1 }
+
 abbrev pub first_line : FileNames → Location
-first_line files = location files (record { file = 0; line = 1 })
+first_line files = location files first_place
 
 -- the story of the routines, where it is not too long
 abbrev pub laid : List ℕ → FileNames → ℕ → Work → Reported → Ending
@@ -44,9 +48,13 @@ abbrev pub begun : List ℕ → FileNames → Work → Reported → Option ℕ �
 begun serial files w r None = refused (with_error (first_line files) (first_line files) NoMain r)
 begun serial files w r (Some main) = if is_clean r then laid serial files main w r else refused r
 
--- at the end the names are told that were used and never declared
+-- The names are told that were used and never declared.
+abbrev pub finished_with : List ℕ → FileNames → Work → Ending
+finished_with serial files w = begun serial files w (with_all_undeclared files w.names.names w.report) (main_of w.names)
+
+-- At the end, at the latest, code begins.
 abbrev pub finished : List ℕ → FileNames → Work → Ending
-finished serial files w = begun serial files w (with_all_undeclared files w.names.names w.report) (main_of w.names)
+finished serial files w = finished_with serial files (begun_at files first_place w)
 
 -- the ending of a source that is not there
 abbrev pub missing : List ℕ → Ending

@@ -3,7 +3,7 @@
 -- end of an included file was read, reading goes on in the file that includes it.
 -- Designer's Manual, fourth edition, sections 38 and 39.
 use Rattle.std.specs.Prelude.{◌≡◌, ℕ, List, [], ◌∷◌, ◌++◌, length, nat_lt, is_none, Bool, true, false, ◌&&◌, ◌||◌, if◌then◌else◌, zero, suc}
-use Rattle.inf_layout.specs.Code.{awaited, size}
+use Rattle.inf_layout.specs.Code.{code_count, reference_count}
 use Rattle.inf_scanner.specs.declared.tokens.BadToken.TheVariants as bad
 use Rattle.inf_scanner.specs.declared.tokens.Place.{Place}
 use Rattle.inf_scanner.specs.declared.tokens.TokenKind.{TokenKind}
@@ -200,7 +200,7 @@ part sources o (suc n) s =
 abbrev pub held : State → List ℕ
 held s =
     s.quoted ∷ 0 ∷ length s.work.names.names ∷ 0 ∷ 0 ∷ 0 ∷ 0 ∷ 0 ∷ 0 ∷ 0 ∷ 0 ∷ 0
-    ∷ size s.work.output.code.finished ∷ 0 ∷ awaited s.work.output.code.finished ∷ []
+    ∷ code_count s.work.output.code ∷ 0 ∷ reference_count s.work.output.code ∷ []
 
 -- at most n turns
 abbrev pub run : Sources → Choices → ℕ → State → State

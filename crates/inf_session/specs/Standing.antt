@@ -1,6 +1,6 @@
 -- What the code's session stands for, with a reader that keeps to its sources.
 use Rattle.std.specs.Prelude.{◌≡◌, ℕ, List, Bool, ◌&&◌, ◌||◌, if◌then◌else◌, is_none, length, [], ◌∷◌}
-use Rattle.inf_layout.specs.Code.{awaited, size}
+use Rattle.inf_layout.specs.Code.{code_count, reference_count}
 use Rattle.inf_conditionals.specs.Judging.{is_none_pending}
 use Rattle.inf_reader.specs.Handing.{site_of}
 use Rattle.inf_token.specs.Files.{Openings, Sources}
@@ -50,4 +50,4 @@ came_to s = if (standing s.progress).work.report.counts.is_over then step.Fatal 
 abbrev pub held_by : Session → List ℕ
 held_by s =
     s.quoted ∷ 0 ∷ length s.progress.work.names.names ∷ 0 ∷ 0 ∷ 0 ∷ 0 ∷ 0 ∷ 0 ∷ 0 ∷ 0 ∷ 0
-    ∷ size s.progress.work.output.code.finished ∷ 0 ∷ awaited s.progress.work.output.code.finished ∷ []
+    ∷ code_count s.progress.work.output.code ∷ 0 ∷ reference_count s.progress.work.output.code ∷ []

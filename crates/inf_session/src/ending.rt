@@ -3,7 +3,7 @@ ghost use Rattle.std.specs.Prelude.{◌≡◌, IfOk, IfSome, is_none};
 ghost use Rattle.inf_layout.specs.Story.{story, is_too_long};
 ghost use Rattle.inf_unit.specs.Names.{values};
 ghost use Rattle.inf_work.specs.Works.{work as work_of};
-ghost use Rattle.inf_session.specs.Outcome.{finished, laid, missing, refused};
+ghost use Rattle.inf_session.specs.Outcome.{finished, finished_with, laid, missing, refused};
 ghost use Rattle.inf_session.specs.Endings.{seen};
 
 use crate::translation::Status;
@@ -29,7 +29,7 @@ pub(crate) struct Ending {
 /// Where the messages about a whole source stand.
 const FIRST_LINE: Place = Place { file: 0, line: 1 };
 
-/// Ends the compilation of a source that was read. A name that was used and never declared is
+/// Ends the compilation of a source that was read. Code begins, unless it has begun. A name that was used and never declared is
 /// an error, and that there is no routine `Main`. A story comes only where no error was found.
 pub(crate) fn finish(
     alloc: Global,
@@ -38,6 +38,19 @@ pub(crate) fn finish(
     mut work: Work,
 ) -> Result<Ending, AllocError>
     ensures { IfOk result (λ t. seen t ≡ finished serial.now files.now.names (work_of work)) }
+{
+    work.begin(files, FIRST_LINE)?;
+    finish_begun(alloc, files, serial, work)
+}
+
+/// Ends a compilation whose code has begun.
+fn finish_begun(
+    alloc: Global,
+    files: &Stack,
+    serial: &[u8],
+    mut work: Work,
+) -> Result<Ending, AllocError>
+    ensures { IfOk result (λ t. seen t ≡ finished_with serial.now files.now.names (work_of work)) }
 {
     tell_undeclared(&work.names, files, &mut work.report)?;
     let Some(main) = main_of(&work.names) else {

@@ -8,7 +8,6 @@ use Rattle.inf_opcode.specs.declared.instructions.Operand.{Operand}
 use Rattle.inf_opcode.specs.Instructions.{Parts, bare}
 use Rattle.inf_assembler.specs.declared.routines.RoutineKind.TheVariants as routine_kind
 use Rattle.inf_assembler.specs.declared.routines.Setting.{Setting as CodeSetting}
-use Rattle.inf_assembler.specs.Routines.{fresh}
 use Rattle.inf_settings.specs.Settings.{number_of}
 use Rattle.inf_settings.specs.declared.setting.Setting.{Setting}
 use Rattle.inf_settings.specs.declared.setting.Setting.TheVariants as setting
@@ -22,7 +21,7 @@ use Rattle.inf_report.specs.OwnWords.{Words}
 use Rattle.inf_symbol.specs.Spellings.{Name}
 use Rattle.inf_symbol.specs.Locals.{Local, Headed, with_all_named, with_locals, no_locals}
 use Rattle.inf_layout.specs.declared.code.CodeLimits.{CodeLimits}
-use Rattle.inf_layout.specs.Code.{Routines, no_routines, size, with_item, with_closed, with_none_open, full_opened, full_with, full_closed}
+use Rattle.inf_layout.specs.Code.{Routines, begun as code_begun, full_begun, no_routines, size, with_item, with_closed, with_none_open, with_opened, full_opened, full_with, full_closed}
 use Rattle.inf_grammar.specs.declared.actions.Action.{Action}
 use Rattle.inf_grammar.specs.declared.actions.Action.TheVariants as action
 use Rattle.inf_unit.specs.Directives.{Asked, Nothing, Include, End, weight_of}
@@ -50,10 +49,9 @@ pub record Gathered : Type 0 where
 abbrev pub nothing_gathered : Gathered
 nothing_gathered = record { operands = []; texts = []; named = None; read = None; number = None; quoted = [] }
 
--- The finished routines and the open one, if any, and whether the header of the one opened last had an error.
+-- The finished routines and the open one, if any.
 pub record Output : Type 0 where
   pub code : Routines
-  pub is_lost : Bool
 
 -- what code may hold, as the settings say: the labels, branches and jumps of a routine, bytes, and references
 abbrev pub limits_of : Settings → CodeLimits
@@ -64,7 +62,7 @@ limits_of settings = record {
 }
 
 abbrev pub no_output : Settings → Output
-no_output settings = record { code = no_routines (limits_of settings); is_lost = false }
+no_output settings = record { code = no_routines (limits_of settings) }
 
 -- What was compiled so far: the character set of the sources, the parts of the unit at hand, the locals of the open routine, the
 -- names of the source, the code, the messages, and what a directive asks of the reading; the names of routines that are to be
@@ -134,19 +132,26 @@ behind next g = behind_by g.full next g
 abbrev pub emitted : Parts → Output → Grown
 emitted item o = grown (full_with item o.code) (record o { code = record o.code { opened = with_item item o.code.opened } }) o
 
--- a routine is opened with so many locals
+-- code begins, with the first routine of the story
+abbrev pub begun : Output → Grown
+begun o = record { output = record o { code = code_begun o.code }; full = full_begun o.code }
+
+-- A routine is opened with so many locals. One whose header had an error has no code, and none is open.
+abbrev pub lost : Output → Grown
+lost o = begun (record o { code = with_none_open o.code })
+
+abbrev pub opened_whole : ℕ → Output → Grown
+opened_whole locals o =
+    grown (full_opened o.code) (record o { code = with_opened locals o.code }) (record o { code = with_none_open o.code })
+
 abbrev pub opened : ℕ → Bool → Output → Grown
-opened locals is_lost o =
-    grown (full_opened o.code) (record { code = record o.code { opened = Some (fresh locals) }; is_lost = is_lost })
-    (record { code = with_none_open o.code; is_lost = is_lost })
+opened locals true o = lost o
+opened locals false o = opened_whole locals o
 
--- the open routine is finished: its code stays unless its header had an error
-abbrev pub finished : Output → Grown
-finished o =
-    grown (full_closed o.code) (record o { code = with_closed routine_kind.Plain o.code }) (record o { code = with_none_open o.code })
-
+-- the open routine, if there is one, is finished
 abbrev pub closed : Output → Grown
-closed o = if o.is_lost then record { output = record o { code = with_none_open o.code }; full = None } else finished o
+closed o =
+    grown (full_closed routine_kind.Plain o.code) (record o { code = with_closed routine_kind.Plain o.code }) (record o { code = with_none_open o.code })
 
 -- some texts are printed one after the other
 abbrev pub printed : List (List TextItem) → Output → Grown
@@ -157,6 +162,10 @@ printed (text ∷ texts) o = behind (printed texts) (emitted (printing text) o)
 abbrev pub checked : FileNames → Place → Grown → Work → Work
 checked files unit g w = record w { output = g.output; report = with_full files unit (option_map setting_of g.full) w.report }
 
+-- Code begins with the first unit that is finished, which begins at a place.
+abbrev pub begun_at : FileNames → Place → Work → Work
+begun_at files unit w = checked files unit (begun w.output) w
+
 -- A routine
 
 -- the first setting that is full, of two
@@ -164,19 +173,23 @@ abbrev pub first_full : Option Setting → Option Setting → Option Setting
 first_full (Some s) later = Some s
 first_full None later = later
 
+-- A routine of so many locals is opened by a header that begins at a place, and had an error or not; this setting is full, if any.
+abbrev pub opened_by : FileNames → Place → ℕ → Bool → Option Setting → Work → Work
+opened_by files unit locals is_lost full w =
+    let g = opened locals is_lost w.output in
+    record w { output = g.output; report = with_full files unit (first_full full (option_map setting_of g.full)) w.report }
+
 -- A header, which begins at a place, opens a routine with its locals. With an error it still declares its name, where that
 -- is free, and its locals. Z-Machine Standard 1.1, section 5.2.
 abbrev pub header_with : FileNames → Place → Name → Headed → Work → Work
 header_with files unit name h w =
     let refused = declare_fault name.bytes w.names in
     let fault = header_fault files unit (name_fault files name refused) h in
-    let g = opened (length h.locals) (is_some fault) w.output in
-    record w {
+    opened_by files unit (length h.locals) (is_some fault) (name_full refused) (record w {
       names = with_name name (meaning.Routine (size w.output.code.finished)) refused w.names;
       locals = h.locals;
-      output = g.output;
-      report = with_full files unit (first_full (name_full refused) (option_map setting_of g.full)) (with_fault files unit fault w.report);
-    }
+      report = with_fault files unit fault w.report;
+    })
 
 -- a name that is kept among those of routines that are to be replaced
 abbrev pub is_kept : Found Place → Bool
@@ -292,7 +305,7 @@ carried_out directive.SystemFile files unit names w = record w { is_system = tru
 
 -- a directive ends that began so, with these names
 abbrev pub directive_end : FileNames → Option Head → List Name → Work → Work
-directive_end files (Some (head.Directive d unit)) names w = carried_out d files unit names w
+directive_end files (Some (head.Directive d unit)) names w = begun_at files unit (carried_out d files unit names w)
 directive_end files _ names w = w
 
 -- What an action does, where this is the unit at hand and the next token stands at a place.

@@ -19,7 +19,7 @@ gathered g = record {
 }
 
 abbrev pub output : CodeOutput → Output
-output o = record { code = o.code; is_lost = o.is_lost }
+output o = record { code = o.code }
 
 abbrev pub work : CodeWork → Work
 work w = record {

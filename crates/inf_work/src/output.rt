@@ -5,7 +5,7 @@ ghost use Rattle.inf_opcode.specs.Instructions.{IsProper, bare, instruction_cell
 ghost use Rattle.inf_opcode.specs.PartsOf.{parts_of};
 ghost use Rattle.inf_assembler.specs.declared.routines.GrowFault.TheVariants as grow_fault;
 ghost use Rattle.inf_assembler.specs.declared.routines.Setting.{Setting as CodeSetting};
-ghost use Rattle.inf_work.specs.Actions.{no_output, opened, emitted, printed, closed};
+ghost use Rattle.inf_work.specs.Actions.{begun, no_output, opened, opened_whole, emitted, printed, closed};
 ghost use Rattle.inf_work.specs.Works.{output};
 ghost use Rattle.inf_work.specs.Units.{printing};
 
@@ -25,8 +25,6 @@ use std::alloc::{AllocError, Global};
 #[derive(Drop)]
 pub struct Output {
     pub code: Code,
-    /// Whether the header of the routine that was opened last had an error.
-    pub is_lost: bool,
 }
 
 impl Output {
@@ -41,11 +39,19 @@ impl Output {
         };
         Output {
             code: Code::new(alloc, limits),
-            is_lost: false,
         }
     }
 
-    /// Opens a routine of so many locals, at most 15.
+    /// Begins code with the first routine of the story, unless it has begun.
+    pub fn begin(&mut self) -> Option<CodeSetting>
+        ensures output { output self.new ≡ (begun (output self.old)).output }
+        ensures full { result ≡ (begun (output self.old)).full }
+    {
+        self.code.begin()
+    }
+
+    /// Opens a routine of so many locals, at most 15, whose header had an error or not. One that is lost so has no code, and no
+    /// routine is open then.
     pub fn open(
         &mut self,
         alloc: Global,
@@ -56,7 +62,19 @@ impl Output {
         ensures output { IfOk result (λ _. output self.new ≡ (opened locals is_lost (output self.old)).output) }
         ensures full { IfOk result (λ full. full ≡ (opened locals is_lost (output self.old)).full) }
     {
-        self.is_lost = is_lost;
+        if is_lost {
+            self.code.give_up();
+            return Ok(self.code.begin());
+        }
+        self.open_whole(alloc, locals)
+    }
+
+    /// Opens a routine of so many locals, at most 15.
+    fn open_whole(&mut self, alloc: Global, locals: u8) -> Result<Option<CodeSetting>, AllocError>
+        requires { locals ≤ 15 }
+        ensures output { IfOk result (λ _. output self.new ≡ (opened_whole locals (output self.old)).output) }
+        ensures full { IfOk result (λ full. full ≡ (opened_whole locals (output self.old)).full) }
+    {
         full_in(self.code.open(alloc, locals))
     }
 
@@ -106,15 +124,11 @@ impl Output {
         self.emit(&printing(packed.as_slice()))
     }
 
-    /// Finishes the open routine, if there is one. Its code stays unless its header had an error.
+    /// Finishes the open routine, if there is one.
     pub fn close(&mut self) -> Result<Option<CodeSetting>, AllocError>
         ensures output { IfOk result (λ _. output self.new ≡ (closed (output self.old)).output) }
         ensures full { IfOk result (λ full. full ≡ (closed (output self.old)).full) }
     {
-        if self.is_lost {
-            self.code.give_up();
-            return Ok(None);
-        }
         full_in(self.code.close(RoutineKind::Plain))
     }
 }

@@ -1,12 +1,12 @@
 //! What the actions of the grammar do: they gather the parts of a unit, which acts at its end.
-ghost use Rattle.std.specs.Prelude.{◌≡◌, [], IfOk, OnOk, None, is_some, map, option_map};
+ghost use Rattle.std.specs.Prelude.{◌≡◌, ◌≤◌, [], IfOk, OnOk, None, is_some, map, option_map};
 ghost use Rattle.inf_symbol.specs.Spellings.{as_name};
 ghost use Rattle.inf_symbol.specs.LocalList.{headed as as_headed, listed, repeated as repeated_of};
 ghost use Rattle.inf_symbol.specs.Locals.{no_locals, with_all_named, with_locals};
 ghost use Rattle.inf_opcode.specs.Cells.{label_count};
 ghost use Rattle.inf_opcode.specs.Instructions.{IsProper, bare, instruction_cells};
 ghost use Rattle.inf_names.specs.Symbols.{declare_fault, refer_fault};
-ghost use Rattle.inf_work.specs.Actions.{referred, with_all_unused};
+ghost use Rattle.inf_work.specs.Actions.{first_full, referred, with_all_unused};
 ghost use Rattle.inf_unit.specs.Blames.{blamed};
 ghost use Rattle.inf_unit.specs.Messages.{location, setting_of, with_full, with_words};
 ghost use Rattle.inf_work.specs.Units.{again, header_fault, local_fault, name_fault, name_full, with_name};
@@ -128,7 +128,7 @@ pub struct Work {
 }
 
 impl Work {
-    ghost use Rattle.inf_work.specs.Actions.{no_work, directive_end, constant, entered, is_replaced, left, replace, words_of, header, header_with, close, statement_end, call, return_of, with_instruction, checked, printed, act, acted};
+    ghost use Rattle.inf_work.specs.Actions.{begun_at, carried_out, opened_by, no_work, directive_end, constant, entered, is_replaced, left, replace, words_of, header, header_with, close, statement_end, call, return_of, with_instruction, checked, printed, act, acted};
     ghost use Rattle.inf_unit.specs.Directives.{Nothing, Include, asked, asks, weight_of};
     ghost use Rattle.inf_unit.specs.AtHand.{unit};
     ghost use Rattle.inf_work.specs.Works.{gathered, work};
@@ -214,6 +214,15 @@ impl Work {
         }
     }
 
+    /// A unit that begins at a place is finished, with which code begins, unless it has begun. Where that would pass a setting, it
+    /// ends the compilation.
+    pub fn begin(&mut self, files: &Stack, unit: Place) -> Result<(), AllocError>
+        ensures { OnOk result (work self.new ≡ begun_at files.now.names unit (work self.old)) }
+    {
+        let full = self.output.begin();
+        self.check(files, unit, full)
+    }
+
     /// Carries out some actions, before a token at a place.
     pub fn act_all(
         &mut self,
@@ -261,6 +270,7 @@ impl Work {
     }
 
     /// The header of a routine, which ends here.
+    #[inline(never)]
     fn header(
         &mut self,
         files: &Stack,
@@ -309,16 +319,32 @@ impl Work {
         )?;
         let of_name = name_fault(files, name, refused);
         let fault = header_fault(files, unit, of_name, &headed);
-        let full = self
-            .output
-            .open(self.alloc, headed.locals.count(), fault.is_some())?;
+        let is_lost = fault.is_some();
+        let locals = headed.locals.count();
         self.locals = headed.locals;
         self.report.fault(files, unit, fault)?;
-        let first = name_full(refused).or(full.map(setting_of));
-        self.report.full(files, unit, first)
+        self.open_code(files, unit, locals, is_lost, name_full(refused))
+    }
+
+    /// Opens the code of a routine of so many locals, at most 15, for a header that begins at a place, and had an error or not. A setting
+    /// that is full already is told first.
+    fn open_code(
+        &mut self,
+        files: &Stack,
+        unit: Place,
+        locals: u8,
+        is_lost: bool,
+        full: Option<Setting>,
+    ) -> Result<(), AllocError>
+        requires { locals ≤ 15 }
+        ensures { OnOk result (work self.new ≡ opened_by files.now.names unit locals is_lost full (work self.old)) }
+    {
+        let code = self.output.open(self.alloc, locals, is_lost)?;
+        self.report.full(files, unit, first_full(full, code))
     }
 
     /// Ends the open routine at a place: tells its unused locals, and finishes its code.
+    #[inline(never)]
     fn close(&mut self, files: &Stack, place: Place) -> Result<(), AllocError>
         ensures { OnOk result (work self.new ≡ close files.now.names place (work self.old)) }
     {
@@ -352,6 +378,7 @@ impl Work {
     }
 
     /// A directive ends that began so, with these names.
+    #[inline(never)]
     fn end_directive(
         &mut self,
         files: &Stack,
@@ -364,6 +391,21 @@ impl Work {
         let Some(Head::Directive(directive, unit)) = head else {
             return Ok(());
         };
+        self.carry_out(directive, files, unit, names)?;
+        self.begin(files, unit)
+    }
+
+    /// Carries out a directive that begins at a place, with these names.
+    fn carry_out(
+        &mut self,
+        directive: Directive,
+        files: &Stack,
+        unit: Place,
+        names: &[Name],
+    ) -> Result<(), AllocError>
+        ensures { OnOk result (work self.new
+            ≡ carried_out directive files.now.names unit (map as_name names.now) (work self.old)) }
+    {
         match directive {
             Directive::Include => self.asked = self.inclusion(unit),
             Directive::Message => return self.message(files, unit, names),
@@ -453,6 +495,7 @@ impl Work {
     }
 
     /// Prints the texts of the unit.
+    #[inline(never)]
     fn print(&mut self, files: &Stack, unit: Place) -> Result<(), AllocError>
         ensures { let before = work self.old in OnOk result (work self.new
             ≡ checked files.now.names unit (printed before.gathered.texts before.output) before) }
@@ -463,6 +506,7 @@ impl Work {
     }
 
     /// Calls the first operand of the unit with the others.
+    #[inline(never)]
     fn call(&mut self, files: &Stack, unit: Place) -> Result<(), AllocError>
         ensures { let names = (gathered self.old.gathered).operands in
             OnOk result (work self.new ≡ call files.now.names unit names (work self.old)) }
@@ -486,6 +530,7 @@ impl Work {
     }
 
     /// Returns true, or the operand of the unit.
+    #[inline(never)]
     fn end_return(&mut self, files: &Stack, unit: Place) -> Result<(), AllocError>
         ensures { let names = (gathered self.old.gathered).operands in
             OnOk result (work self.new ≡ return_of files.now.names unit names (work self.old)) }
@@ -604,6 +649,13 @@ fn name_fault<'a>(
         DeclareFault::Present(Some(first)) => Some(again(files, name, first)),
         DeclareFault::Full | DeclareFault::Memory => None,
     }
+}
+
+/// The first setting that is full, of two.
+fn first_full(full: Option<Setting>, code: Option<CodeSetting>) -> Option<Setting>
+    ensures { result ≡ first_full full (option_map setting_of code) }
+{
+    full.or(code.map(setting_of))
 }
 
 /// The setting that another name would pass.

@@ -64,18 +64,18 @@ fn make_steps<F: Files>(rt: &impl Abort, run: &mut Run<'_, F>) -> Result<(), Fai
     requires goes { run.old.session.open_files.lexer.has_failed ≡ false }
     requires set { IsSet run.old.session }
 {
-    run.step(rt, Step::More, "abc\n", [3, 0, 0, 0])?;
-    run.step(rt, Step::More, "abc\n", [3, 2, 8, 2])?;
+    run.step(rt, Step::More, "abc\n", [3, 0, 8, 5])?;
+    run.step(rt, Step::More, "abc\n", [3, 2, 16, 7])?;
     // a side that is left out, with the directive that ends it
-    run.step(rt, Step::More, "abc\n", [3, 2, 8, 2])?;
-    run.step(rt, Step::More, "abc\n", [3, 3, 8, 2])?;
-    run.step(rt, Step::More, "abc\ne\n", [3, 3, 8, 2])?;
-    run.step(rt, Step::More, "abc\ne\n", [3, 3, 8, 2])?;
-    run.step(rt, Step::More, "abc\ne\n", [5, 3, 16, 2])?;
-    run.step(rt, Step::More, BAD, [5, 3, 16, 2])?;
-    run.step(rt, Step::End, BAD, [5, 3, 16, 2])?;
+    run.step(rt, Step::More, "abc\n", [3, 2, 16, 7])?;
+    run.step(rt, Step::More, "abc\n", [3, 3, 16, 7])?;
+    run.step(rt, Step::More, "abc\ne\n", [3, 3, 16, 7])?;
+    run.step(rt, Step::More, "abc\ne\n", [3, 3, 16, 7])?;
+    run.step(rt, Step::More, "abc\ne\n", [5, 3, 24, 7])?;
+    run.step(rt, Step::More, BAD, [5, 3, 24, 7])?;
+    run.step(rt, Step::End, BAD, [5, 3, 24, 7])?;
     // behind the end nothing is read
-    run.step(rt, Step::End, BAD, [5, 3, 16, 2])
+    run.step(rt, Step::End, BAD, [5, 3, 24, 7])
 }
 
 #[test]

@@ -5,7 +5,7 @@ use Rattle.inf_opcode.specs.Instructions.{instruction_cells}
 use Rattle.inf_opcode.specs.PartsOf.{parts_of}
 use Rattle.inf_assembler.specs.Routines.{State, refusal}
 use Rattle.inf_assembler.specs.declared.routines.Setting.{Setting}
-use Rattle.inf_layout.specs.Code.{Routines, IsCode, cells_from, open_in, full_with}
+use Rattle.inf_layout.specs.Code.{Routines, IsCode, cells_from, open_in, full_with, room}
 use Rattle.inf_layout.proofs.CodeSteps.{code_or_same}
 use Rattle.inf_layout.proofs.Full.{full_is}
 use Rattle.inf_layout.proofs.code.Code.emit.Goals as goal
@@ -13,19 +13,19 @@ use Rattle.inf_layout.proofs.code.Code.emit.Goals as goal
 pub invariant_of-self-2 : goal.invariant_of-self-2
 invariant_of-self-2 c =
     let inside = c.self.inside in
-    let is : IsCode inside.limits inside.finished inside.refs inside.area (Some c.in-Some.routine) =
-    subst (IsCode inside.limits inside.finished inside.refs inside.area) c.in-Some.is c.self.invariant in
-    code_or_same inside.limits inside.finished inside.refs inside.area c.emit.new.area c.in-Some.routine c.emit.new.self (parts_of c.args.instruction.now) is c.requires.straight c.emit.result c.emit.ensures.ok c.emit.ensures.err
+    let is : IsCode (room inside.limits) inside.finished inside.refs inside.area (Some c.in-Some.routine) =
+    subst (IsCode (room inside.limits) inside.finished inside.refs inside.area) c.in-Some.is c.self.invariant.0 in
+    (code_or_same (room inside.limits) inside.finished inside.refs inside.area c.emit.new.area c.in-Some.routine c.emit.new.self (parts_of c.args.instruction.now) is c.requires.straight c.emit.result c.emit.ensures.ok c.emit.ensures.err, c.self.invariant.1)
 
 pub returns-clause-fault : goal.returns-clause-fault
 returns-clause-fault c =
     let inside = c.self.inside in
     let parts = parts_of c.args.instruction.now in
-    let is : IsCode inside.limits inside.finished inside.refs inside.area (Some c.in-Some.routine) =
-    subst (IsCode inside.limits inside.finished inside.refs inside.area) c.in-Some.is c.self.invariant in
+    let is : IsCode (room inside.limits) inside.finished inside.refs inside.area (Some c.in-Some.routine) =
+    subst (IsCode (room inside.limits) inside.finished inside.refs inside.area) c.in-Some.is c.self.invariant.0 in
     let before = cells_from 0 inside.refs.list (take inside.finished inside.area) in
-    let With : Option State → Routines = λ r. record { limits = inside.limits; finished = before; opened = open_in inside.area r } in
+    let With : Option State → Routines = λ r. record { limits = inside.limits; has_begun = inside.has_begun; finished = before; opened = open_in inside.area r } in
     let Tells : Option Setting → Type 0 = λ full. MatchResult c.emit.result (λ _. full ≡ None) (λ fault. fault ≡ refusal full) in
-    let same = full_is inside.limits inside.finished inside.refs inside.area c.in-Some.routine is (instruction_cells parts)
+    let same = full_is (room inside.limits) inside.finished inside.refs inside.area c.in-Some.routine is (instruction_cells parts)
     ∙ ap (λ r. full_with parts (With r)) (sym c.in-Some.is) ∙ ap (full_with parts) c.self.view_is in
     subst Tells same c.emit.ensures.fault

@@ -4,7 +4,7 @@ use Rattle.inf_work.proofs.output.Output.emit.Goals as goal
 
 pub returns-clause-output : goal.returns-clause-output
 returns-clause-output c =
-    grew_output (λ code. record { code = code; is_lost = c.args.self.now.is_lost }) c.emit.result c.full_in.result _ _ _ _ c.emit.ensures.ok c.emit.ensures.err
+    grew_output (λ code. record { code = code }) c.emit.result c.full_in.result _ _ _ _ c.emit.ensures.ok c.emit.ensures.err
     (refuses c.emit.result _ c.emit.ensures.fault) c.full_in.ensures.full
 
 pub returns-clause-full : goal.returns-clause-full
