@@ -4,14 +4,14 @@ use Rattle.inf_characters.specs.declared.characters.CharSet.{CharSet}
 use Rattle.inf_settings.specs.declared.settings.Settings.{Settings}
 use Rattle.inf_token.specs.Files.{Openings, Sources}
 use Rattle.inf_session.specs.Choices.{Choices}
-use Rattle.inf_session.specs.Comes.{Begins, Comes, OpenedBy, OpenedPart}
+use Rattle.inf_outcome.specs.Comes.{Begins, Comes, OpenedBy, OpenedPart}
 use Rattle.inf_session.specs.Leading.{IsFront}
-use Rattle.inf_session.specs.Outcome.{Ending}
+use Rattle.inf_session.specs.Ending.{Ending}
 use Rattle.inf_session.specs.Session.{State}
 use Rattle.inf_session.proofs.Leadings.{front_same}
-use Rattle.inf_session.proofs.OutcomeLaws.{outcomes_are_unique}
-use Rattle.inf_session.specs.declared.translation.Compiled.{Compiled}
-use Rattle.inf_session.specs.declared.translation.Status.{Status}
+use Rattle.inf_outcome.proofs.OutcomeLaws.{outcomes_are_unique}
+use Rattle.inf_session.specs.declared.compiled.Compiled.{Compiled}
+use Rattle.inf_session.specs.declared.compiled.Status.{Status}
 use Rattle.inf_compile.specs.Compiling.{Compiles, DeliversPart, TakesPart, TakesStory, story_in}
 
 -- what was compiled was delivered

@@ -5,11 +5,12 @@ use Rattle.inf_symbol.specs.Sinks.{Takes}
 use Rattle.inf_words.specs.Directories.{directories_of}
 use Rattle.inf_words.specs.Words.{Choice}
 use Rattle.inf_session.specs.Choices.{Choices}
-use Rattle.inf_session.specs.Outcome.{Ending, IsOutcome}
+use Rattle.inf_session.specs.Ending.{Ending}
+use Rattle.inf_outcome.specs.Outcome.{IsOutcome}
 use Rattle.inf_session.specs.declared.faults.Fault.{Fault}
 use Rattle.inf_session.specs.declared.faults.Fault.TheVariants as fault
-use Rattle.inf_session.specs.declared.translation.Compiled.{Compiled}
-use Rattle.inf_session.specs.declared.translation.Status.{Status}
+use Rattle.inf_session.specs.declared.compiled.Compiled.{Compiled}
+use Rattle.inf_session.specs.declared.compiled.Status.{Status}
 
 -- what the words of a command choose of the reading
 abbrev pub chosen_by : Choice → Choices

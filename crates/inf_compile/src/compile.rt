@@ -1,14 +1,15 @@
 ghost use Rattle.std.specs.Prelude.{◌≡◌, IsTrue, IfOk, IfErr, Ok, OnOk, OnErr};
 ghost use Rattle.inf_token.specs.Files.{Rose};
 ghost use Rattle.inf_words.specs.FileNames.{source_name};
-ghost use Rattle.inf_session.specs.Comes.{Begins, Heard, IsUnread, OpenedBy, OpenedPart};
+ghost use Rattle.inf_outcome.specs.Comes.{Begins, Heard, IsUnread, OpenedBy, OpenedPart};
 ghost use Rattle.inf_session.specs.Session.{start};
 ghost use Rattle.inf_session.specs.Faults.{IfMessages, IfRead, IfStory, UnlessStory};
 ghost use Rattle.inf_compile.specs.Compiling.{Compiles, DeliversPart, OnlyStory, TakesPart, TakesStory, chosen_by, story_in};
 
+use inf_outcome::translation::translate;
+use inf_session::compiled::{Compiled, Status};
 use inf_session::faults::Fault;
 use inf_session::setup::Setup;
-use inf_session::translation::{Compiled, Status, translate};
 use inf_symbol::sinks::{Sink, write_whole};
 use inf_token::files::Files;
 use inf_words::command_line::{Options, source_name};

@@ -4,5 +4,5 @@
 
 pub mod compile;
 
+pub use inf_session::compiled::Status;
 pub use inf_session::faults::Fault;
-pub use inf_session::translation::Status;

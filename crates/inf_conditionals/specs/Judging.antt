@@ -1,7 +1,7 @@
 -- What becomes of a token. Between directives a conditional directive stands as any other does, with a `#` before it or not; inside
 -- a directive it has a `#`, and may stand at any token. Its own tokens are not kept. One that does not fit it is the bad token of
 -- the directive around it. In a side that is left out only the words of conditionals are looked at.
-use Rattle.std.specs.Prelude.{ℕ, ◌&&◌, ◌==◌, List, [], ◌∷◌, Bool, true, false, not, if◌then◌else◌, Option, Some, None, unwrap_or}
+use Rattle.std.specs.Prelude.{ℕ, ◌&&◌, ◌||◌, ◌==◌, List, [], ◌∷◌, Bool, true, false, not, if◌then◌else◌, Option, Some, None, is_none, unwrap_or}
 use Rattle.inf_scanner.specs.declared.tokens.Mark.TheVariants as mark
 use Rattle.inf_scanner.specs.declared.tokens.Place.{Place}
 use Rattle.inf_scanner.specs.declared.tokens.TokenKind.{TokenKind}
@@ -163,3 +163,22 @@ judged_by None None site names t c = offered (site.is_between && is_none_pending
 
 abbrev pub judged : Site → Table Place → Spelled → Conditions → Behind
 judged site names t c = judged_by c.left_out c.sign site names t c
+
+-- Where a part of the reading may end
+
+-- the word of this directive has acted already
+abbrev pub has_acted : Awaits → Bool
+has_acted (awaits.End effect.Nothing) = true
+has_acted _ = false
+
+-- the word that was taken last ended a side
+abbrev pub ends_side : List Pending → Bool
+ends_side [] = false
+ends_side (p ∷ pending) = has_acted p.awaits
+
+abbrev pub is_behind_side : Conditions → Bool
+is_behind_side c = is_none c.sign && ends_side c.pending
+
+-- behind a whole directive, and behind the side that it leaves out
+abbrev pub may_part : Conditions → Bool
+may_part c = (is_none_pending c.pending && is_none c.left_out) || is_behind_side c

@@ -75,7 +75,7 @@ const KEPT: Judged = Judged {
 
 impl Conditionals {
     ghost use Rattle.inf_conditionals.specs.Ends.{file_entered, file_left, file_told, piece_ended, piece_told};
-    ghost use Rattle.inf_conditionals.specs.Judging.{awaited, awaiting, begun, behind_front, behind_sign, effected, held, in_side, is_none_pending, judged, kept, offered, unfit, word_passed};
+    ghost use Rattle.inf_conditionals.specs.Judging.{awaited, awaiting, begun, behind_front, behind_sign, effected, held, in_side, is_behind_side, is_none_pending, judged, kept, may_part, offered, unfit, word_passed};
     ghost use Rattle.inf_names.specs.Symbols.{Table};
     ghost use Rattle.inf_conditionals.specs.Open.{closed, is_none_open, is_second, latest, no_conditions, opened, turned};
 
@@ -136,11 +136,22 @@ impl Conditionals {
         self.pending.is_empty()
     }
 
-    /// Whether no side is left out.
-    pub fn is_reading(&self) -> bool
-        ensures { result ≡ is_none self.now.left_out }
+    /// Whether a part of the reading may end here: behind a whole directive, and behind the side that it leaves out. The word that
+    /// ends this side is the first token of the next part.
+    pub fn may_part(&self) -> bool
+        ensures { result ≡ may_part self.now }
     {
-        self.left_out.is_none()
+        (self.pending.is_empty() && self.left_out.is_none()) || self.is_behind_side()
+    }
+
+    /// Whether the word that was taken last ended a side.
+    fn is_behind_side(&self) -> bool
+        ensures { result ≡ is_behind_side self.now }
+    {
+        match self.pending.last() {
+            Some(pending) => self.sign.is_none() && pending.awaits.has_acted(),
+            None => false,
+        }
     }
 
     /// A file is entered, in which no conditional is open yet.

@@ -1,4 +1,6 @@
 //! The conditional directives that are being read.
+ghost use Rattle.std.specs.Prelude.{◌≡◌};
+ghost use Rattle.inf_conditionals.specs.Judging.{has_acted};
 
 use inf_scanner::Place;
 
@@ -24,6 +26,15 @@ pub enum Awaits {
     Name(bool),
     /// Its semicolon.
     End(Effect),
+}
+
+impl Awaits {
+    /// Whether the word of the directive has acted already.
+    pub fn has_acted(self) -> bool
+        ensures { result ≡ has_acted self }
+    {
+        matches!(self, Awaits::End(Effect::Nothing))
+    }
 }
 
 /// A conditional directive that is being read, from its place on, or a `#` at the front of a piece.

@@ -4,3 +4,4 @@ pub mod PieceLaws
 pub mod ReadingLaws
 pub mod Constants
 pub mod Handing
+pub mod Limits

@@ -7,3 +7,4 @@ pub mod Standing
 pub mod ReadingLaws
 pub mod Constants
 pub mod Handing
+pub mod Limits

@@ -1,5 +1,6 @@
 //! What the definitions give together.
 ghost use Rattle.inf_reader.specs.Constants.{ConstantsAreRefused, NumbersAreKnown, NumbersAreWritten};
+ghost use Rattle.inf_reader.specs.Limits.{LimitsStay};
 ghost use Rattle.inf_reader.specs.Pieces.{FaultyTokensFitNothing, FrontsBegin, PiecesAreRead, PiecesBegin, TurnsAreRead};
 ghost use Rattle.inf_reader.specs.ReadingLaws.{SourcesAreRead};
 
@@ -23,4 +24,9 @@ pub fn constants_have_these_numbers()
     ensures known { NumbersAreKnown }
     ensures written { NumbersAreWritten }
     ensures refused { ConstantsAreRefused }
+{}
+
+/// No token changes what there may be of names and of code.
+pub fn limits_stay()
+    ensures { LimitsStay }
 {}

@@ -8,4 +8,4 @@ pub mod reader;
 mod selection;
 mod tokens;
 
-pub use laws::{constants_have_these_numbers, pieces_are_read, sources_are_read};
+pub use laws::{constants_have_these_numbers, limits_stay, pieces_are_read, sources_are_read};

@@ -6,8 +6,9 @@ use Rattle.inf_work.specs.Actions.{Work, begun_at}
 use Rattle.inf_unit.proofs.Cases.{of_both}
 use Rattle.inf_unit.specs.Messages.{FileNames, Reported, with_fatal}
 use Rattle.inf_unit.specs.Names.{main_of, values, with_all_undeclared}
-use Rattle.inf_session.specs.Outcome.{Ending, begun, finished, first_line, first_place, is_clean, laid, refused}
-use Rattle.inf_session.specs.declared.translation.Status.TheVariants as status
+use Rattle.inf_session.specs.Ending.{Ending, begun, finished, first_line, is_clean, laid, refused}
+use Rattle.inf_session.specs.Session.{first_place}
+use Rattle.inf_session.specs.declared.compiled.Status.TheVariants as status
 
 -- a story that is too long is told
 pub laid_too_long : (serial : List ℕ) (files : FileNames) (main : ℕ) (w : Work) (r : Reported) → is_too_long main (values w.names.names) w.output.code.finished ≡ true

@@ -3,7 +3,6 @@ pub mod Leadings
 pub mod Opening
 pub mod Weighing
 pub mod Standings
-pub mod Concluding
-pub mod OutcomeLaws
-pub mod Examples
 pub mod Stepping
+pub mod Bounds
+pub mod Delivering

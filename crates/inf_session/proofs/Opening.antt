@@ -1,5 +1,5 @@
 -- What has been opened where a turn was given up.
-use Rattle.std.proofs.Common.{◌≡◌, inl, inr, ℕ, List, ◌++◌, Bool, true, false, cond, refl, sym, ap, ◌∙◌}
+use Rattle.std.proofs.Common.{◌≡◌, inl, inr, ℕ, List, false, cond, refl, sym, ap, ◌∙◌}
 use Rattle.inf_token.specs.Files.{Openings, Sources}
 use Rattle.inf_characters.specs.declared.characters.CharSet.{CharSet}
 use Rattle.inf_scanner.specs.declared.tokens.Place.{Place}
@@ -14,7 +14,7 @@ use Rattle.inf_sources.specs.declared.faults.IncludeFault.TheVariants as vain
 use Rattle.inf_sources.specs.declared.open_files.Included.{Included}
 use Rattle.inf_sources.specs.declared.open_files.Included.TheVariants as answer
 use Rattle.inf_session.specs.Choices.{Choices}
-use Rattle.inf_session.specs.Leading.{OpensAll, OpensWithin}
+use Rattle.inf_session.specs.Leading.{OpensWithin}
 use Rattle.inf_session.specs.Session.{State, answered, asked_nothing, followed, has_ended, heeded, included, included_by, is_resting, left, none_included, piece_closed, rested, stepped, turn}
 use Rattle.inf_session.specs.Standing.{state}
 use Rattle.inf_session.specs.declared.session.Session.{Session}

@@ -15,7 +15,7 @@ use Rattle.inf_reader.proofs.Handing.{end_taken}
 use Rattle.inf_reader.specs.Handing.{judged_taken}
 use Rattle.inf_reader.specs.Reading.{Stand, is_mode_ended}
 
-abbrev spelled_as : TokenKind → List ℕ → Place → Spelled
+abbrev pub spelled_as : TokenKind → List ℕ → Place → Spelled
 spelled_as k bytes place = record { kind = k; bytes = bytes; place = place }
 
 at_end : (files : FileNames) (bytes : List ℕ) (place : Place) (names : Table Place) (c : Conditions) (s : Stand) (site : Site) (now : Conditions) (j : Judged)

@@ -4,9 +4,6 @@ pub mod Session
 pub mod Given
 pub mod Standing
 pub mod Leading
-pub mod Outcome
-pub mod Endings
-pub mod Comes
+pub mod Ending
+pub mod Delivered
 pub mod Weights
-pub mod OutcomeLaws
-pub mod Examples

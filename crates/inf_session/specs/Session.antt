@@ -2,7 +2,7 @@
 -- the grammar sees. A directive may ask for another file, which is read before what follows it, or that reading ends. Where the
 -- end of an included file was read, reading goes on in the file that includes it.
 -- Designer's Manual, fourth edition, sections 38 and 39.
-use Rattle.std.specs.Prelude.{◌≡◌, ℕ, List, [], ◌∷◌, ◌++◌, length, nat_lt, is_none, Bool, true, false, ◌&&◌, ◌||◌, if◌then◌else◌, zero, suc}
+use Rattle.std.specs.Prelude.{◌≡◌, ℕ, List, [], ◌∷◌, ◌++◌, length, nat_lt, is_none, Option, Some, None, Bool, true, false, ◌&&◌, ◌||◌, if◌then◌else◌, zero, suc}
 use Rattle.inf_layout.specs.Code.{code_count, reference_count}
 use Rattle.inf_scanner.specs.declared.tokens.BadToken.TheVariants as bad
 use Rattle.inf_scanner.specs.declared.tokens.Place.{Place}
@@ -10,7 +10,7 @@ use Rattle.inf_scanner.specs.declared.tokens.TokenKind.{TokenKind}
 use Rattle.inf_scanner.specs.declared.tokens.TokenKind.TheVariants as kind
 use Rattle.inf_token.specs.Files.{Sources}
 use Rattle.inf_conditionals.specs.Ends.{file_entered, file_left, file_told, piece_ended, piece_told}
-use Rattle.inf_conditionals.specs.Judging.{is_none_pending, judged}
+use Rattle.inf_conditionals.specs.Judging.{is_none_pending, judged, may_part}
 use Rattle.inf_conditionals.specs.Open.{Conditions, no_conditions}
 use Rattle.inf_conditionals.specs.declared.judged.Judged.{Judged}
 use Rattle.inf_conditionals.specs.declared.judged.Site.{Site}
@@ -21,7 +21,10 @@ use Rattle.inf_sources.specs.declared.open_files.Included.{Included}
 use Rattle.inf_sources.specs.declared.open_files.Included.TheVariants as answer
 use Rattle.inf_work.specs.Actions.{Work, entered, left as left_file}
 use Rattle.inf_unit.specs.Directives.{Asked, Nothing, Include, End}
-use Rattle.inf_unit.specs.Messages.{flushed, location, none_reported, with_fatal}
+use Rattle.inf_settings.specs.Settings.{number_of}
+use Rattle.inf_settings.specs.declared.setting.Setting.{Setting}
+use Rattle.inf_settings.specs.declared.setting.Setting.TheVariants.{References}
+use Rattle.inf_unit.specs.Messages.{FileNames, flushed, location, none_reported, with_fatal, with_full}
 use Rattle.inf_unit.specs.Tokens.{Spelled}
 use Rattle.inf_reader.specs.Handing.{judged_taken, site_of}
 use Rattle.inf_reader.specs.Reading.{Reading, Stand, begun_stand, has_ended_at, is_mode_ended}
@@ -40,23 +43,27 @@ pub record State : Type 0 where
   pub is_over : Bool
   pub quoted : ℕ
 
--- before the first token
-abbrev pub begun_with : Choices → Stand
-begun_with o =
+-- Messages about a whole source stand at its first line.
+abbrev pub first_place : Place
+first_place = record { file = 0; line = 1 }
+
+-- The references that each story has in tables are the addresses of the property tables of its first four objects. Where they alone
+-- would pass their setting, this is told before the first token.
+abbrev pub tables_full : ℕ → Option Setting
+tables_full limit = if nat_lt limit 4 then Some References else None
+
+-- how the first token of a main source is read, and what there is before it
+abbrev pub begun_with : Choices → FileNames → Stand
+begun_with o names =
     let s = begun_stand o.set o.settings in
-    record s { work = record s.work { report = none_reported o.has_warnings } }
+    record s { work = record s.work { report = with_full names first_place (tables_full (number_of References o.settings)) (none_reported o.has_warnings) } }
 
 -- before the first token of the main source of this name
 abbrev pub start : Sources → Choices → List ℕ → State
-start sources o name = record {
-  nesting = main_opened o.set (most_quoted o) sources name;
-  conditions = no_conditions;
-  reading = (begun_with o).reading;
-  work = (begun_with o).work;
-  told = [];
-  is_over = false;
-  quoted = 0;
-}
+start sources o name =
+    let main = main_opened o.set (most_quoted o) sources name in
+    let s = begun_with o main.names in
+    record { nesting = main; conditions = no_conditions; reading = s.reading; work = s.work; told = []; is_over = false; quoted = 0 }
 
 -- how it is read and what was compiled
 abbrev pub stand_of : State → Stand
@@ -184,9 +191,9 @@ told_out s = record s { work = record s.work { report = flushed s.work.report };
 abbrev pub turn : Sources → Choices → State → State
 turn sources o s = told_out (followed sources o (stepped s))
 
--- A part ends between two directives, with no side left out behind the one before.
+-- A part ends between two directives; of a conditional one, behind the side that it leaves out.
 abbrev pub is_parted : State → Bool
-is_parted s = has_ended s || (is_resting s && is_none s.conditions.left_out)
+is_parted s = has_ended s || ((site_of s.reading).is_between && may_part s.conditions)
 
 -- at most n turns, up to the end of a part
 abbrev pub part : Sources → Choices → ℕ → State → State

@@ -1,10 +1,16 @@
 -- What the code's session stands for, with a reader that keeps to its sources.
-use Rattle.std.specs.Prelude.{◌≡◌, ℕ, List, Bool, ◌&&◌, ◌||◌, if◌then◌else◌, is_none, length, [], ◌∷◌}
+use Rattle.std.specs.Prelude.{◌≡◌, ℕ, ◌≤◌, List, Bool, false, ◌&&◌, ◌||◌, if◌then◌else◌, length, [], ◌∷◌}
 use Rattle.inf_layout.specs.Code.{code_count, reference_count}
-use Rattle.inf_conditionals.specs.Judging.{is_none_pending}
+use Rattle.inf_conditionals.specs.Judging.{is_none_pending, may_part}
 use Rattle.inf_reader.specs.Handing.{site_of}
 use Rattle.inf_token.specs.Files.{Openings, Sources}
 use Rattle.inf_sources.specs.Open.{nesting}
+use Rattle.inf_settings.specs.Settings.{number_of}
+use Rattle.inf_settings.specs.declared.setting.Setting.{Setting}
+use Rattle.inf_settings.specs.declared.setting.Setting.TheVariants.{References, Symbols}
+use Rattle.inf_settings.specs.declared.settings.Settings.{Settings}
+use Rattle.inf_work.specs.Actions.{limits_of}
+use Rattle.inf_work.specs.Limits.{SameLimits}
 use Rattle.inf_work.specs.Works.{work as work_of}
 use Rattle.inf_reader.specs.Reading.{has_ended_at}
 use Rattle.inf_reader.specs.Standing.{reading, standing}
@@ -34,17 +40,39 @@ ended s = s.is_over || has_ended_at (standing s.progress)
 abbrev pub IsSet : Session → Type 0
 IsSet s = (s.open_files.nest.set ≡ s.setup.set) × (s.open_files.nest.limit ≡ most_quoted (chosen s.setup))
 
+-- a fatal message came
+abbrev pub is_fatal : Session → Bool
+is_fatal s = (standing s.progress).work.report.counts.is_over
+
+-- What the settings bound stands under them: the names, the code, the quoted tokens, and, unless a fatal message came, the references
+-- in tables.
+abbrev pub IsBounded : Session → Type 0
+IsBounded s =
+    let settings = (chosen s.setup).settings in
+    (s.progress.work.names.limit ≡ number_of Symbols settings)
+    × ((s.progress.work.output.code.limits ≡ limits_of settings)
+    × ((s.quoted ≤ most_quoted (chosen s.setup)) × (is_fatal s ≡ false → 4 ≤ number_of References settings)))
+
+-- each count is at most the number of its setting
+abbrev pub AreWithin : List ℕ → List Setting → Settings → Type 0
+AreWithin (n ∷ counts) (s ∷ bounding) settings = (n ≤ number_of s settings) × AreWithin counts bounding settings
+AreWithin _ _ settings = Unit {0}
+
+-- nothing more than before is bounded, and by the same
+abbrev pub SameBounds : Session → Session → Type 0
+SameBounds before after = SameLimits (work_of before.progress.work) (work_of after.progress.work) × (after.quoted ≡ before.quoted)
+
 -- between two directives, and in no conditional one
 abbrev pub resting : Session → Bool
 resting s = (site_of (reading s.progress.reader)).is_between && is_none_pending s.conditionals.pending
 
 -- at the end of a part
 abbrev pub parted : Session → Bool
-parted s = ended s || (resting s && is_none s.conditionals.left_out)
+parted s = ended s || ((site_of (reading s.progress.reader)).is_between && may_part s.conditionals)
 
--- what a step came to that ended here
-abbrev pub came_to : Session → Step
-came_to s = if (standing s.progress).work.report.counts.is_over then step.Fatal else if ended s then step.End else step.More
+-- what a step came to that ended here: a fatal message; or nothing, where nothing was to be read any more; or a part
+abbrev pub came_to : Bool → Session → Step
+came_to had_ended s = if is_fatal s then step.Fatal else if had_ended then step.End else step.More
 
 -- how much there is of what each setting bounds
 abbrev pub held_by : Session → List ℕ

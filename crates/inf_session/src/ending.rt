@@ -3,10 +3,9 @@ ghost use Rattle.std.specs.Prelude.{◌≡◌, IfOk, IfSome, is_none};
 ghost use Rattle.inf_layout.specs.Story.{story, is_too_long};
 ghost use Rattle.inf_unit.specs.Names.{values};
 ghost use Rattle.inf_work.specs.Works.{work as work_of};
-ghost use Rattle.inf_session.specs.Outcome.{finished, finished_with, laid, missing, refused};
-ghost use Rattle.inf_session.specs.Endings.{seen};
+ghost use Rattle.inf_session.specs.Ending.{finished, finished_with, laid, missing, refused, seen};
 
-use crate::translation::Status;
+use crate::compiled::Status;
 use inf_layout::code::Code;
 use inf_layout::layout::{MOST_BYTES, story};
 use inf_lexer::{Place, Stack};
@@ -20,14 +19,14 @@ use std::alloc::{AllocError, Global};
 /// What comes at the end of a compilation: the lines of its last messages, its story where no error was found, and how
 /// it ended.
 #[derive(Drop)]
-pub(crate) struct Ending {
-    pub(crate) messages: Vec<u8>,
-    pub(crate) story: Option<Vec<u8>>,
-    pub(crate) status: Status,
+pub struct Ending {
+    pub messages: Vec<u8>,
+    pub story: Option<Vec<u8>>,
+    pub status: Status,
 }
 
 /// Where the messages about a whole source stand.
-const FIRST_LINE: Place = Place { file: 0, line: 1 };
+pub(crate) const FIRST_LINE: Place = Place { file: 0, line: 1 };
 
 /// Ends the compilation of a source that was read. Code begins, unless it has begun. A name that was used and never declared is
 /// an error, and that there is no routine `Main`. A story comes only where no error was found.
@@ -122,7 +121,7 @@ fn refused(mut report: Messages) -> Result<Ending, AllocError>
 }
 
 /// What comes of a source of this name that is not there.
-pub(crate) fn no_file(alloc: Global, file: &[u8]) -> Result<Ending, AllocError>
+pub fn no_file(alloc: Global, file: &[u8]) -> Result<Ending, AllocError>
     ensures { IfOk result (λ t. seen t ≡ missing file.now) }
 {
     let mut report = Messages::new(alloc, true);

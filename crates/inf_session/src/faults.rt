@@ -44,7 +44,7 @@ impl From<ReportFault> for Fault {
 }
 
 /// That the source of this name could not be read.
-pub(crate) fn unread(alloc: Global, name: &str) -> Fault
+pub fn unread(alloc: Global, name: &str) -> Fault
     ensures reading { IsOfReading result }
     ensures name { IfRead result (λ told. told ≡ name.now) }
 {

@@ -6,22 +6,24 @@ ghost use Rattle.inf_reader.specs.Standing.{standing};
 ghost use Rattle.inf_lexer.specs.Unread.{unread as unread_now};
 ghost use Rattle.inf_sources.specs.Cursors.{Unfinished};
 ghost use Rattle.inf_sources.specs.Open.{AllGiven, IsNested, NamesAreOpened, nesting, opened_since};
-ghost use Rattle.inf_session.specs.Choices.{chosen};
+ghost use Rattle.inf_session.specs.Choices.{chosen, most_quoted};
 ghost use Rattle.inf_session.specs.Faults.{IfMessages, IfRead, IfStory, IsOfReading};
-ghost use Rattle.inf_session.specs.Comes.{Delivers, TakesFront};
+ghost use Rattle.inf_session.specs.Delivered.{Delivers, TakesFront};
 ghost use Rattle.inf_session.specs.Given.{GivesAtLeast, IsUnreadable};
-ghost use Rattle.inf_session.specs.Outcome.{finished};
+ghost use Rattle.inf_session.specs.Ending.{finished};
+ghost use Rattle.inf_settings.specs.Settings.{all_settings};
+ghost use Rattle.inf_work.specs.Limits.{SameLimits};
 ghost use Rattle.inf_work.specs.Works.{work as work_of};
 ghost use Rattle.inf_session.specs.Leading.{CutsShort, GivenUp, IsInclusion, NeedsMore, OpensAll, OpensWithin, Writes};
 ghost use Rattle.inf_conditionals.specs.Open.{no_conditions};
 ghost use Rattle.inf_session.specs.Session.{begun_with, followed, heeded, included, left, part, quoted_behind, quoted_bytes, rested, run, stepped, turn};
-ghost use Rattle.inf_session.specs.Standing.{IsSet, came_to, ended, held_by, parted, resting, state};
+ghost use Rattle.inf_session.specs.Standing.{AreWithin, IsBounded, IsSet, SameBounds, came_to, ended, held_by, is_fatal, parted, resting, state};
 ghost use Rattle.inf_unit.specs.Tokens.{spelled};
 ghost use Rattle.inf_session.specs.Weights.{GoesOn, room, weight};
 
+use crate::compiled::{Compiled, Status, conclude};
 use crate::faults::{Fault, unread};
 use crate::setup::Setup;
-use crate::translation::{Compiled, Status, conclude};
 use inf_conditionals::conditionals::Conditionals;
 use inf_conditionals::judged::{Judged, Site};
 use inf_lexer::{LexFault, Place};
@@ -34,7 +36,7 @@ use inf_sources::open_files::{Included, OpenFiles};
 use inf_symbol::sinks::Sink;
 use inf_token::files::Files;
 use inf_unit::directives::Asked;
-use inf_unit::messages::{Messages, location};
+use inf_unit::messages::location;
 use inf_unit::tokens::Spelled;
 use std::alloc::{AllocError, Global};
 
@@ -55,27 +57,34 @@ pub struct Session<'a> {
 /// What a step of the reading came to.
 #[derive(Clone, Copy, Debug, PartialEq, Eq)]
 pub enum Step {
-    /// More is to be read.
+    /// A part was read.
     More,
-    /// All was read, up to the end of the main source or a directive that ends all.
+    /// All was read before, up to the end of the main source or a directive that ends all.
     End,
     /// A fatal message came.
     Fatal,
 }
 
 impl<'a> Session<'a> {
-    /// At the front of the main source, of which nothing was read yet.
-    pub fn new(alloc: Global, setup: Setup<'a>, open_files: OpenFiles) -> Session<'a>
-        ensures files { result.open_files ≡ open_files }
-        ensures standing { standing result.progress ≡ begun_with (chosen setup.entry) }
-        ensures going { result.is_over ≡ false }
-        ensures conditionals { result.conditionals ≡ no_conditions }
-        ensures quoted { result.quoted ≡ 0 }
-        ensures setup { result.setup ≡ setup.entry }
+    /// At the front of the main source, of which nothing was read yet. Where there is no memory the files are given back.
+    pub fn new(
+        alloc: Global,
+        setup: Setup<'a>,
+        open_files: OpenFiles,
+    ) -> Result<Session<'a>, OpenFiles>
+        ensures files { IfOk result (λ session. session.open_files ≡ open_files) }
+        ensures standing { IfOk result (λ session. standing session.progress ≡ begun_with (chosen setup.entry) session.open_files.nest.names) }
+        ensures going { IfOk result (λ session. session.is_over ≡ false) }
+        ensures conditionals { IfOk result (λ session. session.conditionals ≡ no_conditions) }
+        ensures quoted { IfOk result (λ session. session.quoted ≡ 0) }
+        ensures setup { IfOk result (λ session. session.setup ≡ setup.entry) }
+        ensures bounded { IfOk result (λ session. IsBounded session) }
+        ensures back { IfErr result (λ files. files ≡ open_files) }
     {
-        let mut progress = Progress::new(alloc, setup.set, setup.settings);
-        progress.work.report = Messages::new(alloc, setup.has_warnings);
-        Session {
+        let Ok(progress) = setup.begin(alloc, open_files.names()) else {
+            return Err(open_files);
+        };
+        Ok(Session {
             alloc,
             setup,
             open_files,
@@ -83,7 +92,7 @@ impl<'a> Session<'a> {
             progress,
             is_over: false,
             quoted: 0,
-        }
+        })
     }
 
     /// Whether nothing more is read.
@@ -143,9 +152,8 @@ impl<'a> Session<'a> {
         Ok(())
     }
 
-    /// Reads one part: a directive, with the side that it leaves out and the directive that ends this side; what of a bad one is
-    /// passed over; or the end of a file. Each message is written as soon as it is found. Behind the end, or a fatal message,
-    /// nothing is read.
+    /// Reads one part: a directive, with the side that it leaves out; what of a bad one is passed over; or the end of a file. Each
+    /// message is written as soon as it is found. Behind the end, or a fatal message, nothing is read.
     ///
     /// The faults are those of `translate`, but for that of the story.
     pub fn step<F: Files, M: Sink>(
@@ -176,7 +184,8 @@ impl<'a> Session<'a> {
 
         // With any reader.
         ensures parted { OnOk result (parted self.new ≡ true) }
-        ensures came { IfOk result (λ step. step ≡ came_to self.new) }
+        ensures came { IfOk result (λ step. step ≡ came_to (ended self.old) self.new) }
+        ensures bounded { IsBounded self.old → OnOk result (IsBounded self.new) }
         ensures falls { OnOk result ((ended self.new ≡ true) ⊎ (weight self.new.open_files < weight self.old.open_files)) }
         ensures goes { OnOk result (self.new.open_files.lexer.has_failed ≡ false) }
         ensures set { IsSet self.new }
@@ -202,13 +211,13 @@ impl<'a> Session<'a> {
         ensures honesty { F.is_honest files.new ≡ F.is_honest files.old }
     {
         if self.has_ended() {
-            return Ok(self.came_to());
+            return Ok(self.came_to(true));
         }
         self.turn(files, messages)?;
         while !self.has_parted() {
             self.turn(files, messages)?;
         }
-        Ok(self.came_to())
+        Ok(self.came_to(false))
     }
 
     /// Ends the compilation behind the last step: writes the last messages, and gives the story, where no error was found. The
@@ -244,16 +253,16 @@ impl<'a> Session<'a> {
     fn has_parted(&self) -> bool
         ensures { result ≡ parted self.now }
     {
-        self.has_ended() || (self.is_resting() && self.conditionals.is_reading())
+        self.has_ended() || (self.progress.site().is_between && self.conditionals.may_part())
     }
 
-    /// What a step came to that ended here.
-    fn came_to(&self) -> Step
-        ensures { result ≡ came_to self.now }
+    /// What a step came to that ended here, before which all was read or not.
+    fn came_to(&self, had_ended: bool) -> Step
+        ensures { result ≡ came_to had_ended self.now }
     {
         if self.progress.work.report.is_over() {
             Step::Fatal
-        } else if self.has_ended() {
+        } else if had_ended {
             Step::End
         } else {
             Step::More
@@ -268,9 +277,11 @@ impl<'a> Session<'a> {
     }
 
     /// How much there is so far of what each setting bounds, in the order of the settings: the bytes of the longest quoted token,
-    /// the names, the bytes of the code, and the references. Of the others the language has nothing yet.
+    /// the names, the bytes of the code, and the references. Of the others the language has nothing yet. None is above its setting
+    /// unless a fatal message came.
     pub fn held(&self) -> [usize; 15]
-        ensures { result ≡ held_by self.now }
+        ensures counts { result ≡ held_by self.now }
+        ensures within { IsBounded self.now → is_fatal self.now ≡ false → AreWithin result all_settings (chosen self.now.setup).settings }
     {
         let work = &self.progress.work;
         let mut held = [0; 15];
@@ -303,6 +314,8 @@ impl<'a> Session<'a> {
         ensures goes { OnOk result (self.new.open_files.lexer.has_failed ≡ false) }
         ensures setup { self.new.setup ≡ self.old.setup }
         ensures set { IsSet self.new }
+        ensures limits { OnOk result (SameLimits (work_of self.old.progress.work) (work_of self.new.progress.work)) }
+        ensures longest { let most = most_quoted (chosen self.old.setup) in self.old.quoted ≤ most → OnOk result (self.new.quoted ≤ most) }
         ensures cause { IfErr result (λ fault. IfRead fault (λ name. IsUnreadable (F.faults files.old) (F.faults files.new) self.new.open_files)) }
         ensures unread { IfErr result (λ fault. IfRead fault (λ name. M.taken messages.new ≡ M.taken messages.old)) }
         ensures needs { IsTrue (F.is_honest files.old) → (start : Openings) → IsNested start (F.openings files.old) self.old.open_files →
@@ -344,6 +357,8 @@ impl<'a> Session<'a> {
         ensures same { (self.new.open_files.nest ≡ self.old.open_files.nest) × (self.new.open_files.outer ≡ self.old.open_files.outer) }
         ensures setup { (self.new.setup ≡ self.old.setup) × (self.new.is_over ≡ self.old.is_over) }
         ensures few { OnOk result (self.new.open_files.lexer.window.given ≤ 16777216) }
+        ensures limits { OnOk result (SameLimits (work_of self.old.progress.work) (work_of self.new.progress.work)) }
+        ensures longest { let most = self.old.open_files.nest.limit in self.old.quoted ≤ most → OnOk result (self.new.quoted ≤ most) }
         ensures kind { IfErr result (λ fault. IsOfReading fault) }
         ensures unfinished { IsTrue (F.is_honest files.old) → (start : Openings) →
             IfErr result (λ fault. IfRead fault (λ name. self.new.open_files.lexer.window.given ≤ 16777216 →
@@ -398,6 +413,7 @@ impl<'a> Session<'a> {
         ensures goes { OnOk result (self.new.open_files.lexer.has_failed ≡ false) }
         ensures setup { self.new.setup ≡ self.old.setup }
         ensures set { IsSet self.new }
+        ensures stays { OnOk result (SameBounds self.old self.new) }
         ensures kind { IfErr result (λ fault. IsOfReading fault) }
         ensures asks { IfErr result (λ fault. IfRead fault (λ name. IsInclusion (work_of self.old.progress.work).asked)) }
         ensures cause { IfErr result (λ fault. IfRead fault (λ name. IsUnreadable (F.faults files.old) (F.faults files.new) self.new.open_files)) }
@@ -435,6 +451,7 @@ impl<'a> Session<'a> {
         ensures goes { OnOk result (self.new.open_files.lexer.has_failed ≡ false) }
         ensures setup { self.new.setup ≡ self.old.setup }
         ensures set { IsSet self.new }
+        ensures stays { OnOk result (SameBounds self.old self.new) }
         ensures kind { IfErr result (λ fault. IsOfReading fault) }
         ensures asks { IfErr result (λ fault. IfRead fault (λ name. IsInclusion (work_of self.old.progress.work).asked)) }
         ensures cause { IfErr result (λ fault. IfRead fault (λ name. IsUnreadable (F.faults files.old) (F.faults files.new) self.new.open_files)) }
@@ -475,6 +492,7 @@ impl<'a> Session<'a> {
         ensures ends { ended self.old ≡ true → ended self.new ≡ true }
         ensures files { self.new.open_files ≡ self.old.open_files }
         ensures setup { self.new.setup ≡ self.old.setup }
+        ensures stays { OnOk result (SameBounds self.old self.new) }
     {
         if self.has_ended() || !self.is_resting() {
             return Ok(());
@@ -488,7 +506,6 @@ impl<'a> Session<'a> {
     }
 
     /// Enters the file that the text of an inclusion names, or tells, at the place of its unit, why there is none.
-    #[inline(never)]
     fn include<F: Files>(&mut self, files: &mut F, text: &[u8], unit: Place) -> Result<(), Fault>
         requires goes { self.old.open_files.lexer.has_failed ≡ false }
         requires set { IsSet self.old }
@@ -504,6 +521,7 @@ impl<'a> Session<'a> {
         ensures goes { OnOk result (self.new.open_files.lexer.has_failed ≡ false) }
         ensures setup { self.new.setup ≡ self.old.setup }
         ensures set { IsSet self.new }
+        ensures stays { OnOk result (SameBounds self.old self.new) }
         ensures kind { IfErr result (λ fault. IsOfReading fault) }
         ensures cause { IfErr result (λ fault. IfRead fault (λ name. IsUnreadable (F.faults files.old) (F.faults files.new) self.new.open_files)) }
         ensures given_all { IsTrue (F.is_honest files.old) → (start : Openings) → IsNested start (F.openings files.old) self.old.open_files →
@@ -535,7 +553,6 @@ impl<'a> Session<'a> {
 
     /// At the end of a file, tells the conditionals that are open in it. An included file is closed, and reading goes on in the
     /// one that includes it.
-    #[inline(never)]
     fn leave<F: Files>(&mut self, files: &mut F) -> Result<(), Fault>
         requires is_open { length self.old.open_files.outer < F.depth files.old }
         requires set { IsSet self.old }
@@ -554,6 +571,7 @@ impl<'a> Session<'a> {
         ensures goes { self.old.open_files.lexer.has_failed ≡ false → self.new.open_files.lexer.has_failed ≡ false }
         ensures setup { self.new.setup ≡ self.old.setup }
         ensures set { IsSet self.new }
+        ensures stays { OnOk result (SameBounds self.old self.new) }
         ensures given_all { IsTrue (F.is_honest files.old) → (start : Openings) → IsNested start (F.openings files.old) self.old.open_files →
             AllGiven (F.sources files.old) (length start.all) (F.openings files.old) self.old.open_files →
             AllGiven (F.sources files.old) (length start.all) (F.openings files.new) self.new.open_files }

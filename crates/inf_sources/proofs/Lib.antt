@@ -4,4 +4,5 @@ pub mod Counting
 pub mod Entered
 pub mod Openings
 pub mod Fronts
+pub mod Quoted
 pub mod Answering

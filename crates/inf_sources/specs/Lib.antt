@@ -1,3 +1,4 @@
 pub mod Cursors
 pub mod Inclusions
 pub mod Open
+pub mod Quoted

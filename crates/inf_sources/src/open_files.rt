@@ -7,6 +7,7 @@ ghost use Rattle.inf_lexer.specs.Readers.{Took, at_front};
 ghost use Rattle.inf_lexer.specs.Unread.{IsAtEnd, unread};
 ghost use Rattle.inf_sources.specs.Cursors.{Unfinished};
 ghost use Rattle.inf_sources.specs.Inclusions.{OpenedInVain, answer_of, closed, inclusion, main_opened, nested_by};
+ghost use Rattle.inf_sources.specs.Quoted.{KeepsFew};
 ghost use Rattle.inf_sources.specs.Open.{AllGiven, IsNested, NamesAreOpened, Reads, closed_to, nesting, opened_since};
 
 use crate::faults::IncludeFault;
@@ -142,6 +143,7 @@ impl OpenFiles {
             AllGiven (F.sources files.old) (length start.all) (F.openings files.old) self.old →
             OnOk result (AllGiven (F.sources files.old) (length start.all) (F.openings files.new) self.new) }
         ensures took { IfOk result (λ token. Took token.kind self.old.lexer.window self.new.lexer.window self.new.lexer.kept) }
+        ensures quoted { IfOk result (λ token. KeepsFew self.old.nest.limit token.kind self.new.lexer.kept) }
         ensures goes { OnOk result (self.new.lexer.has_failed ≡ false) }
         ensures same { (self.new.nest ≡ self.old.nest) × (self.new.outer ≡ self.old.outer) }
 

@@ -1,3 +1,4 @@
+pub mod Limits
 pub mod TextWords
 pub mod Emitting
 pub mod Growing

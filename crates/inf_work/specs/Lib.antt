@@ -1,3 +1,4 @@
 pub mod Units
 pub mod Actions
 pub mod Works
+pub mod Limits

@@ -2,6 +2,7 @@
 #![tactic(auto)]
 
 mod instructions;
+pub mod laws;
 mod operands;
 pub mod output;
 pub mod work;

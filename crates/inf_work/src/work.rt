@@ -270,7 +270,6 @@ impl Work {
     }
 
     /// The header of a routine, which ends here.
-    #[inline(never)]
     fn header(
         &mut self,
         files: &Stack,
@@ -344,7 +343,6 @@ impl Work {
     }
 
     /// Ends the open routine at a place: tells its unused locals, and finishes its code.
-    #[inline(never)]
     fn close(&mut self, files: &Stack, place: Place) -> Result<(), AllocError>
         ensures { OnOk result (work self.new ≡ close files.now.names place (work self.old)) }
     {
@@ -378,7 +376,6 @@ impl Work {
     }
 
     /// A directive ends that began so, with these names.
-    #[inline(never)]
     fn end_directive(
         &mut self,
         files: &Stack,
@@ -495,7 +492,6 @@ impl Work {
     }
 
     /// Prints the texts of the unit.
-    #[inline(never)]
     fn print(&mut self, files: &Stack, unit: Place) -> Result<(), AllocError>
         ensures { let before = work self.old in OnOk result (work self.new
             ≡ checked files.now.names unit (printed before.gathered.texts before.output) before) }
@@ -506,7 +502,6 @@ impl Work {
     }
 
     /// Calls the first operand of the unit with the others.
-    #[inline(never)]
     fn call(&mut self, files: &Stack, unit: Place) -> Result<(), AllocError>
         ensures { let names = (gathered self.old.gathered).operands in
             OnOk result (work self.new ≡ call files.now.names unit names (work self.old)) }
@@ -530,7 +525,6 @@ impl Work {
     }
 
     /// Returns true, or the operand of the unit.
-    #[inline(never)]
     fn end_return(&mut self, files: &Stack, unit: Place) -> Result<(), AllocError>
         ensures { let names = (gathered self.old.gathered).operands in
             OnOk result (work self.new ≡ return_of files.now.names unit names (work self.old)) }

@@ -12,11 +12,16 @@ use inf_sources::open_files::OpenFiles;
 use inf_symbol::memory_sink::MemorySink;
 use inf_text::CharSet;
 use inf_token::files::Files;
+use std::alloc::AllocError;
 use std::process::Abort;
 use std::test::Fail;
 
 const SOURCE: &[u8] =
     b"Message \"abc\"; [ Main; F(); F(); ];\nIfdef K; Message \"long\"; Ifnot; Constant K; Message \"e\"; Endif;\n[ F; print \"hello\"; ];\n5;";
+
+/// Sides between directives and inside a routine, with a `#` before their words and without.
+const SIDES: &[u8] =
+    b"Constant K;\nIfdef L; Constant A; #Endif; Ifndef K;\nMessage \"x\";\n#Ifnot; Message \"y\"; Endif; [ Main; #Ifdef L; print \"a\"; #Ifnot; print \"b\"; #Endif; ];\n";
 
 /// The lines behind the bad token.
 const BAD: &str = "abc\ne\nt.inf(4): Error: Syntax error at \"5\"\n";
@@ -66,16 +71,96 @@ fn make_steps<F: Files>(rt: &impl Abort, run: &mut Run<'_, F>) -> Result<(), Fai
 {
     run.step(rt, Step::More, "abc\n", [3, 0, 8, 5])?;
     run.step(rt, Step::More, "abc\n", [3, 2, 16, 7])?;
-    // a side that is left out, with the directive that ends it
+    // a conditional with the side that it leaves out, and the directive behind this side
+    run.step(rt, Step::More, "abc\n", [3, 2, 16, 7])?;
     run.step(rt, Step::More, "abc\n", [3, 2, 16, 7])?;
     run.step(rt, Step::More, "abc\n", [3, 3, 16, 7])?;
     run.step(rt, Step::More, "abc\ne\n", [3, 3, 16, 7])?;
     run.step(rt, Step::More, "abc\ne\n", [3, 3, 16, 7])?;
     run.step(rt, Step::More, "abc\ne\n", [5, 3, 24, 7])?;
     run.step(rt, Step::More, BAD, [5, 3, 24, 7])?;
-    run.step(rt, Step::End, BAD, [5, 3, 24, 7])?;
+    // the end of the file
+    run.step(rt, Step::More, BAD, [5, 3, 24, 7])?;
     // behind the end nothing is read
+    run.step(rt, Step::End, BAD, [5, 3, 24, 7])?;
     run.step(rt, Step::End, BAD, [5, 3, 24, 7])
+}
+
+/// All steps of the source of conditionals.
+fn choose_sides<F: Files>(rt: &impl Abort, run: &mut Run<'_, F>) -> Result<(), Fail>
+    requires is_open { length run.old.session.open_files.outer < F.depth run.old.files }
+    requires goes { run.old.session.open_files.lexer.has_failed ≡ false }
+    requires set { IsSet run.old.session }
+{
+    run.step(rt, Step::More, "", [0, 1, 8, 5])?;
+    run.step(rt, Step::More, "", [0, 1, 8, 5])?;
+    run.step(rt, Step::More, "", [0, 1, 8, 5])?;
+    run.step(rt, Step::More, "", [0, 1, 8, 5])?;
+    run.step(rt, Step::More, "", [0, 1, 8, 5])?;
+    run.step(rt, Step::More, "y\n", [1, 1, 8, 5])?;
+    run.step(rt, Step::More, "y\n", [1, 1, 8, 5])?;
+    // sides inside a routine are part of it
+    run.step(rt, Step::More, "y\n", [1, 2, 16, 5])?;
+    run.step(rt, Step::More, "y\n", [1, 2, 16, 5])?;
+    run.step(rt, Step::End, "y\n", [1, 2, 16, 5])
+}
+
+#[test]
+fn a_side_that_is_left_out_is_part_of_its_directive(rt: HostRuntime) -> Result<(), Fail> {
+    let mut files = folder(rt.alloc(), SIDES)?;
+    let settings = Settings::new();
+    let limit = settings.of(Setting::QuotedText);
+    let open_files = OpenFiles::enter_main(
+        rt.alloc(),
+        CharSet::Latin1,
+        limit,
+        &mut files,
+        "t.inf",
+    )?;
+    let setup = Setup {
+        set: CharSet::Latin1,
+        has_warnings: true,
+        settings: &settings,
+        directories: &[],
+    };
+    let Ok(session) = Session::new(rt.alloc(), setup, open_files) else {
+        return Err(AllocError.into());
+    };
+    let mut run = Run {
+        session,
+        files,
+        messages: MemorySink::new(rt.alloc()),
+    };
+    choose_sides(&rt, &mut run)
+}
+
+/// Where the references in tables alone would pass their setting, nothing is read.
+#[test]
+fn references_in_tables_are_told_first(rt: HostRuntime) -> Result<(), Fail> {
+    let mut files = folder(rt.alloc(), b"\n\n5;")?;
+    let mut settings = Settings::new();
+    settings.set(b"MAX_REFS", 3)?;
+    let open_files = OpenFiles::enter_main(rt.alloc(), CharSet::Latin1, 4000, &mut files, "t.inf")?;
+    let setup = Setup {
+        set: CharSet::Latin1,
+        has_warnings: true,
+        settings: &settings,
+        directories: &[],
+    };
+    let Ok(mut session) = Session::new(rt.alloc(), setup, open_files) else {
+        return Err(AllocError.into());
+    };
+    let mut messages = MemorySink::new(rt.alloc());
+    let step = session.step(&mut files, &mut messages)?;
+    assert_eq!(rt; step == Step::Fatal, true);
+    let (open_files, compiled) = session.finish(b"260307", &mut messages);
+    open_files.close(&mut files);
+    assert_eq!(rt; compiled?.status == Status::Errors, true);
+    assert_eq!(rt;
+        messages.bytes(),
+        "t.inf(1): Fatal error: MAX_REFS is exceeded\n".as_bytes()
+    );
+    Ok(())
 }
 
 #[test]
@@ -96,8 +181,11 @@ fn a_step_reads_one_part(rt: HostRuntime) -> Result<(), Fail> {
         settings: &settings,
         directories: &[],
     };
+    let Ok(session) = Session::new(rt.alloc(), setup, open_files) else {
+        return Err(AllocError.into());
+    };
     let mut run = Run {
-        session: Session::new(rt.alloc(), setup, open_files),
+        session,
         files,
         messages: MemorySink::new(rt.alloc()),
     };
@@ -116,8 +204,12 @@ fn a_session_is_finished(rt: HostRuntime) -> Result<(), Fail> {
         settings: &settings,
         directories: &[],
     };
-    let mut session = Session::new(rt.alloc(), setup, open_files);
+    let Ok(mut session) = Session::new(rt.alloc(), setup, open_files) else {
+        return Err(AllocError.into());
+    };
     let mut messages = MemorySink::new(rt.alloc());
+    let step = session.step(&mut files, &mut messages)?;
+    assert_eq!(rt; step == Step::More, true);
     let step = session.step(&mut files, &mut messages)?;
     assert_eq!(rt; step == Step::More, true);
     let step = session.step(&mut files, &mut messages)?;

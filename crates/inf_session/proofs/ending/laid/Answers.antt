@@ -5,8 +5,8 @@ use Rattle.inf_layout.specs.Story.{is_too_long, most_bytes}
 use Rattle.inf_unit.specs.Messages.{Reported, with_fatal}
 use Rattle.inf_unit.specs.Names.{values}
 use Rattle.inf_work.specs.Works.{work as work_of}
-use Rattle.inf_session.specs.Outcome.{Ending, first_line, refused}
-use Rattle.inf_session.specs.Endings.{seen}
+use Rattle.inf_session.specs.Ending.{Ending, first_line, refused}
+use Rattle.inf_session.specs.Ending.{seen}
 use Rattle.inf_session.proofs.Endings.{laid_too_long}
 use Rattle.inf_session.proofs.ending.laid.Goals as goal
 

@@ -1,8 +1,9 @@
-use Rattle.std.proofs.Common.{inr, ap, subst, sym, ◌∙◌}
+use Rattle.std.proofs.Common.{inr, ap, subst, sym}
 use Rattle.inf_opcode.proofs.Growing.{on_err}
 use Rattle.inf_session.specs.Choices.{chosen}
 use Rattle.inf_session.specs.Session.{State}
 use Rattle.inf_session.specs.Standing.{state}
+use Rattle.inf_session.proofs.Bounds.{bounds_then}
 use Rattle.inf_session.proofs.Opening.{followed_within}
 use Rattle.inf_sources.specs.Open.{NamesAreOpened, Open, opened_since}
 use Rattle.inf_session.proofs.session.Session.follow.Goals as goal
@@ -30,3 +31,6 @@ returns-in_err-heed-clause-opened g c = λ honest start nested.
     on_err c.from_residual.result
     (followed_within s (chosen c.args.self.now.setup) (state s start (files.openings c.args.files.now) c.args.self.now) (opened_since start (files.openings c.heed.new.files))
     (c.in_err-heed.ensures.opened honest start nested))
+
+pub returns-clause-stays : goal.returns-clause-stays
+returns-clause-stays g c = bounds_then c.args.self.now c.heed.new.self c.rest.new.self c.in_ok-heed.ensures.stays c.in_ok-rest.ensures.stays

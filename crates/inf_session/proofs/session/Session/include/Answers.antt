@@ -1,4 +1,4 @@
-use Rattle.std.proofs.Common.{◌≤◌, inl, inr, Err, ap, map, subst, sym, length}
+use Rattle.std.proofs.Common.{◌≤◌, inl, inr, Err, ap, subst, sym, length}
 use Rattle.inf_opcode.proofs.Growing.{on_err}
 use Rattle.inf_sources.specs.Inclusions.{OpenedInVain, inclusion}
 use Rattle.inf_sources.specs.Open.{nesting, opened_since}

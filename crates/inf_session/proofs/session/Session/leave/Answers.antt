@@ -1,10 +1,11 @@
-use Rattle.std.proofs.Common.{List, ap, drop, length, map, subst, sym, ◌∙◌}
+use Rattle.std.proofs.Common.{List, refl, ap, drop, length, map, subst, sym, ◌∙◌}
 use Rattle.inf_conditionals.specs.Ends.{file_told}
 use Rattle.inf_token.specs.Files.{Opening}
 use Rattle.inf_sources.specs.Open.{nesting}
 use Rattle.inf_work.specs.Works.{work as work_of}
 use Rattle.inf_session.specs.Given.{GivesAtLeast}
 use Rattle.inf_session.specs.Standing.{state}
+use Rattle.inf_session.proofs.Bounds.{left_same}
 use Rattle.inf_session.proofs.Standings.{given_left, left_is, none_waits, one_waits, stays}
 use Rattle.inf_session.proofs.session.Session.leave.Goals as goal
 
@@ -44,3 +45,6 @@ returns-clause-opened g c = λ honest start nested.
 pub returns-then-not-leave-clause-opened : goal.returns-then-not-leave-clause-opened
 returns-then-not-leave-clause-opened g c = λ honest start nested.
     ap (λ (all : List Opening). map (λ (p : Opening). p.name) (drop (length start.all) all)) (c.leave.ensures.all honest)
+
+pub returns-clause-stays : goal.returns-clause-stays
+returns-clause-stays g c = (left_same (record (work_of c.args.self.now.progress.work) { report = c.end_file.new.report }) (work_of c.leave_file.new.self) c.leave_file.ensures, refl)

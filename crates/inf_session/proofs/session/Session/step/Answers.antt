@@ -1,14 +1,18 @@
-use Rattle.std.proofs.Common.{rules, ◌≡◌, ℕ, ◌≤◌, List, suc, zero, [], false, IfErr, IsTrue, length, ap, refl, sym, subst, ◌∙◌, arith}
+use Rattle.std.proofs.Common.{rules, ◌≡◌, ℕ, ◌≤◌, List, suc, zero, [], false, true, IfErr, IsTrue, length, ap, refl, sym, subst, ◌∙◌, arith}
 use Rattle.inf_opcode.proofs.Growing.{on_err}
 use Rattle.inf_token.specs.Files.{Sources}
 use Rattle.inf_sources.specs.Open.{AllGiven, opened_since}
-use Rattle.inf_session.specs.Choices.{Choices, chosen}
+use Rattle.inf_work.specs.Works.{work as work_of}
+use Rattle.inf_work.proofs.Limits.{same_then}
+use Rattle.inf_session.specs.Choices.{Choices, chosen, most_quoted}
 use Rattle.inf_session.specs.Faults.{IfRead}
 use Rattle.inf_lexer.specs.Unread.{unread as unread_now}
 use Rattle.inf_session.specs.Leading.{CutsShort, GivenUp, NeedsMore, OpensWithin, Writes}
 use Rattle.inf_session.specs.Session.{has_ended, run, turn}
-use Rattle.inf_session.specs.Standing.{ended, parted, state}
+use Rattle.inf_session.specs.Standing.{came_to, ended, parted, state}
 use Rattle.inf_session.proofs.Leadings.{cuts_then, given_up, opened_then, part_first, part_none, part_then, still_going, writes_none, writes_then, wrote_all}
+use Rattle.inf_session.specs.declared.setup.Setup.{Setup}
+use Rattle.inf_session.proofs.Bounds.{bounded_still}
 use Rattle.inf_session.proofs.Standings.{if_read_both}
 use Rattle.inf_session.proofs.Weighing.{ends_or_falls, falls_then}
 use Rattle.inf_session.specs.Weights.{weight}
@@ -34,6 +38,8 @@ loop-self-init g c =
       is_open = c.turn.ensures.is_open;
       goes = took.goes;
       set = c.turn.ensures.set;
+      limits = took.limits;
+      longest = took.longest;
       setup = c.turn.ensures.setup;
       given_all = λ honest start nested h. took.given_all honest start nested h;
       names = λ honest base h. took.names honest base h;
@@ -84,6 +90,9 @@ loop-self-preserved g c =
       is_open = c.turn-in-loop-self.ensures.is_open;
       goes = took.goes;
       set = c.turn-in-loop-self.ensures.set;
+      limits = same_then (work_of c.args.self.now.progress.work) (work_of c.loop-self.self.progress.work) (work_of c.turn-in-loop-self.new.self.progress.work) inv.limits took.limits;
+      longest = λ few. subst (λ (p : Setup). c.turn-in-loop-self.new.self.quoted ≤ most_quoted (chosen p)) inv.setup
+          (took.longest (subst (λ (p : Setup). c.loop-self.self.quoted ≤ most_quoted (chosen p)) (sym inv.setup) (inv.longest few)));
       setup = c.turn-in-loop-self.ensures.setup ∙ inv.setup;
       given_all = λ honest start nested h.
           let still = subst (λ b. IsTrue b) (sym inv.honesty) honest in
@@ -242,3 +251,19 @@ pub returns-in_err-turn-2-clause-nested : goal.returns-in_err-turn-2-clause-nest
 returns-in_err-turn-2-clause-nested g c = λ honest start nested.
     let inv = c.loop-self.invariant in
     c.turn-in-loop-self.ensures.nested (subst (λ b. IsTrue b) (sym inv.honesty) honest) start (inv.nested honest start nested)
+
+pub returns-clause-bounded : goal.returns-clause-bounded
+returns-clause-bounded g c = λ bounded.
+    let inv = c.loop-self.invariant in
+    let going : ended c.args.self.now ≡ false = sym c.has_ended.ensures ∙ c.if-has_ended.false in
+    bounded_still c.args.self.now c.loop-self.self inv.setup inv.limits inv.longest going bounded
+
+pub returns-clause-came : goal.returns-clause-came
+returns-clause-came g c =
+    let going : ended c.args.self.now ≡ false = sym c.has_ended.ensures ∙ c.if-has_ended.false in
+    c.came_to-2.ensures ∙ ap (λ b. came_to b c.loop-self.self) (sym going)
+
+pub returns-then-has_ended-clause-came : goal.returns-then-has_ended-clause-came
+returns-then-has_ended-clause-came g c =
+    let over : ended c.args.self.now ≡ true = sym c.has_ended.ensures ∙ c.if-has_ended.true in
+    c.came_to.ensures ∙ ap (λ b. came_to b c.args.self.now) (sym over)

@@ -1,7 +1,9 @@
 use Rattle.std.proofs.Common.{◌≡◌, ℕ, ◌+◌, ◌<◌, ◌≤◌, ◌⊎◌, true, false, IsTrue, length, cond, suc}
 use Rattle.inf_token.specs.Files.{Openings}
 use Rattle.inf_sources.specs.Open.{AllGiven, IsNested, NamesAreOpened}
-use Rattle.inf_session.specs.Choices.{chosen}
+use Rattle.inf_work.specs.Limits.{SameLimits}
+use Rattle.inf_work.specs.Works.{work as work_of}
+use Rattle.inf_session.specs.Choices.{chosen, most_quoted}
 use Rattle.inf_session.specs.Given.{GivesAtLeast}
 use Rattle.inf_session.specs.Leading.{Writes}
 use Rattle.inf_session.specs.Session.{part, run}
@@ -26,6 +28,8 @@ invariant-loop-self g l =
       is_open : length l.self.open_files.outer < files.depth l.files;
       goes : l.self.open_files.lexer.has_failed ≡ false;
       set : IsSet l.self;
+      limits : SameLimits (work_of l.fn.self.progress.work) (work_of l.self.progress.work);
+      longest : l.fn.self.quoted ≤ most_quoted (chosen l.fn.self.setup) → l.self.quoted ≤ most_quoted (chosen l.fn.self.setup);
       setup : l.self.setup ≡ l.fn.self.setup;
       given_all : IsTrue (files.is_honest l.fn.files) → (start : Openings) → IsNested start (files.openings l.fn.files) l.fn.self.open_files →
           AllGiven sources (length start.all) (files.openings l.fn.files) l.fn.self.open_files → AllGiven sources (length start.all) (files.openings l.files) l.self.open_files;

@@ -1,11 +1,14 @@
-use Rattle.std.proofs.Common.{Err, ℕ, List, ◌≤◌, inl, inr, ap, ◌∙◌}
+use Rattle.std.proofs.Common.{◌≡◌, true, Err, ℕ, List, ◌≤◌, inl, inr, ap, length, subst, sym, ◌∙◌}
 use Rattle.inf_lexer.specs.Unread.{unread as unread_now}
 use Rattle.inf_sources.specs.Cursors.{Unfinished}
 use Rattle.inf_sources.specs.Open.{nesting}
+use Rattle.inf_sources.specs.Quoted.{is_quoted_kind}
+use Rattle.inf_reader.proofs.Limits.{judged_taken_same}
+use Rattle.inf_session.proofs.Bounds.{quoted_within}
 use Rattle.inf_session.proofs.Standings.{read_always}
 use Rattle.inf_reader.specs.Reading.{Stand, is_mode_ended}
 use Rattle.inf_reader.specs.Standing.{standing}
-use Rattle.inf_session.proofs.Stepping.{end_ends}
+use Rattle.inf_session.proofs.Stepping.{end_ends, spelled_as}
 use Rattle.inf_session.proofs.Weighing.{room_less}
 use Rattle.inf_session.proofs.session.Session.take_token.Goals as goal
 
@@ -27,3 +30,18 @@ returns-in-Err-Read-clause-unfinished g c = λ honest start.
     let few = c.next.new.self.lexer.window.given ≤ 16777216 in
     read_always c.unread.result (λ name. few → Unfinished (nesting s start (files.openings c.args.files.now) c.args.self.now.open_files).cursor (unread_now s (files.openings c.next.new.files)))
     (λ name is. c.in-Err-Read.ensures.unfinished honest start (ap (λ f. Err f) c.in-Err-Read.field-0-is) is)
+
+pub returns-clause-limits : goal.returns-clause-limits
+returns-clause-limits g c =
+    let token = c.in-Ok.token in
+    let same = judged_taken_same c.names.result.now.names (spelled_as token.kind c.spelling.result.now token.place) c.in_ok-judged.judged (standing c.args.self.now.progress) in
+    let is = c.in_ok-take_judged.ensures in
+    (ap (λ (s : Stand). s.work.names.limit) is ∙ same.0, ap (λ (s : Stand). s.work.output.code.limits) is ∙ same.1)
+
+pub returns-clause-longest : goal.returns-clause-longest
+returns-clause-longest g c = λ before.
+    let token = c.in-Ok.token in
+    let most = c.args.self.now.open_files.nest.limit in
+    let few = λ (is : is_quoted_kind token.kind ≡ true). subst (λ (bytes : List ℕ). length bytes ≤ most) (sym c.spelling.ensures) (c.in-Ok.ensures.quoted is) in
+    subst (λ n. n ≤ most) (sym c.quoted_behind-self.ensures)
+    (quoted_within c.site-site.result c.in_ok-judged.judged (spelled_as token.kind c.spelling.result.now token.place) c.args.self.now.quoted most few before)

@@ -4,12 +4,13 @@ use Rattle.inf_token.specs.Files.{Sources}
 use Rattle.inf_sources.specs.Open.{AllGiven, nesting, opened_since}
 use Rattle.inf_unit.specs.Messages.{Reported}
 use Rattle.inf_reader.specs.Reading.{is_mode_ended}
-use Rattle.inf_session.specs.Choices.{Choices, chosen}
+use Rattle.inf_work.proofs.Limits.{same_then}
+use Rattle.inf_session.specs.Choices.{Choices, chosen, most_quoted}
 use Rattle.inf_lexer.specs.Unread.{unread as unread_now}
 use Rattle.inf_sources.specs.Cursors.{Unfinished}
 use Rattle.inf_session.specs.Faults.{IfRead}
 use Rattle.inf_session.specs.Leading.{IsInclusion, NeedsMore, OpensWithin}
-use Rattle.inf_session.specs.Session.{State, followed, stepped}
+use Rattle.inf_session.specs.Session.{State, followed}
 use Rattle.inf_work.specs.Works.{work as work_of}
 use Rattle.inf_session.proofs.Opening.{turned_within}
 use Rattle.inf_session.specs.Standing.{state}
@@ -152,3 +153,15 @@ returns-in_err-follow-clause-needs g c = λ honest start nested.
     let asked : IfErr c.from_residual-in_err-follow.result (λ fault. IfRead fault (λ name. asks)) = search rules in
     if_read_more c.from_residual-in_err-follow.result asks (few → (told : List ℕ) → NeedsMore (state s start old c.args.self.now told) unread)
     (λ a is told. inr (subst (λ (x : State). IsInclusion x.work.asked) (first told) a)) asked
+
+pub returns-clause-limits : goal.returns-clause-limits
+returns-clause-limits g c =
+    same_then (work_of c.args.self.now.progress.work) (work_of c.take_token.new.self.progress.work) (work_of c.follow.new.self.progress.work) c.in_ok-take_token.ensures.limits
+    c.in_ok-follow.ensures.stays.0
+
+pub returns-clause-longest : goal.returns-clause-longest
+returns-clause-longest g c = λ few.
+    let most = most_quoted (chosen c.args.self.now.setup) in
+    let limit = c.requires.set.1 in
+    subst (λ n. n ≤ most) (sym c.in_ok-follow.ensures.stays.1)
+    (subst (λ n. c.take_token.new.self.quoted ≤ n) limit (c.in_ok-take_token.ensures.longest (subst (λ n. c.args.self.now.quoted ≤ n) (sym limit) few)))

@@ -1,6 +1,7 @@
-use Rattle.std.proofs.Common.{length, refl, subst}
+use Rattle.std.proofs.Common.{length, refl, ap, ◌∙◌, subst}
 use Rattle.inf_sources.specs.Open.{AllGiven, IsNested, Open, Reads, nesting}
 use Rattle.inf_sources.proofs.Fronts.{read_given}
+use Rattle.inf_sources.proofs.Quoted.{heard_few}
 use Rattle.inf_sources.proofs.Nestings.{nested_on, opened_as_before, reads_on}
 use Rattle.inf_sources.proofs.open_files.OpenFiles.next.Goals as goal
 
@@ -51,3 +52,12 @@ returns-clause-given_all g c = λ honest start nested given.
     subst (λ (o : Open). IsNested start old o → AllGiven s (length start.all) old o → AllGiven s (length start.all) new after) c.self.view_is
     (λ n all. read_given s start old new before after n refl (c.next.ensures.gave honest) c.in_ok-token.ensures.few c.next.ensures.window (c.next.ensures.end honest) all)
     nested given
+
+pub returns-clause-quoted : goal.returns-clause-quoted
+returns-clause-quoted g c =
+    let files = g.F.Files in
+    let before = c.self.inside.lexer in
+    let nest = ap (λ (o : Open). o.nest.limit) c.self.view_is in
+    heard_few (files.is_honest c.args.files.now) (files.sources c.args.files.now) (files.openings c.args.files.now) (files.openings c.next.new.files)
+    before.window c.next.new.self.window before.set before.limit c.args.self.now.nest.limit before.lines c.in_ok-token.token c.next.new.self
+    (c.self.invariant.1.1.0 ∙ nest) c.in_ok-token.ensures.heard

@@ -1,0 +1,3 @@
+pub mod Concluding
+pub mod OutcomeLaws
+pub mod Examples

@@ -1,0 +1,75 @@
+use Rattle.std.proofs.Common.{[], IfOk, refl, subst, sym}
+use Rattle.std.proofs.lemmas.Result.{on_err_weaker}
+use Rattle.inf_opcode.proofs.Growing.{on_err}
+use Rattle.inf_sources.specs.Open.{IsNested, NamesAreOpened, Open, opened_since}
+use Rattle.inf_work.specs.Works.{work as work_of}
+use Rattle.inf_session.specs.Choices.{chosen}
+use Rattle.inf_session.specs.Delivered.{Delivers}
+use Rattle.inf_outcome.specs.Comes.{Concludes}
+use Rattle.inf_session.specs.Ending.{finished}
+use Rattle.inf_session.specs.Standing.{state}
+use Rattle.inf_outcome.proofs.Concluding.{concludes, if_ok_more, stops_ending, stops_reading}
+use Rattle.inf_session.proofs.Leadings.{opened_behind}
+use Rattle.inf_outcome.proofs.translation.read_out.Goals as goal
+
+pub returns-in-Ok-clause-concludes : goal.returns-in-Ok-clause-concludes
+returns-in-Ok-clause-concludes g c = λ honest start nested.
+    let files = g.F.Files in
+    let s = files.sources c.args.files.now in
+    let o = chosen c.args.session.setup in
+    let first = files.openings c.args.files.now in
+    let here = files.openings c.read.new.files in
+    let old = g.M.Sink.taken c.args.messages.now in
+    let mid = g.M.Sink.taken c.read.new.messages in
+    let new = g.M.Sink.taken c.finish.new.messages in
+    let read = c.in-Ok.ensures.read honest start nested in
+    subst (λ (f : Open). IfOk c.finish.result.1 (λ x. Concludes s o c.args.serial.now (state s start first c.args.session []) start here f old new x)) (sym c.finish.ensures.files)
+    (if_ok_more c.finish.result.1
+    (λ x. Delivers (finished c.args.serial.now c.read.new.self.open_files.nest.names (work_of c.read.new.self.progress.work)) x mid new)
+    (λ x. Concludes s o c.args.serial.now (state s start first c.args.session []) start here c.read.new.self.open_files old new x)
+    (λ x d. concludes s o c.args.serial.now (state s start first c.args.session) (state s start here c.read.new.self) start here c.read.new.self.open_files old mid new read.0 x read.1
+    (λ told. c.in-Ok.ensures.ended) (λ told. refl) (c.in-Ok.ensures.nested honest start nested) (λ told. refl) (λ told. d))
+    c.finish.ensures.ok)
+
+pub returns-in-Ok-clause-stops : goal.returns-in-Ok-clause-stops
+returns-in-Ok-clause-stops g c = λ honest start nested.
+    let files = g.F.Files in
+    let s = files.sources c.args.files.now in
+    let o = chosen c.args.session.setup in
+    let read = c.in-Ok.ensures.read honest start nested in
+    on_err_weaker c.finish.result.1
+    (λ t. stops_ending s o c.args.serial.now (state s start (files.openings c.args.files.now) c.args.session) (state s start (files.openings c.read.new.files) c.read.new.self)
+    (g.M.Sink.taken c.args.messages.now) (g.M.Sink.taken c.read.new.messages) (g.M.Sink.taken c.finish.new.messages) read.0 read.1
+    (λ told. c.in-Ok.ensures.ended) (λ told. refl) (λ told. t))
+    c.finish.ensures.err
+
+pub returns-in-Err-clause-stops : goal.returns-in-Err-clause-stops
+returns-in-Err-clause-stops g c = λ honest start nested.
+    let files = g.F.Files in
+    let s = files.sources c.args.files.now in
+    let cut = c.in-Err.ensures.cut honest start nested in
+    stops_reading s (chosen c.args.session.setup) c.args.serial.now (state s start (files.openings c.args.files.now) c.args.session)
+    (g.M.Sink.taken c.args.messages.now) (g.M.Sink.taken c.read.new.messages) cut.0 cut.1
+
+pub returns-in-Ok-clause-names : goal.returns-in-Ok-clause-names
+returns-in-Ok-clause-names g c = λ honest base h.
+    subst (λ (x : Open). NamesAreOpened base (g.F.Files.openings c.read.new.files) x) (sym c.finish.ensures.files) (c.read.ensures.names honest base h)
+
+pub returns-in-Err-clause-heard : goal.returns-in-Err-clause-heard
+returns-in-Err-clause-heard g c = λ honest start nested. c.in-Err.ensures.unread honest start nested
+
+pub returns-in-Ok-clause-nested : goal.returns-in-Ok-clause-nested
+returns-in-Ok-clause-nested g c = λ honest start nested.
+    subst (λ (x : Open). IsNested start (g.F.Files.openings c.read.new.files) x) (sym c.finish.ensures.files) (c.read.ensures.nested honest start nested)
+
+pub returns-in-Ok-clause-opened : goal.returns-in-Ok-clause-opened
+returns-in-Ok-clause-opened g c = λ honest start nested.
+    let files = g.F.Files in
+    let s = files.sources c.args.files.now in
+    let here = files.openings c.read.new.files in
+    let read = c.in-Ok.ensures.read honest start nested in
+    on_err c.finish.result.1 (
+      read.0,
+      opened_behind s (chosen c.args.session.setup) read.0 (state s start (files.openings c.args.files.now) c.args.session) (state s start here c.read.new.self)
+          (g.M.Sink.taken c.args.messages.now) (g.M.Sink.taken c.read.new.messages) (opened_since start here) read.1 (λ told. refl),
+    )

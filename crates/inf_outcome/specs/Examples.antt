@@ -1,0 +1,79 @@
+-- Worked examples: what comes of the main source `t.inf` among some sources.
+use Rattle.std.specs.Prelude.{◌≡◌, ℕ, List, [], ◌++◌, length, codes, if◌then◌else◌, true, zero, suc, Some, None}
+use Rattle.std.specs.Str.{bytes_eq}
+use Rattle.inf_characters.specs.declared.characters.CharSet.TheVariants as set
+use Rattle.inf_layout.specs.StoryLaws.{HasWordAt}
+use Rattle.inf_settings.specs.Settings.{defaults}
+use Rattle.inf_token.specs.Files.{Sources}
+use Rattle.inf_session.specs.Choices.{Choices}
+use Rattle.inf_outcome.specs.Outcome.{IsOutcome}
+use Rattle.inf_session.specs.declared.compiled.Status.TheVariants as status
+
+abbrev pub name : List ℕ
+name = codes "t.inf"
+
+-- one source alone, and one more
+abbrev pub no_sources : Sources
+no_sources n = None
+
+abbrev pub with_source : List ℕ → List ℕ → Sources → Sources
+with_source file source others n = if bytes_eq n file then Some source else others n
+
+abbrev pub only : List ℕ → Sources
+only source = with_source name source no_sources
+
+-- where no word chooses anything
+abbrev pub plain : Choices
+plain = record { set = set.Latin1; has_warnings = true; settings = defaults; directories = [] }
+
+-- sources with errors: these messages, no story
+abbrev pub Refuses : Sources → List ℕ → Type 0
+Refuses sources messages = (serial : List ℕ) → IsOutcome sources plain serial name (record { messages = messages; story = None; status = status.Errors })
+
+abbrev pub NoSource : Type 0
+NoSource = Refuses no_sources (codes "t.inf(1): Fatal error: No file \"t.inf\"\n")
+
+abbrev pub EmptySource : Type 0
+EmptySource = Refuses (only []) (codes "t.inf(1): Error: No routine \"Main\"\nErrors: 1, warnings: 0 (no output)\n")
+
+abbrev pub TextIsMissing : Type 0
+TextIsMissing =
+    Refuses (only (codes "[ Main;\nprint ;\n];\n")) (codes "t.inf(2): Error: Syntax error at \";\"\nErrors: 1, warnings: 0 (no output)\n")
+
+-- each name once, in order of first use, as it is spelled there
+abbrev pub NamesAreUndeclared : Type 0
+NamesAreUndeclared =
+    Refuses (only (codes "[ Main; a(); b(C); A(); ];\n"))
+    (codes "t.inf(1): Error: \"a\" was never declared\nt.inf(1): Error: \"b\" was never declared\nt.inf(1): Error: \"C\" was never declared\nErrors: 3, warnings: 0 (no output)\n")
+
+-- the outer file goes on behind the inner one, which is read at each inclusion
+abbrev pub FilesAreIncluded : Type 0
+FilesAreIncluded =
+    Refuses (with_source (codes "c.h") (codes "\nMessage \"c\";") (only (codes "Include \"c\";\nInclude \">c\"; Message \"b\"; 5;")))
+    (codes "c\nc\nb\nt.inf(2): Error: Syntax error at \"5\"\nt.inf(1): Error: No routine \"Main\"\nErrors: 2, warnings: 0 (no output)\n")
+
+-- a name of an included file is known, one that is declared later is not, and a conditional ends with its file
+abbrev pub ConditionalsChoose : Type 0
+ConditionalsChoose =
+    Refuses (with_source (codes "c.h") (codes "Constant K;") (only (codes "Include \"c.h\";\nIfdef K; Message \"yes\"; Ifnot; Message \"no\"; Endif;\n[ Main; #Ifdef L; new_line; #Endif; ];\nConstant L;\nIfdef M;")))
+    (codes "yes\nt.inf(5): Error: Conditional without its other end\nErrors: 1, warnings: 0 (no output)\n")
+
+-- a text so many times
+abbrev pub times : ℕ → List ℕ → List ℕ
+times zero bytes = []
+times (suc n) bytes = bytes ++ times n bytes
+
+-- a file that includes itself, up to sixteen of it
+abbrev pub SixteenAreOpen : Type 0
+SixteenAreOpen =
+    Refuses (only (codes "Message \"x\";\nInclude \"t.inf\";")) (times 16 (codes "x\n") ++ codes "t.inf(2): Fatal error: More than 16 files open\n")
+
+-- a story of 976 bytes, which says that it has 244 fours
+pub record IsHello (serial : List ℕ) : Type 0 where
+  pub story : List ℕ
+  pub is_outcome : IsOutcome (only (codes "[ Main; print \"hello\"; ];")) plain serial name (record { messages = codes "Errors: 0, warnings: 0\n"; story = Some story; status = status.Success })
+  pub size : length story ≡ 976
+  pub length_word : HasWordAt 0x1A story 244
+
+abbrev pub HelloIsAStory : Type 0
+HelloIsAStory = (serial : List ℕ) → length serial ≡ 6 → IsHello serial

@@ -1,0 +1,4 @@
+pub mod Outcome
+pub mod Comes
+pub mod OutcomeLaws
+pub mod Examples

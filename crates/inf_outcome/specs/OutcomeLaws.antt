@@ -1,0 +1,10 @@
+-- The same sources, choices, serial number and name have one outcome.
+use Rattle.std.specs.Prelude.{◌≡◌, ℕ, List}
+use Rattle.inf_token.specs.Files.{Sources}
+use Rattle.inf_session.specs.Choices.{Choices}
+use Rattle.inf_session.specs.Ending.{Ending}
+use Rattle.inf_outcome.specs.Outcome.{IsOutcome}
+
+abbrev pub OutcomesAreUnique : Type 0
+OutcomesAreUnique =
+    (sources : Sources) (o : Choices) (serial name : List ℕ) (e f : Ending) → IsOutcome sources o serial name e → IsOutcome sources o serial name f → e ≡ f

@@ -1,0 +1,20 @@
+//! What the definitions give together.
+ghost use Rattle.inf_outcome.specs.Examples.{ConditionalsChoose, EmptySource, FilesAreIncluded, HelloIsAStory, NamesAreUndeclared, NoSource, SixteenAreOpen, TextIsMissing};
+ghost use Rattle.inf_outcome.specs.OutcomeLaws.{OutcomesAreUnique};
+
+/// The same sources, choices, serial number and name have one outcome.
+pub fn outcomes_are_unique()
+    ensures { OutcomesAreUnique }
+{}
+
+/// What comes of some sources.
+pub fn sources_have_these_outcomes()
+    ensures no_source { NoSource }
+    ensures empty_source { EmptySource }
+    ensures text_is_missing { TextIsMissing }
+    ensures names_are_undeclared { NamesAreUndeclared }
+    ensures files_are_included { FilesAreIncluded }
+    ensures conditionals_choose { ConditionalsChoose }
+    ensures sixteen_are_open { SixteenAreOpen }
+    ensures hello_is_a_story { HelloIsAStory }
+{}

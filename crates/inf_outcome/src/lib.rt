@@ -1,0 +1,7 @@
+//! The outcome of a main source with the files that it includes, and `translate`, which gives it.
+#![tactic(auto)]
+
+mod laws;
+pub mod translation;
+
+pub use laws::{outcomes_are_unique, sources_have_these_outcomes};

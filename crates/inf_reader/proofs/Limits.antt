@@ -1,0 +1,89 @@
+-- No token changes what there may be of names and of code.
+use Rattle.std.specs.Prelude.{◌&&◌}
+use Rattle.std.proofs.Common.{Bool, List, [], ◌∷◌, Option, Some, None, refl}
+use Rattle.inf_scanner.specs.declared.tokens.Place.{Place}
+use Rattle.inf_grammar.specs.Language.{grammar, known}
+use Rattle.inf_grammar.specs.declared.actions.Action.{Action}
+use Rattle.inf_machine.specs.Machine.{fits, taken}
+use Rattle.inf_machine.specs.declared.symbols.Symbol.{Symbol}
+use Rattle.inf_unit.specs.Messages.{FileNames}
+use Rattle.inf_unit.specs.Tokens.{Spelled, is_end}
+use Rattle.inf_unit.proofs.Cases.{of_both}
+use Rattle.inf_conditionals.specs.declared.judged.Handed.{Handed}
+use Rattle.inf_conditionals.specs.declared.judged.Handed.TheVariants as handed
+use Rattle.inf_conditionals.specs.declared.judged.Judged.{Judged}
+use Rattle.inf_conditionals.specs.declared.judged.Sign.{Sign}
+use Rattle.inf_work.specs.Actions.{Work}
+use Rattle.inf_work.specs.Limits.{SameLimits}
+use Rattle.inf_work.proofs.Limits.{acted_same, begun_at_same, same_then}
+use Rattle.inf_reader.specs.Handing.{handed_as, hash, judged_taken, lone_told, sign_taken, token_taken, unfit_in, unit_ended}
+use Rattle.inf_reader.specs.Reading.{Reading, Stand, bad, judged, piece_begun, read_at, step, step_in, took}
+use Rattle.inf_reader.specs.Selection.{begins_piece, has_come}
+use Rattle.inf_reader.specs.Tests.{atom_of}
+use Rattle.inf_reader.specs.declared.mode.Mode.{Mode}
+use Rattle.inf_reader.specs.declared.mode.Mode.TheVariants as mode
+
+-- what was compiled behind something has the limits from before
+abbrev Keeps : Work → Stand → Type 0
+Keeps w s = SameLimits w s.work
+
+bad_same : (files : FileNames) (t : Spelled) (r : Reading) (w : Work) → Keeps w (bad files t r w)
+bad_same files t r w = (refl, refl)
+
+took_same : (files : FileNames) (t : Spelled) (r : Reading) (w : Work) → Keeps w (took files t r w)
+took_same files t r w = acted_same files r.unit t.place (taken grammar known (atom_of t) r.stack).actions w
+
+judged_same : (files : FileNames) (has_come : Bool) (t : Spelled) (r : Reading) (w : Work) → Keeps w (judged files has_come t r w)
+judged_same files has_come t r w =
+    of_both (Keeps w) (has_come && fits grammar known (atom_of t) r.stack) (took files t r w) (bad files t r w) (λ _. took_same files t r w) (λ _. bad_same files t r w)
+
+read_same : (files : FileNames) (t : Spelled) (stack : List (Symbol Action)) (r : Reading) (w : Work) → Keeps w (read_at files t stack r w)
+read_same files t [] r w =
+    of_both (Keeps w) (is_end t.kind) (record { reading = record r { mode = mode.Ended }; work = w }) (judged files (begins_piece t) t (piece_begun r) w)
+    (λ _. (refl, refl)) (λ _. judged_same files (begins_piece t) t (piece_begun r) w)
+read_same files t (s ∷ stack) r w = judged_same files (has_come r.unit t) t r w
+
+step_in_same : (m : Mode) (files : FileNames) (t : Spelled) (r : Reading) (w : Work) → Keeps w (step_in m files t r w)
+step_in_same mode.Reads files t r w = read_same files t r.stack r w
+step_in_same mode.Ended files t r w = (refl, refl)
+step_in_same mode.SkipsRoutine files t r w = (refl, refl)
+step_in_same mode.SkipsDirective files t r w = (refl, refl)
+
+step_same : (files : FileNames) (t : Spelled) (s : Stand) → Keeps s.work (step files t s.reading s.work)
+step_same files t s = step_in_same s.reading.mode files t s.reading s.work
+
+unfit_same : (m : Mode) (files : FileNames) (t : Spelled) (s : Stand) → Keeps s.work (unfit_in m files t s)
+unfit_same mode.Reads files t s = bad_same files t s.reading s.work
+unfit_same mode.Ended files t s = step_same files t s
+unfit_same mode.SkipsRoutine files t s = step_same files t s
+unfit_same mode.SkipsDirective files t s = step_same files t s
+
+handed_same : (h : Handed) (files : FileNames) (t : Spelled) (s : Stand) → Keeps s.work (handed_as h files t s)
+handed_same handed.Kept files t s = step_same files t s
+handed_same handed.Unfit files t s = unfit_same s.reading.mode files t s
+
+sign_same : (o : Option Sign) (files : FileNames) (s : Stand) → Keeps s.work (sign_taken o files s)
+sign_same None files s = (refl, refl)
+sign_same (Some sign) files s = handed_same sign.handed files (hash sign.place) s
+
+token_same : (o : Option Handed) (files : FileNames) (t : Spelled) (s : Stand) → Keeps s.work (token_taken o files t s)
+token_same None files t s = (refl, refl)
+token_same (Some h) files t s = handed_same h files t s
+
+lone_same : (o : Option Place) (files : FileNames) (s : Stand) → Keeps s.work (lone_told o files s)
+lone_same None files s = (refl, refl)
+lone_same (Some place) files s = (refl, refl)
+
+ended_same : (o : Option Place) (files : FileNames) (s : Stand) → Keeps s.work (unit_ended o files s)
+ended_same None files s = (refl, refl)
+ended_same (Some place) files s = begun_at_same files place s.work
+
+pub judged_taken_same : (files : FileNames) (t : Spelled) (j : Judged) (s : Stand) → SameLimits s.work (judged_taken files t j s).work
+judged_taken_same files t j s =
+    let signed = sign_taken j.sign files s in
+    let token = token_taken j.token files t signed in
+    let told = lone_told j.lone files token in
+    let ended = unit_ended j.ended files told in
+    same_then s.work token.work ended.work
+    (same_then s.work signed.work token.work (sign_same j.sign files s) (token_same j.token files t signed))
+    (same_then token.work told.work ended.work (lone_same j.lone files token) (ended_same j.ended files told))

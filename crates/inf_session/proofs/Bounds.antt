@@ -1,0 +1,128 @@
+-- What the settings bound stays under them.
+use Rattle.std.specs.Prelude.{nat_lt, is_none, ◌||◌}
+use Rattle.std.proofs.Common.{◌≡◌, ℕ, ◌≤◌, Bool, true, false, cond, List, [], ◌∷◌, length, Some, None, refl, sym, ap, subst, ◌∙◌, arith}
+use Rattle.std.proofs.lemmas.Bool.{ltb-false}
+use Rattle.inf_sources.specs.Quoted.{is_quoted_kind}
+use Rattle.inf_scanner.specs.declared.tokens.BadToken.TheVariants as bad
+use Rattle.inf_scanner.specs.declared.tokens.TokenKind.{TokenKind}
+use Rattle.inf_scanner.specs.declared.tokens.TokenKind.TheVariants as kind
+use Rattle.inf_conditionals.specs.declared.judged.Judged.{Judged}
+use Rattle.inf_conditionals.specs.declared.judged.Site.{Site}
+use Rattle.inf_layout.specs.declared.code.CodeLimits.{CodeLimits}
+use Rattle.inf_settings.specs.Settings.{all_settings, number_of}
+use Rattle.inf_settings.specs.declared.setting.Setting.TheVariants.{References, Symbols}
+use Rattle.inf_unit.proofs.Cases.{of_both}
+use Rattle.inf_unit.specs.Messages.{FileNames, none_reported, with_full}
+use Rattle.inf_unit.specs.Tokens.{Spelled}
+use Rattle.inf_work.specs.Actions.{Work, left, left_to, limits_of}
+use Rattle.inf_work.specs.Limits.{SameLimits}
+use Rattle.inf_work.specs.Works.{work as work_of}
+use Rattle.inf_work.proofs.Limits.{same_then}
+use Rattle.inf_reader.specs.Reading.{Stand, has_ended_at}
+use Rattle.inf_reader.specs.Standing.{standing}
+use Rattle.inf_reader.specs.declared.progress.Progress.{Progress}
+use Rattle.inf_session.specs.Choices.{Choices, chosen, most_quoted}
+use Rattle.inf_session.specs.Session.{begun_with, first_place, quoted_behind, quoted_bytes, quoted_of_kind}
+use Rattle.inf_session.specs.Standing.{AreWithin, IsBounded, SameBounds, ended, is_fatal}
+use Rattle.inf_session.specs.declared.session.Session.{Session}
+use Rattle.inf_session.specs.declared.setup.Setup.{Setup}
+
+-- The longest quoted token
+
+kind_within : (k : TokenKind) (bytes : List ℕ) (most : ℕ) → (is_quoted_kind k ≡ true → length bytes ≤ most) → quoted_of_kind k bytes ≤ most
+kind_within kind.Name bytes most few = omega arith
+kind_within (kind.Number n) bytes most few = omega arith
+kind_within kind.Text bytes most few = few refl
+kind_within (kind.Char c) bytes most few = few refl
+kind_within (kind.Word w) bytes most few = few refl
+kind_within (kind.Mark m) bytes most few = omega arith
+kind_within (kind.Bad bad.Unfit) bytes most few = omega arith
+kind_within (kind.Bad bad.Unclosed) bytes most few = few refl
+kind_within (kind.Bad bad.EmptyQuote) bytes most few = few refl
+kind_within (kind.Bad bad.Number) bytes most few = omega arith
+kind_within (kind.Bad bad.LongName) bytes most few = omega arith
+kind_within (kind.Bad bad.UnknownEscape) bytes most few = few refl
+kind_within (kind.Bad bad.NoZscii) bytes most few = few refl
+kind_within (kind.Bad bad.BadCode) bytes most few = few refl
+kind_within (kind.Bad bad.TooLong) bytes most few = few refl
+kind_within kind.End bytes most few = omega arith
+
+pub quoted_within : (site : Site) (j : Judged) (t : Spelled) (quoted most : ℕ) → (is_quoted_kind t.kind ≡ true → length t.bytes ≤ most) → quoted ≤ most
+    → quoted_behind site j t quoted ≤ most
+quoted_within site j t quoted most few before =
+    let longer = cond (nat_lt quoted (quoted_bytes t)) (quoted_bytes t) quoted in
+    of_both (λ n. n ≤ most) (site.is_quiet || is_none j.token) quoted longer (λ _. before)
+    (λ _. of_both (λ n. n ≤ most) (nat_lt quoted (quoted_bytes t)) (quoted_bytes t) quoted (λ _. kind_within t.kind t.bytes most few) (λ _. before))
+
+-- The limits
+
+left_to_same : (waiting : List Bool) (w : Work) → SameLimits w (left_to waiting w)
+left_to_same [] w = (refl, refl)
+left_to_same (b ∷ waiting) w = (refl, refl)
+
+pub left_same : (before after : Work) → after ≡ left before → SameLimits before after
+left_same before after e = subst (λ (w : Work). SameLimits before w) (sym e) (left_to_same before.waiting before)
+
+pub bounds_then : (a b c : Session) → SameBounds a b → SameBounds b c → SameBounds a c
+bounds_then a b c first second =
+    (same_then (work_of a.progress.work) (work_of b.progress.work) (work_of c.progress.work) first.0 second.0, second.1 ∙ first.1)
+
+left_false : (a b : Bool) → (a || b) ≡ false → a ≡ false
+left_false true b e = e
+left_false false b e = refl
+
+right_false : (a b : Bool) → (a || b) ≡ false → b ≡ false
+right_false true b e = let never : true ≡ false = e in cc
+right_false false b e = e
+
+-- a session in which something was still to be read goes on
+pub bounded_still : (s t : Session) → t.setup ≡ s.setup → SameLimits (work_of s.progress.work) (work_of t.progress.work)
+    → (s.quoted ≤ most_quoted (chosen s.setup) → t.quoted ≤ most_quoted (chosen s.setup)) → ended s ≡ false → IsBounded s → IsBounded t
+bounded_still s t setup limits longest going b = (
+  limits.0 ∙ b.0 ∙ ap (λ (p : Setup). number_of Symbols (chosen p).settings) (sym setup),
+  (
+    limits.1 ∙ b.1.0 ∙ ap (λ (p : Setup). limits_of (chosen p).settings) (sym setup),
+    (
+      subst (λ (p : Setup). t.quoted ≤ most_quoted (chosen p)) (sym setup) (longest b.1.1.0),
+      λ _. subst (λ (p : Setup). 4 ≤ number_of References (chosen p).settings) (sym setup)
+          (b.1.1.1 (left_false _ _ (right_false s.is_over (has_ended_at (standing s.progress)) going))),
+    ),
+  ),
+)
+
+-- Before the first token
+
+none_told : (full : Bool) (names : FileNames) (warns : Bool)
+    → (with_full names first_place (cond full (Some References) None) (none_reported warns)).counts.is_over ≡ false → full ≡ false
+none_told true names warns going = let never : true ≡ false = going in cc
+none_told false names warns going = refl
+
+first_fits : (o : Choices) (names : FileNames) → (begun_with o names).work.report.counts.is_over ≡ false → 4 ≤ number_of References o.settings
+first_fits o names going =
+    ltb-false (number_of References o.settings) 4 (none_told (nat_lt (number_of References o.settings) 4) names o.has_warnings going)
+
+pub bounded_first : (p : Setup) (progress : Progress) (names : FileNames) → standing progress ≡ begun_with (chosen p) names
+    → (progress.work.names.limit ≡ number_of Symbols (chosen p).settings)
+    × ((progress.work.output.code.limits ≡ limits_of (chosen p).settings)
+    × ((0 ≤ most_quoted (chosen p)) × ((standing progress).work.report.counts.is_over ≡ false → 4 ≤ number_of References (chosen p).settings)))
+bounded_first p progress names begun = (
+  ap (λ (s : Stand). s.work.names.limit) begun,
+  (
+    ap (λ (s : Stand). s.work.output.code.limits) begun,
+    (omega arith, λ going. first_fits (chosen p) names (ap (λ (s : Stand). s.work.report.counts.is_over) (sym begun) ∙ going)),
+  ),
+)
+
+-- The counts
+
+pub within : (s : Session) (names code refs : ℕ) → IsBounded s → is_fatal s ≡ false → names ≤ s.progress.work.names.limit
+    → code ≤ s.progress.work.output.code.limits.code → (4 ≤ s.progress.work.output.code.limits.refs → refs ≤ s.progress.work.output.code.limits.refs)
+    → AreWithin (s.quoted ∷ 0 ∷ names ∷ 0 ∷ 0 ∷ 0 ∷ 0 ∷ 0 ∷ 0 ∷ 0 ∷ 0 ∷ 0 ∷ code ∷ 0 ∷ refs ∷ []) all_settings (chosen s.setup).settings
+within s names code refs bounded going few_names few_code few_refs =
+    let most_code = ap (λ (l : CodeLimits). l.code) bounded.1.0 in
+    let most_refs = ap (λ (l : CodeLimits). l.refs) bounded.1.0 in
+    let room = subst (λ n. 4 ≤ n) (sym most_refs) (bounded.1.1.1 going) in
+    let named = subst (λ n. names ≤ n) bounded.0 few_names in
+    let coded = subst (λ n. code ≤ n) most_code few_code in
+    let referred = subst (λ n. refs ≤ n) most_refs (few_refs room) in
+    (bounded.1.1.0, (omega arith, (named, (omega arith, (omega arith, (omega arith, (omega arith, (omega arith, (omega arith, (omega arith, (omega arith, (omega arith, (coded, (omega arith, (referred, tt)))))))))))))))

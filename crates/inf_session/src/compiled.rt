@@ -1,0 +1,67 @@
+//! What comes of a compilation, and the end of one.
+ghost use Rattle.std.specs.Prelude.{◌≡◌, ◌≤◌, None, IfOk, IfErr, OnErr};
+ghost use Rattle.inf_token.specs.Files.{Rose};
+ghost use Rattle.inf_work.specs.Works.{work as work_of};
+ghost use Rattle.inf_session.specs.Delivered.{Delivers, TakesFront};
+ghost use Rattle.inf_session.specs.Ending.{finished, seen};
+ghost use Rattle.inf_session.specs.Faults.{IfMessages, IfRead, IfStory};
+
+use crate::ending::{Ending, finish};
+use crate::faults::Fault;
+use inf_lexer::Stack;
+use inf_symbol::sinks::{Sink, write_whole};
+use inf_work::work::Work;
+use std::alloc::Global;
+
+/// How a compilation ended.
+#[derive(Clone, Copy, Debug, PartialEq, Eq)]
+pub enum Status {
+    /// With no error, and a story.
+    Success,
+    /// With errors or a fatal one, and no story.
+    Errors,
+}
+
+/// A story, where no error was found, and how the compilation ended.
+#[derive(Drop)]
+pub struct Compiled {
+    pub story: Option<Vec<u8>>,
+    pub status: Status,
+}
+
+/// Ends the compilation of sources that were read, and writes its last messages.
+pub(crate) fn conclude<M: Sink>(
+    alloc: Global,
+    names: &Stack,
+    serial: &[u8],
+    work: Work,
+    messages: &mut M,
+) -> Result<Compiled, Fault>
+    ensures ok { IfOk result (λ compiled. Delivers (finished serial.now names.now.names (work_of work)) compiled
+        (M.taken messages.old) (M.taken messages.new)) }
+    ensures err { OnErr result (TakesFront (finished serial.now names.now.names (work_of work)).messages (M.taken messages.old) (M.taken messages.new)) }
+    ensures errors { IfOk result (λ compiled. compiled.status ≡ Status.Errors → compiled.story ≡ None) }
+    ensures kind { IfErr result (λ fault. IfRead fault (λ name. ⊥) × IfStory fault (λ n. ⊥)) }
+    ensures messages { IfErr result (λ fault. IfMessages fault (Rose (M.failures messages.old) (M.failures messages.new))) }
+    ensures failures { M.failures messages.old ≤ M.failures messages.new }
+{
+    let ending = finish(alloc, names, serial, work)?;
+    written(ending, messages)
+}
+
+/// Writes the last messages of a compilation.
+pub fn written<M: Sink>(ending: Ending, messages: &mut M) -> Result<Compiled, Fault>
+    ensures ok { IfOk result (λ compiled. Delivers (seen ending) compiled (M.taken messages.old) (M.taken messages.new)) }
+    ensures err { OnErr result (TakesFront (seen ending).messages (M.taken messages.old) (M.taken messages.new)) }
+    ensures kind { IfErr result (λ fault. IfRead fault (λ name. ⊥) × IfStory fault (λ n. ⊥)) }
+    ensures messages { IfErr result (λ fault. IfMessages fault (Rose (M.failures messages.old) (M.failures messages.new))) }
+    ensures failures { M.failures messages.old ≤ M.failures messages.new }
+{
+    match write_whole(messages, ending.messages.as_slice()) {
+        Ok(()) => Ok(Compiled {
+            story: ending.story,
+            status: ending.status,
+        }),
+        Err(_) => Err(Fault::Messages),
+    }
+}

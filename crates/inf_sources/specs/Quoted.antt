@@ -1,0 +1,23 @@
+-- How many bytes are kept of a token that begins with a quote.
+use Rattle.std.specs.Prelude.{◌≡◌, ◌≤◌, ℕ, length, Bool, true, false}
+use Rattle.inf_scanner.specs.Kept.{Kept}
+use Rattle.inf_scanner.specs.declared.tokens.BadToken.TheVariants as bad
+use Rattle.inf_scanner.specs.declared.tokens.TokenKind.{TokenKind}
+use Rattle.inf_scanner.specs.declared.tokens.TokenKind.TheVariants as kind
+
+-- a text or a quote, or what is none for its end, its size or its characters
+abbrev pub is_quoted_kind : TokenKind → Bool
+is_quoted_kind kind.Text = true
+is_quoted_kind (kind.Char c) = true
+is_quoted_kind (kind.Word w) = true
+is_quoted_kind (kind.Bad bad.Unclosed) = true
+is_quoted_kind (kind.Bad bad.EmptyQuote) = true
+is_quoted_kind (kind.Bad bad.UnknownEscape) = true
+is_quoted_kind (kind.Bad bad.NoZscii) = true
+is_quoted_kind (kind.Bad bad.BadCode) = true
+is_quoted_kind (kind.Bad bad.TooLong) = true
+is_quoted_kind _ = false
+
+-- of a quoted token as many as it may have
+abbrev pub KeepsFew : ℕ → TokenKind → Kept → Type 0
+KeepsFew limit k kept = is_quoted_kind k ≡ true → length kept.bytes ≤ limit
