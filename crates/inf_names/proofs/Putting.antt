@@ -1,6 +1,6 @@
 -- What the code does with its map is what the definitions do with the list of names.
 use Rattle.std.proofs.Common.{◌≡◌, ◌≤◌, ℕ, ◌+◌, Bool, true, false, cond, not, ltb, List, [], ◌∷◌, length, map, Option, None, Some, refl, sym, ◌∙◌, ap, arith, zero, suc}
-use Rattle.std.specs.Prelude.{is_some, nat_le, position, slice_get, option_map}
+use Rattle.std.specs.Prelude.{is_some, nat_le, position, slice_get, option_map, if◌then◌else◌}
 use Rattle.std.proofs.lemmas.Bool.Decides.{nat_tests}
 use Rattle.std.specs.Borrow.{Bor}
 use Rattle.std.specs.List.{position_or_len}
@@ -197,3 +197,32 @@ fits_behind limit len new true within is room = omega (arith, within, is)
 fits_behind limit len new false within is room =
     let below : nat_le limit len ≡ false = room refl in
     grind (arith, nat_tests, below, is)
+
+-- what is known of a name stands at its number
+standing_at-index : {P : Type 0} (key : List ℕ) (names : List (Named P)) → is_some (standing_of key names) ≡ true → standing_at (index_of key names) names ≡ standing_of key names
+standing_at-index key [] is = cc
+standing_at-index {P} key (n ∷ names) is = go (bytes_eq key n.name) is (standing_at-index key names)
+  where
+    go : (t : Bool) → is_some (cond t (Some n.standing) (standing_of key names)) ≡ true → (is_some (standing_of key names) ≡ true → standing_at (index_of key names) names ≡ standing_of key names)
+        → standing_at (cond t 0 (index_of key names + 1)) (n ∷ names) ≡ cond t (Some n.standing) (standing_of key names)
+    go true known later = refl
+    go false known later =
+        let next : index_of key names + 1 ≡ suc (index_of key names) = omega arith in
+        ap (λ k. standing_at k (n ∷ names)) next ∙ later known
+
+found_known : {P : Type 0} (system : Option Meaning) (s : Option (Standing P)) → is_some s ≡ true → found_as None s ≡ found_as system s
+found_known system None is = cc
+found_known system (Some (IsUsed spelling place)) is = refl
+found_known system (Some (IsDeclared number meaning place)) is = refl
+
+some_same : (a b : ℕ) → Some a ≡ Some b → a ≡ b
+some_same a b e = cc
+
+pub found_at_number : {P : Type 0} (system : Option Meaning) (key : List ℕ) (names : List (Named P)) (number : ℕ) → Some number ≡ number_among key names → found_as None (standing_at number names) ≡ found_as system (standing_of key names)
+found_at_number {P} system key names number is = go (is_some (standing_of key names)) refl is
+  where
+    go : (t : Bool) → is_some (standing_of key names) ≡ t → Some number ≡ (if t then Some (index_of key names) else None) → found_as None (standing_at number names) ≡ found_as system (standing_of key names)
+    go true known same =
+        let at : number ≡ index_of key names = some_same number (index_of key names) same in
+        ap (λ k. found_as None (standing_at k names)) at ∙ ap (found_as None) (standing_at-index key names known) ∙ found_known system (standing_of key names) known
+    go false known same = cc

@@ -1,5 +1,5 @@
 -- What the code's map of names stands for.
-use Rattle.std.specs.Prelude.{ℕ, List, map}
+use Rattle.std.specs.Prelude.{ℕ}
 use Rattle.arrayvec.specs.declared.array_vec.ArrayVec.{ArrayVec}
 use Rattle.inf_names.specs.Symbols.{Named, Standing, IsDeclared, IsUsed}
 use Rattle.inf_names.specs.declared.symbols.Entry.{Entry}

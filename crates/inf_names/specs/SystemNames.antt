@@ -1,5 +1,7 @@
 -- The names that the language has from the start, and what they stand for (Inform Designer's Manual, fourth edition).
-use Rattle.std.specs.Prelude.{ℕ, Bool, true, false, ◌||◌, List, [], ◌∷◌, Option, Some, None, find, codes, if◌then◌else◌}
+use Rattle.std.specs.Prelude.{ℕ, ◌-◌, Bool, true, ◌&&◌, List, [], ◌∷◌, Option, Some, None, find, codes, get_or, length, nat_eq, if◌then◌else◌}
+use Rattle.std.specs.Char.{to_ascii_lowercase}
+use Rattle.std.specs.List.{list_any}
 use Rattle.std.specs.Str.{str_eq_ignore_ascii_case}
 use Rattle.inf_names.specs.declared.meanings.Function.TheVariants as function
 use Rattle.inf_names.specs.declared.meanings.Meaning.{Meaning}
@@ -70,6 +72,26 @@ has_name spelling known = str_eq_ignore_ascii_case spelling (name_of known)
 
 abbrev pub named : List ℕ → Option SystemName
 named spelling = find (has_name spelling) system_names
+
+-- the first and last letters of the names that have a size
+abbrev pub ends_of : ℕ → List (ℕ × ℕ)
+ends_of size =
+    if nat_eq size 4 then (116, 101) ∷ (110, 108) ∷ (110, 101) ∷ (115, 102) ∷ [] else
+    if nat_eq size 5 then (102, 101) ∷ (99, 115) ∷ (99, 100) ∷ (100, 103) ∷ [] else
+    if nat_eq size 6 then (111, 116) ∷ (115, 103) ∷ (112, 116) ∷ (114, 109) ∷ (115, 114) ∷ [] else
+    if nat_eq size 7 then (110, 103) ∷ (114, 101) ∷ (115, 103) ∷ (115, 114) ∷ [] else
+    if nat_eq size 8 then (119, 101) ∷ (99, 110) ∷ (105, 116) ∷ [] else
+    if nat_eq size 11 then (116, 108) ∷ [] else
+    if nat_eq size 12 then (116, 101) ∷ [] else []
+
+-- whether one of them has these ends
+abbrev pub has_ends : List (ℕ × ℕ) → ℕ → ℕ → Bool
+has_ends ends first last = list_any (λ (e : ℕ × ℕ). nat_eq e.0 first && nat_eq e.1 last) ends
+
+-- whether some name has the size and the ends of this one, in any case
+abbrev pub may_be_known : List ℕ → Bool
+may_be_known spelling =
+    has_ends (ends_of (length spelling)) (to_ascii_lowercase (get_or spelling 0 0)) (to_ascii_lowercase (get_or spelling (length spelling - 1) 0))
 
 -- DEBUG is there only where debugging is on
 abbrev pub is_known : Bool → SystemName → Bool

@@ -122,7 +122,7 @@ fn spelled(name: &[u8]) -> ArrayVec<u8, LONGEST_NAME>
 }
 
 impl<P: Copy> Symbols<P> {
-    ghost use Rattle.inf_names.specs.Symbols.{declare_fault, declare_refusal, declared_before, found_in, folded as key_of, is_full, meaning_in, no_names, number_among, number_of, refer_fault, refer_refusal, standing_at, standing_of, use_in, with_declared, with_used};
+    ghost use Rattle.inf_names.specs.Symbols.{declare_fault, declare_refusal, declared_before, found_as, found_in, folded as key_of, is_full, meaning_in, no_names, number_among, number_of, refer_fault, refer_refusal, standing_at, standing_of, use_in, with_declared, with_used};
     ghost use Rattle.inf_names.specs.Entries.{standing};
 
     /// No names, of which there may be so many. With debugging the language has the name `DEBUG` from the start. It takes no
@@ -206,11 +206,29 @@ impl<P: Copy> Symbols<P> {
         ensures fault { let fault = refer_fault name.now self.old in
             MatchResult result (λ _. fault ≡ None) (λ refused. refused ≡ refer_refusal fault) }
     {
+        let (_, number) = self.find_and_refer(name, place)?;
+        Ok(number)
+    }
+
+    /// Uses a name, as `refer` does, and answers what looking for it found before, with its number.
+    pub fn find_and_refer(
+        &mut self,
+        name: &[u8],
+        place: P,
+    ) -> Result<(Found<P>, Option<usize>), ReferFault>
+        requires { length name.now ≤ 35 }
+        ensures ok { OnOk result (self.new ≡ with_used name.now place self.old) }
+        ensures found { IfOk result (λ r. r.0 ≡ found_in name.now self.old) }
+        ensures number { IfOk result (λ r. r.1 ≡ number_of name.now self.old) }
+        ensures err { OnErr result (self.new ≡ self.old) }
+        ensures fault { let fault = refer_fault name.now self.old in
+            MatchResult result (λ _. fault ≡ None) (λ refused. refused ≡ refer_refusal fault) }
+    {
         if let Some(number) = self.number(name) {
-            return Ok(Some(number));
+            return Ok((self.found_at(number), Some(number)));
         }
-        if system_meaning(name, self.is_debugging).is_some() {
-            return Ok(None);
+        if let Some(meaning) = system_meaning(name, self.is_debugging) {
+            return Ok((Found::System(meaning), None));
         }
         if self.is_full() {
             return Err(ReferFault::Full);
@@ -218,7 +236,18 @@ impl<P: Copy> Symbols<P> {
         let number = self.len();
         self.entries
             .insert(folded(name), Entry::Used(spelled(name), place))?;
-        Ok(Some(number))
+        Ok((Found::Unknown, Some(number)))
+    }
+
+    /// What looking for the name of a number finds.
+    fn found_at(&self, number: usize) -> Found<P>
+        ensures { result ≡ found_as None (standing_at number self.now.names) }
+    {
+        match self.entry_at(number) {
+            Some(Entry::Declared(_, meaning, place)) => Found::Declared(*meaning, *place),
+            Some(Entry::Used(..)) => Found::Used,
+            None => Found::Unknown,
+        }
     }
 
     /// Whether a name, in any case, is one that the language has or one of the first `n` that were declared.

@@ -1,6 +1,7 @@
 //! The names that the language has from the start.
-ghost use Rattle.std.specs.Prelude.{◌≡◌, option_map};
-ghost use Rattle.inf_names.specs.SystemNames.{has_name, is_known, meaning_of, name_of, named, system_meaning, system_names};
+ghost use Rattle.std.specs.Prelude.{◌≡◌, get_or};
+ghost use Rattle.std.specs.Char.{to_ascii_lowercase};
+ghost use Rattle.inf_names.specs.SystemNames.{ends_of, has_ends, has_name, is_known, may_be_known, meaning_of, name_of, named, system_meaning, system_names};
 
 use crate::meanings::{Function, Meaning};
 
@@ -57,6 +58,54 @@ const SYSTEM_NAMES: [SystemName; 22] = [
     SystemName::Debug,
 ];
 
+/// The first and last letters of the names that have a size.
+fn ends_of(size: usize) -> &'static [(u8, u8)]
+    ensures { result.now ≡ ends_of size }
+{
+    match size {
+        4 => &[(b't', b'e'), (b'n', b'l'), (b'n', b'e'), (b's', b'f')],
+        5 => &[(b'f', b'e'), (b'c', b's'), (b'c', b'd'), (b'd', b'g')],
+        6 => &[
+            (b'o', b't'),
+            (b's', b'g'),
+            (b'p', b't'),
+            (b'r', b'm'),
+            (b's', b'r'),
+        ],
+        7 => &[(b'n', b'g'), (b'r', b'e'), (b's', b'g'), (b's', b'r')],
+        8 => &[(b'w', b'e'), (b'c', b'n'), (b'i', b't')],
+        11 => &[(b't', b'l')],
+        12 => &[(b't', b'e')],
+        _ => &[],
+    }
+}
+
+/// Whether one of them has these ends.
+fn has_ends(ends: &[(u8, u8)], first: u8, last: u8) -> bool
+    ensures { result ≡ has_ends ends.now first last }
+{
+    ends.iter().any(|end| end.0 == first && end.1 == last)
+}
+
+/// A letter of a name, made small: 0 where it has none.
+fn letter_at(name: &[u8], place: usize) -> u8
+    ensures { result ≡ to_ascii_lowercase (get_or name.now place 0) }
+{
+    match name.get(place) {
+        Some(byte) => byte.to_ascii_lowercase(),
+        None => 0,
+    }
+}
+
+/// Whether some name has the size and the ends of this one, in any case.
+fn may_be_known(name: &[u8]) -> bool
+    ensures { result ≡ may_be_known name.now }
+{
+    let size = name.len();
+    let (first, last) = (letter_at(name, 0), letter_at(name, size.saturating_sub(1)));
+    has_ends(ends_of(size), first, last)
+}
+
 /// All of them.
 fn all() -> &'static [SystemName]
     ensures { result.now ≡ system_names }
@@ -65,10 +114,14 @@ fn all() -> &'static [SystemName]
 }
 
 impl SystemName {
-    /// The one that is spelled so, in any case.
+    /// The one that is spelled so, in any case. Most names are seen at once to be none, by their size and their ends.
+    #[tactic(auto, using(crate::proofs::Unknown::none_named))]
     pub fn by_name(name: &[u8]) -> Option<SystemName>
         ensures { result ≡ named name.now }
     {
+        if !may_be_known(name) {
+            return None;
+        }
         all().iter().copied().find(|known| known.has_name(name))
     }
 

@@ -1,9 +1,9 @@
 //! What is read of a source, and what was compiled of it: token by token.
-ghost use Rattle.std.specs.Prelude.{◌≡◌, ◌≤◌, IsSome, OnOk, length};
+ghost use Rattle.std.specs.Prelude.{◌≡◌, ◌≤◌, IsSome, None, OnOk, length};
 ghost use Rattle.inf_report.specs.Meant.{located};
 ghost use Rattle.inf_unit.specs.Statements.{name_of};
 ghost use Rattle.inf_unit.specs.Tokens.{spelled};
-ghost use Rattle.inf_work.specs.Works.{work as work_of};
+ghost use Rattle.inf_work.specs.Works.{named_of, number_of, read_of, work as work_of};
 ghost use Rattle.inf_reader.specs.Handing.{hash};
 ghost use Rattle.inf_reader.specs.Reading.{gathering, with_complaint};
 ghost use Rattle.inf_reader.specs.Tests.{complaint_of};
@@ -19,11 +19,12 @@ use inf_lexer::{Place, Stack};
 use inf_report::messages::{Kind, Location};
 use inf_scanner::{Mark, TokenKind};
 use inf_settings::settings::Settings;
-use inf_text::CharSet;
+use inf_symbol::spellings::Name;
+use inf_text::{CharSet, Text};
 use inf_unit::messages::{Messages, location};
-use inf_unit::tokens::{Spelled, is_end, number_of};
-use inf_unit::unit::{Head, name_of};
-use inf_work::work::Work;
+use inf_unit::tokens::{Spelled, is_end};
+use inf_unit::unit::Head;
+use inf_work::work::{Taken, Work};
 use std::alloc::{AllocError, Global};
 
 /// How far a source was read, and what was compiled of it.
@@ -199,9 +200,26 @@ fn gather(
     if let (Some(Head::Directive(..)), TokenKind::Text) = (head, token.kind) {
         return work.gather_quoted(token.bytes);
     }
-    let text = text_of(alloc, work.set(), token)?;
-    work.gather(name_of(token), text, number_of(token.kind));
+    let taken = match token.kind {
+        TokenKind::Name => Taken::Name(Name::new(token.bytes, token.place)),
+        TokenKind::Number(number) => Taken::Number(number),
+        TokenKind::Text => as_text(text_of(alloc, work.set(), token)?),
+        _ => Taken::Other,
+    };
+    work.gather(taken);
     Ok(())
+}
+
+/// A text that has these characters, if it has any.
+fn as_text(text: Option<Text>) -> Taken
+    ensures name { named_of result ≡ None }
+    ensures text { read_of result ≡ text }
+    ensures number { number_of result ≡ None }
+{
+    match text {
+        Some(text) => Taken::Text(text),
+        None => Taken::Other,
+    }
 }
 
 /// Tells what is wrong with a token at a line: a text that is too long ends the compilation.

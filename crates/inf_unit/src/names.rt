@@ -1,8 +1,8 @@
 //! The names of a source, and the routines and constants that they are.
-ghost use Rattle.std.specs.Prelude.{◌≡◌, ◌≤◌, IfOk, OnOk, length, map};
+ghost use Rattle.std.specs.Prelude.{◌≡◌, IfOk, OnOk, map};
 ghost use Rattle.inf_layout.specs.Addresses.{number_of, packed_address};
-ghost use Rattle.inf_names.specs.Symbols.{found_in, meaning_in, standing_at};
-ghost use Rattle.inf_unit.specs.Names.{constant_in, main_of, no_symbols, routine_of, value_among, values, with_all_undeclared};
+ghost use Rattle.inf_names.specs.Symbols.{meaning_in, standing_at};
+ghost use Rattle.inf_unit.specs.Names.{main_of, no_symbols, routine_of, value_among, values, with_all_undeclared};
 
 use crate::messages::{Messages, location};
 use inf_layout::addresses::packed_address;
@@ -56,17 +56,6 @@ pub fn tell_undeclared(
         }
     }
     Ok(())
-}
-
-/// The known number of a name, where it was declared as a constant.
-pub fn constant_named(names: &Symbols<Place>, name: &[u8]) -> Option<u16>
-    requires { length name.now ≤ 35 }
-    ensures { result ≡ constant_in (found_in name.now names.now) }
-{
-    match names.look(name) {
-        Found::Declared(Meaning::Number(number), _) => Some(number),
-        _ => None,
-    }
 }
 
 /// The numbers that stand for all names in a story: of a constant its number, of a routine its packed address.

@@ -9,7 +9,8 @@ ghost use Rattle.inf_work.specs.Units.{Operands, call_fault, is_system_name, kno
 use arrayvec::ArrayVec;
 use inf_area::{Reference, ReferenceKind};
 use inf_lexer::Place;
-use inf_names::symbols::{ReferFault, Symbols};
+use inf_names::meanings::Meaning;
+use inf_names::symbols::{Found, ReferFault, Symbols};
 use inf_names::system_names::system_meaning;
 use inf_opcode::{MOST_OPERANDS, Operand};
 use inf_report::messages::{Message, Told};
@@ -17,7 +18,6 @@ use inf_settings::setting::Setting;
 use inf_symbol::locals::Locals;
 use inf_symbol::spellings::Name;
 use inf_unit::messages::Blame;
-use inf_unit::names::constant_named;
 use std::alloc::AllocError;
 
 /// The most arguments of a call.
@@ -135,12 +135,11 @@ fn operand_of(
     if let Some(number) = locals.number(name.bytes()) {
         return Ok(Operand::Variable(number));
     }
-    if let Some(number) = constant_named(known, name.bytes()) {
-        return Ok(known_number(number));
+    match known.find_and_refer(name.bytes(), name.place)? {
+        (Found::Declared(Meaning::Number(number), _), _) => Ok(known_number(number)),
+        (_, number) => Ok(Operand::Later(Reference {
+            kind: ReferenceKind::PackedAddress,
+            number: number.unwrap_or(0),
+        })),
     }
-    let number = known.refer(name.bytes(), name.place)?;
-    Ok(Operand::Later(Reference {
-        kind: ReferenceKind::PackedAddress,
-        number: number.unwrap_or(0),
-    }))
 }

@@ -35,17 +35,23 @@ use inf_unit::unit::{Head, Statement, Unit};
 use std::alloc::{AllocError, Global};
 use std::mem;
 
+/// A token that was taken, as far as units look at it.
+#[derive(Drop)]
+pub enum Taken {
+    Name(Name),
+    /// The characters of a text.
+    Text(Text),
+    Number(u16),
+    Other,
+}
+
 /// The parts of the unit at hand.
 #[derive(Drop)]
 pub struct Gathered {
     operands: Vec<Name>,
     texts: Vec<Text>,
-    /// The last token, if it is a name.
-    named: Option<Name>,
-    /// The characters of the last token, if it is a text.
-    read: Option<Text>,
-    /// The last token, if it is a number.
-    number: Option<u16>,
+    /// The last token, until it is made a part.
+    last: Taken,
     /// The bytes between the quotes of the last text, where it is one of a directive.
     quoted: Vec<u8>,
 }
@@ -61,9 +67,7 @@ impl Gathered {
         Gathered {
             operands: Vec::new(alloc),
             texts: Vec::new(alloc),
-            named: None,
-            read: None,
-            number: None,
+            last: Taken::Other,
             quoted: Vec::new(alloc),
         }
     }
@@ -74,9 +78,7 @@ impl Gathered {
     {
         self.operands.clear();
         self.texts.clear();
-        self.named = None;
-        self.read = None;
-        self.number = None;
+        self.last = Taken::Other;
         self.quoted.clear();
     }
 
@@ -85,8 +87,9 @@ impl Gathered {
         ensures { let before = gathered self.old in
             OnOk result (gathered self.new ≡ with_operand before.named before) }
     {
-        if let Some(name) = self.named.take() {
-            self.operands.push(name)?;
+        match mem::replace(&mut self.last, Taken::Other) {
+            Taken::Name(name) => self.operands.push(name)?,
+            other => self.last = other,
         }
         Ok(())
     }
@@ -96,8 +99,9 @@ impl Gathered {
         ensures { let before = gathered self.old in
             OnOk result (gathered self.new ≡ with_text before.read before) }
     {
-        if let Some(text) = self.read.take() {
-            self.texts.push(text)?;
+        match mem::replace(&mut self.last, Taken::Other) {
+            Taken::Text(text) => self.texts.push(text)?,
+            other => self.last = other,
         }
         Ok(())
     }
@@ -131,7 +135,7 @@ impl Work {
     ghost use Rattle.inf_work.specs.Actions.{begun_at, carried_out, opened_by, no_work, directive_end, constant, entered, is_replaced, left, replace, words_of, header, header_with, close, statement_end, call, return_of, with_instruction, checked, printed, act, acted};
     ghost use Rattle.inf_unit.specs.Directives.{Nothing, Include, asked, asks, weight_of};
     ghost use Rattle.inf_unit.specs.AtHand.{unit};
-    ghost use Rattle.inf_work.specs.Works.{gathered, work};
+    ghost use Rattle.inf_work.specs.Works.{gathered, named_of, number_of, read_of, work};
 
     /// Before the first unit of sources in a character set. It takes no memory until something is read.
     pub fn new(alloc: Global, set: CharSet, settings: &Settings) -> Work
@@ -160,15 +164,13 @@ impl Work {
         self.set
     }
 
-    /// A token was taken, which is this name or number, or has these characters, if it is a name, a number or a text.
-    pub fn gather(&mut self, named: Option<Name>, text: Option<Text>, number: Option<u16>)
+    /// A token was taken.
+    pub fn gather(&mut self, token: Taken)
         ensures { let before = work self.old in work self.new ≡ record before {
-          gathered = record before.gathered { named = option_map as_name named; read = text; number = number };
+          gathered = record before.gathered { named = named_of token; read = read_of token; number = number_of token };
         } }
     {
-        self.gathered.named = named;
-        self.gathered.read = text;
-        self.gathered.number = number;
+        self.gathered.last = token;
     }
 
     /// A text of a directive was taken, which has these bytes between its quotes.
@@ -176,7 +178,7 @@ impl Work {
         ensures { let before = work self.old in OnOk result (work self.new
             ≡ record before { gathered = record before.gathered { named = None; read = None; number = None; quoted = bytes.now } }) }
     {
-        self.gather(None, None, None);
+        self.gather(Taken::Other);
         self.gathered.quoted.clear();
         self.gathered.quoted.extend_from_slice(bytes)
     }
@@ -437,7 +439,10 @@ impl Work {
         let Some(name) = names.first() else {
             return Ok(());
         };
-        let number = self.gathered.number.unwrap_or(0);
+        let number = match self.gathered.last {
+            Taken::Number(number) => number,
+            Taken::Name(_) | Taken::Text(_) | Taken::Other => 0,
+        };
         let refused = declare(&mut self.names, name, Meaning::Number(number))?;
         self.report
             .fault(files, unit, name_fault(files, name, refused))?;

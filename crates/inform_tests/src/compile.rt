@@ -1,17 +1,12 @@
-use crate::devices::{Narrow, folder};
-use inf_compile::compile::compile;
 use inf_compile::{Fault, Status};
 use inf_symbol::memory_sink::MemorySink;
-use inf_symbol::sinks::Sink;
-use inf_token::files::Files;
 use inf_token::memory_files::MemoryFiles;
-use inf_words::command_line::CommandLine;
+use inform_trials::devices::{Narrow, folder};
+use inform_trials::running::run;
 use std::alloc::Global;
 use std::collections::BTreeMap;
 use std::process::Abort;
 use std::test::Fail;
-
-const DATE: [u8; 6] = *b"260307";
 
 pub const GREETING: &[u8] = b"[ Main; print \"hello\"; ];";
 
@@ -20,17 +15,6 @@ pub const GREETING_SIZES: [u8; 4] = [0x00, 0xF4, 0x1E, 0x6D];
 /// The code of the greeting.
 pub const GREETING_CODE: &[u8] =
     b"\x00\x8F\x00\xF2\xBA\x00\x00\x00\x00\xB2\x35\x51\xC6\x85\xB0\x00";
-
-/// Compiles `t.inf`.
-pub fn run<F: Files, M: Sink, S: Sink>(
-    alloc: Global,
-    files: &mut F,
-    messages: &mut M,
-    story: &mut S,
-) -> Result<Result<Status, Fault>, Fail> {
-    let options = CommandLine::read(&["t.inf"])?;
-    Ok(compile(alloc, &options, DATE, files, messages, story))
-}
 
 /// Compiles a source, asserts its status and all its messages, and that there is a story only
 /// where there is no error. Gives the story.

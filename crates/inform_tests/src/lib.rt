@@ -1,19 +1,7 @@
-//! Tests of the compiler, over files and devices in memory.
+//! Tests of the compiler, over a source and devices in memory.
 #![tactic(auto)]
 
 #[cfg(test)]
 mod compile;
 #[cfg(test)]
-mod conditionals;
-#[cfg(test)]
-mod devices;
-#[cfg(test)]
-mod faults;
-#[cfg(test)]
-mod including;
-#[cfg(test)]
 mod reading;
-#[cfg(test)]
-mod replacing;
-#[cfg(test)]
-mod steps;

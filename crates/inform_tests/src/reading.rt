@@ -1,8 +1,9 @@
 //! How a source is read: through a window, to its end or to a fatal error, whatever a read gives.
-use crate::compile::{GREETING, GREETING_CODE, GREETING_SIZES, run, story_of, story_with};
-use crate::devices::Slow;
+use crate::compile::{GREETING, GREETING_CODE, GREETING_SIZES, story_of, story_with};
 use inf_compile::{Fault, Status};
 use inf_symbol::memory_sink::MemorySink;
+use inform_trials::devices::Slow;
+use inform_trials::running::run;
 use std::alloc::Global;
 use std::process::Abort;
 use std::test::Fail;

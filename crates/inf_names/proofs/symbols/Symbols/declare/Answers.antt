@@ -1,10 +1,10 @@
 -- A name is declared in its place or behind the others, and one more is.
-use Rattle.std.proofs.Common.{◌≡◌, ◌≤◌, ◌+◌, cond, List, sym, ◌∙◌, ap, subst, arith, Bool, true, false, length, map, None, Some}
+use Rattle.std.proofs.Common.{◌≡◌, ◌+◌, cond, List, sym, ◌∙◌, ap, arith, false, length, map, None}
 use Rattle.std.proofs.lemmas.List.{length-map}
 use Rattle.std.specs.Prelude.{is_some, nat_le}
 use Rattle.inf_names.specs.Entries.{as_named}
 use Rattle.inf_names.specs.SystemNames.{system_meaning}
-use Rattle.inf_names.specs.Symbols.{Named, Table, IsDeclared, declarations, declare_fault, folded, put, standing_of, with_declared}
+use Rattle.inf_names.specs.Symbols.{Named, IsDeclared, declarations, declare_fault, folded, put, standing_of, with_declared}
 use Rattle.inf_names.proofs.Putting.{declarations-declared, declarations-few, fits_behind, length-put, open_where_fit, put-insert, room_where_fit}
 use Rattle.inf_names.proofs.symbols.Symbols.declare.Goals as goal
 

@@ -1,12 +1,12 @@
 -- A new name is used behind the others.
-use Rattle.std.proofs.Common.{◌≡◌, ◌≤◌, ◌+◌, cond, List, sym, ◌∙◌, ap, subst, arith, Bool, true, false, length, map, None, Some}
+use Rattle.std.proofs.Common.{◌≡◌, ◌+◌, cond, List, sym, ◌∙◌, ap, false, length, map, Some}
 use Rattle.std.proofs.lemmas.List.{length-map}
 use Rattle.std.specs.Prelude.{is_some, nat_le}
 use Rattle.inf_names.specs.Entries.{as_named}
 use Rattle.inf_names.specs.SystemNames.{system_meaning}
 use Rattle.inf_names.specs.Symbols.{Named, Table, IsUsed, declarations, folded, is_full, number_of, put, standing_of, with_used}
-use Rattle.inf_names.proofs.Putting.{declarations-used, fits_behind, index_of-absent, length-put, new_number, new_used, not_numbered, put-insert}
-use Rattle.inf_names.proofs.symbols.Symbols.refer.Goals as goal
+use Rattle.inf_names.proofs.Putting.{declarations-used, fits_behind, found_at_number, index_of-absent, length-put, new_number, new_used, not_numbered, put-insert}
+use Rattle.inf_names.proofs.symbols.Symbols.find_and_refer.Goals as goal
 
 pub invariant_of-self-2 : goal.invariant_of-self-2
 invariant_of-self-2 g c =
@@ -40,7 +40,7 @@ returns-clause-ok g c =
     let t : Table _ = record { names = names; declared = inside.declared; limit = inside.limit; is_debugging = inside.is_debugging } in
     let absent : is_some (standing_of key names) ≡ false =
     ap (λ (t : Table _). is_some (standing_of key t.names)) c.self.view_is ∙ not_numbered key c.args.self.now.names c.in_default.ensures in
-    let free : is_some system ≡ false = ap is_some (sym c.system_meaning.ensures) ∙ sym c.is_some.ensures ∙ c.if-is_some.false in
+    let free : is_some system ≡ false = ap is_some (sym c.in_default-system_meaning.ensures) in
     let is : map as_named c.insert.new.self.entries ≡ put key (IsUsed c.args.name.now c.args.place) names =
     ap (map as_named) c.in_ok-insert.ensures.entries ∙ put-insert _ _ es
     ∙ ap (λ k. put k (IsUsed c.spelled.result.items c.args.place) names) c.folded.ensures ∙ ap (λ s. put key (IsUsed s c.args.place) names) c.spelled.ensures in
@@ -58,7 +58,13 @@ returns-clause-number g c =
     let t : Table _ = record { names = names; declared = inside.declared; limit = inside.limit; is_debugging = inside.is_debugging } in
     let absent : is_some (standing_of key names) ≡ false =
     ap (λ (t : Table _). is_some (standing_of key t.names)) c.self.view_is ∙ not_numbered key c.args.self.now.names c.in_default.ensures in
-    let free : is_some system ≡ false = ap is_some (sym c.system_meaning.ensures) ∙ sym c.is_some.ensures ∙ c.if-is_some.false in
+    let free : is_some system ≡ false = ap is_some (sym c.in_default-system_meaning.ensures) in
     ap Some (c.len-number.ensures.count ∙ ap (λ (t : Table _). length t.names) (sym c.self.view_is) ∙ sym (index_of-absent key names absent))
     ∙ sym (new_number c.args.name.now c.args.place t system (standing_of key names) free absent)
     ∙ ap (number_of c.args.name.now) c.self.view_is
+
+pub returns-in-Some-clause-found : goal.returns-in-Some-clause-found
+returns-in-Some-clause-found g c =
+    let t = c.args.self.now in
+    c.found_at.ensures
+    ∙ found_at_number (system_meaning t.is_debugging c.args.name.now) (folded c.args.name.now) t.names c.in-Some.number (sym c.in-Some.is ∙ c.number.ensures)

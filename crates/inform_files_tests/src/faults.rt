@@ -1,8 +1,8 @@
 //! Each call of a device fails in turn, on a source with an included file and conditionals.
-use crate::compile::run;
-use crate::devices::{Fused, Narrow, folder_of};
 use inf_compile::{Fault, Status};
 use inf_symbol::memory_sink::MemorySink;
+use inform_trials::devices::{Fused, Narrow, folder_of};
+use inform_trials::running::run;
 use std::test::Fail;
 
 /// A source and a file that it includes.

@@ -1,10 +1,10 @@
 //! Routines that are replaced, and warnings that are not told.
-use crate::compile::run;
-use crate::devices::folder_of;
 use inf_compile::Status;
 use inf_compile::compile::compile;
 use inf_symbol::memory_sink::MemorySink;
 use inf_words::command_line::CommandLine;
+use inform_trials::devices::folder_of;
+use inform_trials::running::run;
 use std::test::Fail;
 
 /// Files of a folder, with all messages of `t.inf` among them.

@@ -21,6 +21,7 @@ pub struct Narrow {
 }
 
 impl Narrow {
+    /// Nothing was taken yet.
     pub fn new(alloc: Global, most: usize, room: usize) -> Narrow {
         Narrow {
             whole: MemorySink::new(alloc),
@@ -158,6 +159,7 @@ pub struct Locked<'a> {
 }
 
 impl<'a> Locked<'a> {
+    /// These files, of which the one of this name cannot be opened.
     pub fn new(files: MemoryFiles, locked: &'a str) -> Locked<'a> {
         Locked {
             files,
@@ -207,6 +209,7 @@ pub struct Fused {
 }
 
 impl Fused {
+    /// These files, of which the call behind so many fails.
     pub fn new(files: MemoryFiles, calls: usize) -> Fused {
         Fused {
             files,

@@ -1,8 +1,8 @@
 //! Conditionals: which tokens of a source are read, and what is told of one without its other end.
-use crate::compile::run;
-use crate::devices::folder_of;
 use inf_compile::Status;
 use inf_symbol::memory_sink::MemorySink;
+use inform_trials::devices::folder_of;
+use inform_trials::running::run;
 use std::test::Fail;
 
 /// Files of a folder, with all messages of `t.inf` among them.

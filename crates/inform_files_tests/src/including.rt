@@ -1,8 +1,8 @@
 //! Files that include one another, and messages that are written as they are found.
-use crate::compile::run;
-use crate::devices::{Locked, Slow, folder_of};
 use inf_compile::{Fault, Status};
 use inf_symbol::memory_sink::MemorySink;
+use inform_trials::devices::{Locked, Slow, folder_of};
+use inform_trials::running::run;
 use std::test::Fail;
 
 /// Files of a folder, with all messages of `t.inf` among them.

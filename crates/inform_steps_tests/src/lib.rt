@@ -1,0 +1,5 @@
+//! Tests of a compilation in steps.
+#![tactic(auto)]
+
+#[cfg(test)]
+mod steps;

@@ -1,0 +1,250 @@
+//! The steps of a session, what was told behind each, and how much there is then of what the settings bound.
+ghost use Rattle.std.specs.Prelude.{◌≡◌, ◌<◌, IfOk, OnOk, length, false};
+ghost use Rattle.inf_session.specs.Standing.{IsSet};
+
+use inf_compile::Status;
+use inf_session::compiled::Compiled;
+use inf_session::session::{Session, Step};
+use inf_session::setup::Setup;
+use inf_settings::setting::Setting;
+use inf_settings::settings::Settings;
+use inf_sources::open_files::OpenFiles;
+use inf_symbol::memory_sink::MemorySink;
+use inf_text::CharSet;
+use inf_token::files::Files;
+use inf_token::memory_files::MemoryFiles;
+use inform_trials::devices::folder;
+use std::alloc::{AllocError, Global};
+use std::process::Abort;
+use std::test::Fail;
+
+const SOURCE: &[u8] =
+    b"Message \"abc\"; [ Main; F(); F(); ];\nIfdef K; Message \"long\"; Ifnot; Constant K; Message \"e\"; Endif;\n[ F; print \"hello\"; ];\n5;";
+
+/// Sides between directives and inside a routine, with a `#` before their words and without.
+const SIDES: &[u8] =
+    b"Constant K;\nIfdef L; Constant A; #Endif; Ifndef K;\nMessage \"x\";\n#Ifnot; Message \"y\"; Endif; [ Main; #Ifdef L; print \"a\"; #Ifnot; print \"b\"; #Endif; ];\n";
+
+/// The lines behind the bad token.
+const BAD: &str = "abc\ne\nt.inf(4): Error: Syntax error at \"5\"\n";
+
+/// The lines behind a bad token that is the whole source.
+const FIVE: &str = "t.inf(1): Error: Syntax error at \"5\"\n";
+
+/// A session with its devices.
+#[derive(Drop)]
+struct Run<'a, F: Files> {
+    session: Session<'a>,
+    files: F,
+    messages: MemorySink,
+}
+
+impl<'a, F: Files> Run<'a, F> {
+    /// Makes a step, and answers what it comes to.
+    fn go_on(&mut self) -> Result<Step, Fail>
+        requires is_open { length self.old.session.open_files.outer < F.depth self.old.files }
+        requires goes { self.old.session.open_files.lexer.has_failed ≡ false }
+        requires set { IsSet self.old.session }
+        ensures is_open { length self.new.session.open_files.outer < F.depth self.new.files }
+        ensures goes { OnOk result (self.new.session.open_files.lexer.has_failed ≡ false) }
+        ensures set { IsSet self.new.session }
+    {
+        let came = self.session.step(&mut self.files, &mut self.messages)?;
+        Ok(came)
+    }
+
+    /// Makes a step, and asserts what it comes to, the messages behind it, and the longest quoted token, the names, the bytes of
+    /// code, and the references then.
+    fn step(
+        &mut self,
+        rt: &impl Abort,
+        wanted: Step,
+        lines: &str,
+        counts: [usize; 4],
+    ) -> Result<(), Fail>
+        requires is_open { length self.old.session.open_files.outer < F.depth self.old.files }
+        requires goes { self.old.session.open_files.lexer.has_failed ≡ false }
+        requires set { IsSet self.old.session }
+        ensures is_open { length self.new.session.open_files.outer < F.depth self.new.files }
+        ensures goes { OnOk result (self.new.session.open_files.lexer.has_failed ≡ false) }
+        ensures set { IsSet self.new.session }
+    {
+        let came = self.go_on()?;
+        let [quoted, names, code, references] = counts;
+        let held = [
+            quoted, 0, names, 0, 0, 0, 0, 0, 0, 0, 0, 0, code, 0, references,
+        ];
+        assert_eq!(rt; came == wanted, true, "{lines:?}");
+        assert_eq!(rt; self.messages.bytes(), lines.as_bytes());
+        assert_eq!(rt; self.session.held(), held, "{lines:?}");
+        Ok(())
+    }
+}
+
+impl<'a, F: Files + Drop> Run<'a, F> {
+    /// Ends the session and closes its files. Gives what was compiled, and all messages.
+    fn finish(self) -> Result<(Compiled, MemorySink), Fail>
+        requires is_open { length self.session.open_files.outer < F.depth self.files }
+    {
+        let Run {
+            session,
+            mut files,
+            mut messages,
+        } = self;
+        let (open_files, compiled) = session.finish(b"260307", &mut messages);
+        open_files.close(&mut files);
+        Ok((compiled?, messages))
+    }
+}
+
+/// A session at the front of `t.inf`.
+fn begin<'a, F: Files>(
+    alloc: Global,
+    settings: &'a Settings,
+    files: &mut F,
+) -> Result<Session<'a>, Fail>
+    ensures is_open { IfOk result (λ session. length session.open_files.outer < F.depth files.new) }
+    ensures goes { IfOk result (λ session. session.open_files.lexer.has_failed ≡ false) }
+    ensures set { IfOk result (λ session. IsSet session) }
+{
+    let limit = settings.of(Setting::QuotedText);
+    let open_files = OpenFiles::enter_main(alloc, CharSet::Latin1, limit, files, "t.inf")?;
+    let setup = Setup {
+        set: CharSet::Latin1,
+        has_warnings: true,
+        settings,
+        directories: &[],
+    };
+    let Ok(session) = Session::new(alloc, setup, open_files) else {
+        return Err(AllocError.into());
+    };
+    Ok(session)
+}
+
+impl<'a> Run<'a, MemoryFiles> {
+    /// A session at the front of a source.
+    fn begin(
+        alloc: Global,
+        settings: &'a Settings,
+        source: &[u8],
+    ) -> Result<Run<'a, MemoryFiles>, Fail>
+        ensures is_open { IfOk result (λ run. length run.session.open_files.outer < length run.files.openings.open_places) }
+        ensures goes { IfOk result (λ run. run.session.open_files.lexer.has_failed ≡ false) }
+        ensures set { IfOk result (λ run. IsSet run.session) }
+    {
+        let mut files = folder(alloc, source)?;
+        let session = begin(alloc, settings, &mut files)?;
+        Ok(Run {
+            session,
+            files,
+            messages: MemorySink::new(alloc),
+        })
+    }
+}
+
+/// What a step comes to, the messages behind it, and the longest quoted token, the names, the bytes of code, and the references then.
+type Wanted = (Step, &'static str, [usize; 4]);
+
+/// All steps of the source.
+const STEPS: [Wanted; 12] = [
+    (Step::More, "abc\n", [3, 0, 8, 5]),
+    (Step::More, "abc\n", [3, 2, 16, 7]),
+    // a conditional with the side that it leaves out, and the directive behind this side
+    (Step::More, "abc\n", [3, 2, 16, 7]),
+    (Step::More, "abc\n", [3, 2, 16, 7]),
+    (Step::More, "abc\n", [3, 3, 16, 7]),
+    (Step::More, "abc\ne\n", [3, 3, 16, 7]),
+    (Step::More, "abc\ne\n", [3, 3, 16, 7]),
+    (Step::More, "abc\ne\n", [5, 3, 24, 7]),
+    (Step::More, BAD, [5, 3, 24, 7]),
+    // the end of the file
+    (Step::More, BAD, [5, 3, 24, 7]),
+    // behind the end nothing is read
+    (Step::End, BAD, [5, 3, 24, 7]),
+    (Step::End, BAD, [5, 3, 24, 7]),
+];
+
+/// All steps of the source of conditionals.
+const CHOICES: [Wanted; 10] = [
+    (Step::More, "", [0, 1, 8, 5]),
+    (Step::More, "", [0, 1, 8, 5]),
+    (Step::More, "", [0, 1, 8, 5]),
+    (Step::More, "", [0, 1, 8, 5]),
+    (Step::More, "", [0, 1, 8, 5]),
+    (Step::More, "y\n", [1, 1, 8, 5]),
+    (Step::More, "y\n", [1, 1, 8, 5]),
+    // sides inside a routine are part of it
+    (Step::More, "y\n", [1, 2, 16, 5]),
+    (Step::More, "y\n", [1, 2, 16, 5]),
+    (Step::End, "y\n", [1, 2, 16, 5]),
+];
+
+/// All steps of a bad piece.
+const BAD_STEPS: [Wanted; 3] = [
+    (Step::More, FIVE, [0, 0, 0, 4]),
+    (Step::More, FIVE, [0, 0, 0, 4]),
+    (Step::End, FIVE, [0, 0, 0, 4]),
+];
+
+/// Makes these steps, one after the other.
+fn make_steps<F: Files>(
+    rt: &impl Abort,
+    run: &mut Run<'_, F>,
+    wanted: &[Wanted],
+) -> Result<(), Fail>
+    requires is_open { length run.old.session.open_files.outer < F.depth run.old.files }
+    requires goes { run.old.session.open_files.lexer.has_failed ≡ false }
+    requires set { IsSet run.old.session }
+    ensures is_open { length run.new.session.open_files.outer < F.depth run.new.files }
+{
+    for (step, lines, counts) in wanted {
+        run.step(rt, *step, *lines, *counts)?;
+    }
+    Ok(())
+}
+
+#[test]
+fn a_side_that_is_left_out_is_part_of_its_directive(rt: HostRuntime) -> Result<(), Fail> {
+    let settings = Settings::new();
+    let mut run = Run::begin(rt.alloc(), &settings, SIDES)?;
+    make_steps(&rt, &mut run, &CHOICES)
+}
+
+/// Where the references in tables alone would pass their setting, nothing is read.
+#[test]
+fn references_in_tables_are_told_first(rt: HostRuntime) -> Result<(), Fail> {
+    let mut settings = Settings::new();
+    settings.set(b"MAX_REFS", 3)?;
+    let mut run = Run::begin(rt.alloc(), &settings, b"\n\n5;")?;
+    let step = run.go_on()?;
+    assert_eq!(rt; step == Step::Fatal, true);
+    let (compiled, messages) = run.finish()?;
+    assert_eq!(rt; compiled.status == Status::Errors, true);
+    assert_eq!(rt;
+        messages.bytes(),
+        "t.inf(1): Fatal error: MAX_REFS is exceeded\n".as_bytes()
+    );
+    Ok(())
+}
+
+#[test]
+fn a_step_reads_one_part(rt: HostRuntime) -> Result<(), Fail> {
+    let settings = Settings::new();
+    let mut run = Run::begin(rt.alloc(), &settings, SOURCE)?;
+    make_steps(&rt, &mut run, &STEPS)
+}
+
+/// Behind the last step a session ends with the last line.
+#[test]
+fn a_session_is_finished(rt: HostRuntime) -> Result<(), Fail> {
+    let settings = Settings::new();
+    let mut run = Run::begin(rt.alloc(), &settings, b"5;")?;
+    make_steps(&rt, &mut run, &BAD_STEPS)?;
+    let (compiled, messages) = run.finish()?;
+    assert_eq!(rt; compiled.status == Status::Errors, true);
+    assert_eq!(rt; compiled.story.is_none(), true);
+    let lines =
+        "t.inf(1): Error: Syntax error at \"5\"\nt.inf(1): Error: No routine \"Main\"\nErrors: 2, warnings: 0 (no output)\n";
+    assert_eq!(rt; messages.bytes(), lines.as_bytes());
+    Ok(())
+}

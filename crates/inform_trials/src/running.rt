@@ -1,0 +1,22 @@
+//! A compilation that tests look at.
+use inf_compile::compile::compile;
+use inf_compile::{Fault, Status};
+use inf_symbol::sinks::Sink;
+use inf_token::files::Files;
+use inf_words::command_line::CommandLine;
+use std::alloc::Global;
+use std::test::Fail;
+
+/// The date of the stories.
+const DATE: [u8; 6] = *b"260307";
+
+/// Compiles `t.inf`.
+pub fn run<F: Files, M: Sink, S: Sink>(
+    alloc: Global,
+    files: &mut F,
+    messages: &mut M,
+    story: &mut S,
+) -> Result<Result<Status, Fault>, Fail> {
+    let options = CommandLine::read(&["t.inf"])?;
+    Ok(compile(alloc, &options, DATE, files, messages, story))
+}
