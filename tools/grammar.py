@@ -1,17 +1,17 @@
 """Makes the tables of the grammar from its page, docs/grammar.txt.
 
-    python3 tools/grammar.py            writes the tables into crates/inf_grammar
+    python3 tools/grammar.py            writes the tables into crates/inf_syntax and crates/inf_grammar
     python3 tools/grammar.py check      tells which of them are not what the page says
 
 The page has classes of tokens and rules (its head explains the notation). Made of it are:
 
-    specs/Words.antt     the words of the grammar
-    specs/Classes.antt   the classes, as sets of atoms
-    specs/Parts.antt     a name for each part of a row
-    specs/Table*.antt    the rows, rule by rule
-    specs/Facts.antt     what begins and follows each rule, whether it can be empty, and how many steps lead through it
-    src/words.rt, src/table.rt     the same for the program
-    src/actions.rt, src/starts.rt  the actions, and the rules that reading may start with
+    inf_syntax/specs/Words.antt     the words of the grammar
+    inf_syntax/specs/Classes.antt   the classes, as sets of atoms
+    inf_syntax/specs/Parts.antt     a name for each part of a row
+    inf_syntax/specs/Table*.antt    the rows, rule by rule
+    inf_grammar/specs/Facts.antt    what begins and follows each rule, whether it can be empty, and how many steps lead through it
+    inf_syntax/src/words.rt, inf_grammar/src/table.rt     the same for the program
+    inf_syntax/src/actions.rt, inf_grammar/src/starts.rt  the actions, and the rules that reading may start with
 
 Nobody has to trust this script: that the program's tables are those of specs/, and that the facts hold of the rows, is proved.
 """
@@ -21,7 +21,7 @@ import re
 import sys
 
 HERE = os.path.dirname(os.path.dirname(os.path.abspath(__file__)))
-CRATE = os.path.join(HERE, "crates", "inf_grammar")
+CRATES = os.path.join(HERE, "crates")
 
 MARKS = {
     "->": "Arrow", "-->": "LongArrow", "-": "Minus", "--": "Decrement", "+": "Plus", "++": "Increment",
@@ -251,7 +251,7 @@ def rule_name(rule):
 
 
 class Tables:
-    """The files, by their paths in the crate."""
+    """The files, by their paths among the crates."""
 
     def __init__(self, page):
         self.page = page
@@ -265,10 +265,10 @@ class Tables:
 
     def files(self):
         made = {
-            "specs/Words.antt": self.words_spec(), "specs/Classes.antt": self.classes_spec(),
-            "specs/Parts.antt": self.parts_spec(), "specs/Facts.antt": self.facts_spec(),
-            "src/words.rt": self.words_code(), "src/table.rt": self.table_code(),
-            "src/actions.rt": self.actions_code(), "src/starts.rt": self.starts_code(),
+            "inf_syntax/specs/Words.antt": self.words_spec(), "inf_syntax/specs/Classes.antt": self.classes_spec(),
+            "inf_syntax/specs/Parts.antt": self.parts_spec(), "inf_grammar/specs/Facts.antt": self.facts_spec(),
+            "inf_syntax/src/words.rt": self.words_code(), "inf_grammar/src/table.rt": self.table_code(),
+            "inf_syntax/src/actions.rt": self.actions_code(), "inf_grammar/src/starts.rt": self.starts_code(),
         }
         made.update(self.table_specs())
         return made
@@ -291,7 +291,7 @@ class Tables:
     def classes_spec(self):
         out = ["-- The classes of tokens, as sets of atoms. Made from docs/grammar.txt.",
                "use Rattle.std.specs.Prelude.{ℕ, List, [], ◌∷◌, codes}",
-               "use Rattle.inf_grammar.specs.Atoms.{of_mark, of_word, name, classname, number, char, word_literal, text, joined, without}",
+               "use Rattle.inf_syntax.specs.Atoms.{of_mark, of_word, name, classname, number, char, word_literal, text, joined, without}",
                "use Rattle.inf_scanner.specs.declared.tokens.Mark.TheVariants as mark", ""]
         for kind, made in self.page.classes.items():
             out += [f"abbrev pub {kind.lower()} : ℕ", f"{kind.lower()} = {self.made_term(made)}", ""]
@@ -340,8 +340,8 @@ class Tables:
                "-- Made from docs/grammar.txt.",
                "use Rattle.inf_machine.specs.declared.symbols.Symbol.{Symbol}",
                "use Rattle.inf_machine.specs.declared.symbols.Symbol.TheVariants.{Token, Rule, Act}",
-               "use Rattle.inf_grammar.specs.declared.actions.Action.{Action}",
-               "use Rattle.inf_grammar.specs.declared.actions.Action.TheVariants as action", ""]
+               "use Rattle.inf_syntax.specs.declared.actions.Action.{Action}",
+               "use Rattle.inf_syntax.specs.declared.actions.Action.TheVariants as action", ""]
         terms = [(part, f"Token {number}") for number, part in enumerate(self.tokens)]
         terms += [(part, f"Act action.{action(part)}") for part in self.actions]
         terms += [(rule, f"Rule {number}") for rule, number in self.rule_numbers.items()]
@@ -366,16 +366,16 @@ class Tables:
             out = ["-- The rows of some rules. Made from docs/grammar.txt.",
                    "use Rattle.std.specs.Prelude.{List, [], ◌∷◌}",
                    "use Rattle.inf_machine.specs.Grammar.{Row}",
-                   "use Rattle.inf_grammar.specs.declared.actions.Action.{Action}",
-                   "use Rattle.inf_grammar.specs.Rows.{row, row_unless}" if any(r in self.page.preferences for r in chunk) else "use Rattle.inf_grammar.specs.Rows.{row}",
-                   "use Rattle.inf_grammar.specs.Parts.{" + ", ".join(used) + "}", "",
+                   "use Rattle.inf_syntax.specs.declared.actions.Action.{Action}",
+                   "use Rattle.inf_syntax.specs.Rows.{row, row_unless}" if any(r in self.page.preferences for r in chunk) else "use Rattle.inf_syntax.specs.Rows.{row}",
+                   "use Rattle.inf_syntax.specs.Parts.{" + ", ".join(used) + "}", "",
                    f"abbrev pub rules_{number} : List (List (Row Action))", f"rules_{number} ="]
             for at, rule in enumerate(chunk):
                 rows = self.page.rules[rule]
                 head = "    " + ("∷ " if at else "")
                 out.append(f"    -- {rule_name(rule)}")
                 out.append(head + "(" + "\n        ∷ ".join(self.row_term(rule, row) for row in rows) + "\n        ∷ [])")
-            made[f"specs/Table{number}.antt"] = "\n".join(out + ["    ∷ []", ""])
+            made[f"inf_syntax/specs/Table{number}.antt"] = "\n".join(out + ["    ∷ []", ""])
         return made
 
     def facts_spec(self):
@@ -431,8 +431,8 @@ class Tables:
                          f"rows: {span_code(first, len(rows))}, other: {other} }}")
         classes = [set_code(self.atoms.of(part)) for part in self.tokens]
         head = ("//! The grammar as the machine reads it, in numbers. Made from docs/grammar.txt.\n"
-                "use crate::actions::Action as Do;\nuse crate::rules::{Row, Rule, Set, Span};\n"
-                "use inf_machine::Symbol::{self, Act, Rule as Text, Token};\n")
+                "use crate::rules::{Row, Rule, Set, Span};\n"
+                "use inf_machine::Symbol::{self, Act, Rule as Text, Token};\nuse inf_syntax::Action as Do;\n")
         return (head + static("CLASSES", "The atoms of each class.", "Set", classes)
                 + static("PARTS", "The parts of all rows, row by row, the last part of a row first.", "Symbol<Do>", parts, 8)
                 + static("ROWS", "All rows, rule by rule.", "Row", rows)
@@ -470,7 +470,7 @@ def span_code(start, end):
 
 
 def slot(word):
-    """The slot of a word, as specs/Tables.antt and src/atoms.rt have it: by its size and its first, third and last letter."""
+    """The slot of a word, as specs/Slots.antt and src/atoms.rt of inf_syntax have it: by its size and its first, third and last letter."""
     letters = [ord(letter) % 32 for letter in word] + [0, 0]
     return (letters[0] + 5 * letters[2] + 61 * letters[len(word) - 1] + 16 * (len(word) % 16)) % SLOTS
 
@@ -492,7 +492,7 @@ def main(words):
         files = Tables(Page(page.read())).files()
     wrong = 0
     for path, text in files.items():
-        place = os.path.join(CRATE, path)
+        place = os.path.join(CRATES, path)
         if words == ["check"]:
             with open(place, encoding="utf-8") as file:
                 if bare(file.read()) != bare(text):

@@ -3,3 +3,4 @@ pub mod Cuts
 pub mod Faults
 pub mod Pairs
 pub mod Pieces
+pub mod Plain

@@ -165,3 +165,7 @@ Reads set mode bytes (Err UnknownEscape) = text_of set mode bytes ≡ Err Unknow
 Reads set mode bytes (Err NoZscii) = text_of set mode bytes ≡ Err NoZscii
 Reads set mode bytes (Err BadCode) = text_of set mode bytes ≡ Err BadCode
 Reads set mode bytes (Err Memory) = HoldsItems set mode bytes
+
+-- a byte of a text that is a character or white space by itself, in both character sets and in each mode
+abbrev pub is_plain : ℕ → Bool
+is_plain b = nat_le 32 b && nat_le b 126 && not (b == 64)

@@ -10,5 +10,5 @@ mod reading;
 mod texts;
 
 pub use characters::{CharSet, Zscii, is_line_end, is_white, source_char};
-pub use reading::{Mode, TextFault, read_text};
+pub use reading::{Mode, TextFault, are_plain, read_text};
 pub use texts::{Text, TextItem};

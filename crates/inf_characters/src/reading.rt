@@ -1,9 +1,12 @@
 //! How the bytes of a source are read as a text.
-ghost use Rattle.std.specs.Prelude.{◌≡◌, ◌<◌, ◌≤◌, ◌^◌, ◌∷◌, ◌++◌, IfErr, IfOk, OnOk, length, replicate, false};
-ghost use Rattle.std.specs.List.{list_any};
+ghost use Rattle.std.specs.Prelude.{◌≡◌, ◌<◌, ◌≤◌, ◌^◌, ◌∷◌, ◌++◌, IfErr, IfOk, OnOk, length, replicate, false, true};
+ghost use Rattle.std.specs.List.{list_all, list_any};
+ghost use Rattle.std.specs.Result.{is_ok};
 ghost use Rattle.inf_characters.specs.Characters.{is_line_end};
 ghost use Rattle.inf_characters.specs.Numbers.{IsPieceOf};
-ghost use Rattle.inf_characters.specs.Reading.{Reads, is_new_line_mark, meaning, piece_at, spaces, white_len};
+ghost use Rattle.inf_characters.specs.Reading.{Reads, is_new_line_mark, is_plain, meaning, piece_at, spaces, text_of, white_len};
+ghost use Rattle.inf_characters.specs.declared.characters.CharSet.{CharSet as Set};
+ghost use Rattle.inf_characters.specs.declared.reading.Mode.{Mode as TextMode};
 
 use crate::characters::{CharSet, Zscii, is_line_end, is_white, source_char};
 use crate::escapes::escape_piece;
@@ -87,6 +90,8 @@ pub fn read_text(alloc: Global, bytes: &[u8], set: CharSet, mode: Mode) -> Resul
     ensures { Reads set mode bytes.now result }
 {
     let mut items = Vec::new(alloc);
+    // Most bytes are a character each. Where there is no room for so many, there may be for the text.
+    let _ = items.reserve(bytes.len());
     let mut rest = bytes;
     let mut after_mark = false;
     while let Some((first, tail)) = rest.split_first() {
@@ -96,6 +101,29 @@ pub fn read_text(alloc: Global, bytes: &[u8], set: CharSet, mode: Mode) -> Resul
         after_mark = piece.is_mark;
     }
     Ok(Text::from_items(items))
+}
+
+/// Whether all bytes of a text are ASCII from the space to `~` and none is `@`, as in most texts: they can be read as one then, in
+/// each mode and both character sets.
+pub fn are_plain(bytes: &[u8]) -> bool
+    ensures value { result ≡ list_all is_plain bytes.now }
+    ensures reads { result ≡ true → (set : Set) (mode : TextMode) → is_ok (text_of set mode bytes.now) ≡ true }
+{
+    all_plain(bytes)
+}
+
+/// Whether all bytes are characters or white space by themselves.
+fn all_plain(bytes: &[u8]) -> bool
+    ensures { result ≡ list_all is_plain bytes.now }
+{
+    bytes.iter().all(|byte| is_plain(*byte))
+}
+
+/// Whether a byte of a text is a character or white space by itself.
+fn is_plain(byte: u8) -> bool
+    ensures { result ≡ is_plain byte }
+{
+    matches!(byte, b' '..=b'~') && byte != b'@'
 }
 
 /// The piece that a byte begins; after_mark is whether the mark of a new line stands before it.

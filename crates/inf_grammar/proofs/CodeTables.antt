@@ -6,11 +6,11 @@ use Rattle.inf_grammar.specs.declared.rules.Span.{Span}
 use Rattle.inf_grammar.specs.declared.rules.Row.{Row as CodeRow}
 use Rattle.inf_grammar.specs.declared.rules.Rule.{Rule as CodeRule}
 use Rattle.inf_machine.specs.Grammar.{Row, has}
-use Rattle.inf_grammar.specs.declared.actions.Action.{Action}
+use Rattle.inf_syntax.specs.declared.actions.Action.{Action}
 use Rattle.inf_machine.specs.Machine.{row_for, fits, are_acts, passed_row, way}
 use Rattle.inf_machine.specs.Decided.{beginning}
 use Rattle.inf_grammar.specs.Language.{grammar, known, rules}
-use Rattle.inf_grammar.specs.Classes.{classes}
+use Rattle.inf_syntax.specs.Classes.{classes}
 use Rattle.inf_grammar.specs.Facts.{beginnings, empties}
 use Rattle.inf_grammar.specs.Tables.{all_classes, all_parts, all_rows, all_rules, set_number, cut, found, span_for}
 use Rattle.std.proofs.lemmas.Bool.{and_parts, cond-true, cond-false}

@@ -1,5 +1,4 @@
 pub mod Bits
 pub mod OpenRoutines
 pub mod CodeTables
-pub mod Slots
 pub mod SourceLaws

@@ -13,13 +13,13 @@ use Rattle.inf_machine.proofs.Rows.{fits_is_begun}
 use Rattle.inf_machine.proofs.Sets.{has_and, has_zero}
 use Rattle.inf_machine.proofs.Taking.{choice, chosen_fits, chosen_less, some_work, taken_row}
 use Rattle.inf_machine.proofs.TokenLaws.{bad_tokens_begin_nothing}
-use Rattle.inf_grammar.specs.declared.actions.Action.{Action}
+use Rattle.inf_syntax.specs.declared.actions.Action.{Action}
 use Rattle.inf_scanner.specs.declared.tokens.Mark.TheVariants as mark
-use Rattle.inf_grammar.specs.Atoms.{mark_atom, of_word}
+use Rattle.inf_syntax.specs.Atoms.{mark_atom, of_word}
 use Rattle.inf_grammar.specs.Brackets.{open_behind, open_behind_all, begin_array, is_bracket_open, OpenRoutinesAreBracketed, LeftRoutinesAreBracketed}
 use Rattle.inf_grammar.specs.Evaluated.{language_is_decided, rows_past}
 use Rattle.inf_grammar.specs.Language.{grammar, known}
-use Rattle.inf_grammar.specs.Rows.{row}
+use Rattle.inf_syntax.specs.Rows.{row}
 use Rattle.inf_grammar.specs.Routines.{ends_routine, is_in_routine}
 use Rattle.inf_grammar.specs.Sources.{piece_rule, is_inside}
 

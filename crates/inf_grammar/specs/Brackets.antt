@@ -5,9 +5,9 @@ use Rattle.std.specs.Prelude.{◌≡◌, ℕ, List, [], ◌∷◌, codes, Bool, 
 use Rattle.inf_machine.specs.declared.symbols.Symbol.TheVariants.{Rule}
 use Rattle.inf_machine.specs.Grammar.{has, Begins}
 use Rattle.inf_machine.specs.Machine.{read, Read}
-use Rattle.inf_grammar.specs.declared.actions.Action.{Action}
+use Rattle.inf_syntax.specs.declared.actions.Action.{Action}
 use Rattle.inf_scanner.specs.declared.tokens.Mark.TheVariants as mark
-use Rattle.inf_grammar.specs.Atoms.{mark_atom, of_word}
+use Rattle.inf_syntax.specs.Atoms.{mark_atom, of_word}
 use Rattle.inf_grammar.specs.Language.{grammar, known}
 use Rattle.inf_grammar.specs.Routines.{is_in_routine}
 use Rattle.inf_grammar.specs.Sources.{piece_rule, in_routine_behind}

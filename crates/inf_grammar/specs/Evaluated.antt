@@ -3,7 +3,7 @@ use Rattle.std.proofs.Common.{◌≡◌, ℕ, ◌≤◌, true, false, [], length
 use Rattle.std.proofs.lemmas.Bool.{agree_below, agree_below_at, cases_lt}
 use Rattle.std.proofs.lemmas.List.{get_or_past}
 use Rattle.inf_machine.specs.Grammar.{Grammar}
-use Rattle.inf_grammar.specs.declared.actions.Action.{Action}
+use Rattle.inf_syntax.specs.declared.actions.Action.{Action}
 use Rattle.inf_machine.specs.Machine.{Known}
 use Rattle.inf_grammar.specs.Language.{grammar, known, rules}
 use Rattle.inf_grammar.specs.Facts.{beginnings, empties}

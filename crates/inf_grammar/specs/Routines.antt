@@ -2,8 +2,8 @@
 use Rattle.std.specs.Prelude.{List, [], ◌∷◌, Bool, true, false, ◌||◌}
 use Rattle.inf_machine.specs.declared.symbols.Symbol.{Symbol}
 use Rattle.inf_machine.specs.declared.symbols.Symbol.TheVariants.{Token, Rule, Act}
-use Rattle.inf_grammar.specs.declared.actions.Action.{Action}
-use Rattle.inf_grammar.specs.declared.actions.Action.TheVariants as action
+use Rattle.inf_syntax.specs.declared.actions.Action.{Action}
+use Rattle.inf_syntax.specs.declared.actions.Action.TheVariants as action
 
 abbrev pub ends_routine : Action → Bool
 ends_routine action.EndRoutine = true

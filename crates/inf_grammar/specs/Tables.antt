@@ -1,19 +1,17 @@
 -- The grammar as the program has it: flat tables of numbers.
-use Rattle.std.specs.Prelude.{ℕ, ◌+◌, ◌*◌, ◌/◌, ◌%◌, ◌^◌, List, [], ◌∷◌, ◌++◌, Bool, map, reverse, length, take, drop, if◌then◌else◌, nat_le, nat_eq, ◌-◌, ◌&&◌, get_or, suc}
-use Rattle.std.specs.List.{range_with_len}
+use Rattle.std.specs.Prelude.{ℕ, ◌+◌, ◌*◌, ◌/◌, ◌%◌, ◌^◌, List, [], ◌∷◌, ◌++◌, Bool, map, reverse, length, take, drop, if◌then◌else◌, nat_le, ◌-◌, ◌&&◌}
 use Rattle.inf_machine.specs.declared.symbols.Symbol.{Symbol}
 use Rattle.inf_grammar.specs.declared.rules.Set.{Set}
 use Rattle.inf_grammar.specs.declared.rules.Span.{Span}
 use Rattle.inf_grammar.specs.declared.rules.Row.{Row as CodeRow}
 use Rattle.inf_grammar.specs.declared.rules.Rule.{Rule as CodeRule}
 use Rattle.inf_machine.specs.Grammar.{Row, has}
-use Rattle.inf_grammar.specs.declared.actions.Action.{Action}
+use Rattle.inf_syntax.specs.declared.actions.Action.{Action}
 use Rattle.inf_machine.specs.Machine.{can_end, empty_row, is_silent, depth}
 use Rattle.inf_machine.specs.Decided.{beginning}
 use Rattle.inf_grammar.specs.Language.{grammar, known, rules}
-use Rattle.inf_grammar.specs.Classes.{classes}
+use Rattle.inf_syntax.specs.Classes.{classes}
 use Rattle.inf_grammar.specs.Facts.{beginnings, empties}
-use Rattle.inf_grammar.specs.Words.{words}
 
 -- a set as four numbers of 64 bits, the lowest first
 abbrev pub set_of : ℕ → Set
@@ -95,27 +93,3 @@ found atom other (row ∷ rows) = if has (set_number row.begins) atom then row.p
 -- where the parts are that stand for a rule before an atom
 abbrev pub span_for : CodeRule → ℕ → Span
 span_for rule atom = if has (set_number rule.begins) atom then found atom rule.other (cut rule.rows all_rows) else rule.other
-
--- Words by their slots
-
--- a letter as a number that is the same in any case
-abbrev pub letter : ℕ → ℕ
-letter byte = byte % 32
-
--- The slot of a name, by its size and its first, third and last letter: the same in any case, and another one for each word.
-abbrev pub slot : List ℕ → ℕ
-slot name =
-    (letter (get_or name 0 0) + 5 * letter (get_or name 2 0) + 61 * letter (get_or name (length name - 1) 0) + 16 * (length name % 16)) % 256
-
--- how many numbers stand before the first that is this one
-abbrev pub place_of : ℕ → List ℕ → ℕ
-place_of n [] = 0
-place_of n (m ∷ rest) = if nat_eq m n then 0 else suc (place_of n rest)
-
--- the slot of each word
-abbrev pub word_slots : List ℕ
-word_slots = map slot words
-
--- the place of the word with each slot
-unfoldable pub all_slots : List ℕ
-all_slots = map (λ n. place_of n word_slots) (range_with_len 0 256)

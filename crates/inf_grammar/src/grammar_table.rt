@@ -1,12 +1,17 @@
-//! The grammar of the language as a table for the machine, told by the type of its actions.
+//! The grammar of the language as a table for the machine, as one type.
 ghost use Rattle.inf_grammar.specs.Evaluated.{language_is_decided};
 ghost use Rattle.inf_grammar.specs.Language.{grammar, known};
 
-use crate::actions::Action;
 use crate::rules;
 use inf_machine::{Symbol, Table};
+use inf_syntax::Action;
 
-impl Table for Action {
+/// The language.
+pub(crate) struct Language;
+
+impl Table for Language {
+    type Action = Action;
+
     ghost grammar = { grammar };
 
     ghost known = { known };

@@ -2,25 +2,20 @@
 //!
 //! A token is seen as an atom (`atom_of`). A `Machine` starts with a rule, tells of an atom whether it fits, and takes one that
 //! fits, with the actions on the way to it. It is the machine of `inf_machine`, which has what a grammar, its texts and reading
-//! are; here `specs/` has the grammar of the language (`Language`, from `Table1` on), the classes of tokens as sets of atoms, and
-//! what is computed of each rule (`Facts`). That one token decides, and that the program's tables are those, is proved by
+//! are; the atoms and the rows of the grammar stand in `inf_syntax`. Here `specs/` has the grammar of the language (`Language`)
+//! and what is computed of each rule (`Facts`). That one token decides, and that the program's tables are those, is proved by
 //! evaluation. The page `docs/grammar.txt` has the grammar to be read; `tools/grammar.py` makes the tables of it.
 #![tactic(auto)]
 
-mod actions;
-mod atoms;
 mod grammar_table;
 mod laws;
 mod machine;
 mod rules;
 mod starts;
 mod table;
-mod words;
 
-pub use actions::Action;
-pub use atoms::{Token, atom_of};
 pub use inf_machine::{Symbol, bad_tokens, pieces, sources, texts};
-pub use inf_scanner::Mark;
+pub use inf_syntax::{Action, Mark, Token, atom_of};
 pub use laws::{language, routines_are_bracketed, source_pieces};
 pub use machine::Machine;
 pub use starts::{ASSIGN, EXPRESSION, FILE, LOGIC, PIECE};

@@ -4,21 +4,22 @@ ghost use Rattle.inf_grammar.specs.Language.{grammar, known};
 ghost use Rattle.inf_grammar.specs.Routines.{is_in_routine};
 ghost use Rattle.inf_machine.specs.Machine.{fits, can_end, taken};
 
-use crate::actions::Action;
+use crate::grammar_table::Language;
 use inf_machine::Symbol;
+use inf_syntax::Action;
 use std::alloc::{AllocError, Global};
 use std::marker::Model;
 
 /// What is still to be read: in contracts a list of symbols, the one at hand first.
 #[derive(Drop)]
 pub struct Machine {
-    machine: inf_machine::Machine<Action>,
+    machine: inf_machine::Machine<Language>,
 }
 
 impl Model for Machine {
     ghost use Rattle.std.specs.Prelude.{List};
     ghost use Rattle.inf_machine.specs.declared.symbols.Symbol.{Symbol};
-    ghost use Rattle.inf_grammar.specs.declared.actions.Action.{Action};
+    ghost use Rattle.inf_syntax.specs.declared.actions.Action.{Action};
 
     ghost Value = { List (Symbol Action) };
 

@@ -5,9 +5,9 @@ ghost use Rattle.inf_grammar.specs.Language.{grammar, known};
 ghost use Rattle.inf_machine.specs.Machine.{are_acts, passed_row, way};
 ghost use Rattle.inf_grammar.specs.Tables.{all_classes, all_parts, all_rows, all_rules, cut, found, joined_words, span_for};
 
-use crate::actions::Action;
 use crate::table::{CLASSES, PARTS, ROWS, RULES};
 use inf_machine::Symbol;
+use inf_syntax::Action;
 
 /// A set of atoms, a bit for each, the lowest first.
 #[derive(Clone, Copy)]

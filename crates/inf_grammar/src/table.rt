@@ -1,7 +1,7 @@
 //! The grammar as the machine reads it, in numbers. Made from docs/grammar.txt.
-use crate::actions::Action as Do;
 use crate::rules::{Row, Rule, Set, Span};
 use inf_machine::Symbol::{self, Act, Rule as Text, Token};
+use inf_syntax::Action as Do;
 
 /// The atoms of each class.
 #[rattlefmt::skip]

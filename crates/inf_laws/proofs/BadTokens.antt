@@ -14,14 +14,14 @@ use Rattle.inf_machine.specs.declared.symbols.Symbol.TheVariants.{Rule}
 use Rattle.inf_machine.specs.Grammar.{has}
 use Rattle.inf_machine.specs.Machine.{taken, read}
 use Rattle.inf_machine.proofs.TokenLaws.{bad_tokens_begin_nothing}
-use Rattle.inf_grammar.specs.declared.actions.Action.{Action}
-use Rattle.inf_grammar.specs.Atoms.{mark_atom, of_word, place_in}
+use Rattle.inf_syntax.specs.declared.actions.Action.{Action}
+use Rattle.inf_syntax.specs.Atoms.{mark_atom, of_word, place_in}
 use Rattle.inf_grammar.specs.Brackets.{begin_array, open_behind, open_behind_all, is_array}
 use Rattle.inf_grammar.specs.Evaluated.{language_is_decided}
 use Rattle.inf_grammar.specs.Language.{grammar, known}
 use Rattle.inf_grammar.specs.Routines.{is_in_routine}
 use Rattle.inf_grammar.specs.Sources.{is_inside}
-use Rattle.inf_grammar.specs.Words.{words}
+use Rattle.inf_syntax.specs.Words.{words}
 use Rattle.inf_grammar.proofs.OpenRoutines.{first_taken, open_routines_are_bracketed}
 use Rattle.inf_reader.specs.Tests.{name_atom, atom_of_kind, atom_of}
 use Rattle.inf_unit.specs.Statements.{Unit, head_of, next_unit, no_unit, unit_behind}

@@ -11,24 +11,24 @@ use std::marker::Model;
 
 /// What is still to be read: in contracts a list of symbols, the one at hand first.
 #[derive(Drop)]
-pub struct Machine<A: Table> {
+pub struct Machine<T: Table> {
     /// The symbol at hand last.
-    symbols: Vec<Symbol<A>>,
-    openings: Openings<A>,
+    symbols: Vec<Symbol<T::Action>>,
+    openings: Openings<T>,
 }
 
-impl<A: Table> Model for Machine<A> {
+impl<T: Table> Model for Machine<T> {
     ghost use Rattle.std.specs.Prelude.{List, reverse};
     ghost use Rattle.inf_machine.specs.declared.symbols.Symbol.{Symbol};
 
-    ghost Value = { List (Symbol A) };
+    ghost Value = { List (Symbol T.Action) };
 
     ghost view = { λ m. reverse m.symbols.items };
 }
 
-impl<A: Table> Machine<A> {
+impl<T: Table> Machine<T> {
     /// Nothing is to be read. It takes no memory until `start`.
-    pub fn new(alloc: Global) -> Machine<A>
+    pub fn new(alloc: Global) -> Machine<T>
         ensures { result ≡ [] }
     {
         Machine {
@@ -55,13 +55,13 @@ impl<A: Table> Machine<A> {
 
     /// Whether what is to be read can be empty: whether the source may end here.
     pub fn can_end(&self) -> bool
-        ensures { result ≡ can_end A.known self.now }
+        ensures { result ≡ can_end T.known self.now }
     {
-        reading::can_end(&self.symbols)
+        reading::can_end::<T>(&self.symbols)
     }
 
     /// What is to be read, the symbol at hand last.
-    pub fn symbols(&self) -> &[Symbol<A>]
+    pub fn symbols(&self) -> &[Symbol<T::Action>]
         ensures { reverse result.now ≡ self.now }
     {
         &self.symbols
@@ -76,18 +76,18 @@ impl<A: Table> Machine<A> {
 
     /// Whether a token fits: whether it begins what is to be read.
     pub fn fits(&self, atom: u8) -> bool
-        ensures { result ≡ fits A.grammar A.known atom self.now }
+        ensures { result ≡ fits T.grammar T.known atom self.now }
     {
-        reading::fits(&self.symbols, atom)
+        reading::fits::<T>(&self.symbols, atom)
     }
 
     /// Takes a token that fits. The actions on the way to it are put behind `actions`, in order; the token is taken behind them.
     ///
     /// Where memory runs out, what is to be read and the actions are as they were.
-    pub fn take(&mut self, atom: u8, actions: &mut Vec<A>) -> Result<(), AllocError>
-        requires { fits A.grammar A.known atom self.old ≡ true }
-        ensures left { OnOk result (self.new ≡ (taken A.grammar A.known atom self.old).left) }
-        ensures actions { OnOk result (actions.new.items ≡ actions.old.items ++ (taken A.grammar A.known atom self.old).actions) }
+    pub fn take(&mut self, atom: u8, actions: &mut Vec<T::Action>) -> Result<(), AllocError>
+        requires { fits T.grammar T.known atom self.old ≡ true }
+        ensures left { OnOk result (self.new ≡ (taken T.grammar T.known atom self.old).left) }
+        ensures actions { OnOk result (actions.new.items ≡ actions.old.items ++ (taken T.grammar T.known atom self.old).actions) }
         ensures same { OnErr result (self.new ≡ self.old) }
         ensures same_actions { OnErr result (actions.new.items ≡ actions.old.items) }
     {
@@ -98,10 +98,10 @@ impl<A: Table> Machine<A> {
     /// Whether a token fits; where it does, it is taken as `take` does.
     ///
     /// Where it does not fit and where memory runs out, what is to be read and the actions are as they were.
-    pub fn read(&mut self, atom: u8, actions: &mut Vec<A>) -> Result<bool, AllocError>
-        ensures fits { IfOk result (λ fits_now. fits_now ≡ fits A.grammar A.known atom self.old) }
-        ensures left { IfOk result (λ fits_now. fits_now ≡ true → self.new ≡ (taken A.grammar A.known atom self.old).left) }
-        ensures actions { IfOk result (λ fits_now. fits_now ≡ true → actions.new.items ≡ actions.old.items ++ (taken A.grammar A.known atom self.old).actions) }
+    pub fn read(&mut self, atom: u8, actions: &mut Vec<T::Action>) -> Result<bool, AllocError>
+        ensures fits { IfOk result (λ fits_now. fits_now ≡ fits T.grammar T.known atom self.old) }
+        ensures left { IfOk result (λ fits_now. fits_now ≡ true → self.new ≡ (taken T.grammar T.known atom self.old).left) }
+        ensures actions { IfOk result (λ fits_now. fits_now ≡ true → actions.new.items ≡ actions.old.items ++ (taken T.grammar T.known atom self.old).actions) }
         ensures same { IfOk result (λ fits_now. fits_now ≡ false → self.new ≡ self.old) }
         ensures same_actions { IfOk result (λ fits_now. fits_now ≡ false → actions.new.items ≡ actions.old.items) }
         ensures err { OnErr result (self.new ≡ self.old) }
@@ -118,15 +118,15 @@ impl<A: Table> Machine<A> {
 
 /// Goes on to behind a token that fits, with the actions on the way to it; tells whether it does. Until that is known no symbol
 /// is taken off.
-fn reach<A: Table>(
-    symbols: &mut Vec<Symbol<A>>,
-    openings: &mut Openings<A>,
+fn reach<T: Table>(
+    symbols: &mut Vec<Symbol<T::Action>>,
+    openings: &mut Openings<T>,
     atom: u8,
-    actions: &mut Vec<A>,
+    actions: &mut Vec<T::Action>,
 ) -> Result<bool, AllocError>
-    ensures fits { IfOk result (λ fits_now. fits_now ≡ fits A.grammar A.known atom (reverse symbols.old.items)) }
-    ensures left { IfOk result (λ fits_now. fits_now ≡ true → reverse symbols.new.items ≡ (taken A.grammar A.known atom (reverse symbols.old.items)).left) }
-    ensures actions { IfOk result (λ fits_now. fits_now ≡ true → actions.new.items ≡ actions.old.items ++ (taken A.grammar A.known atom (reverse symbols.old.items)).actions) }
+    ensures fits { IfOk result (λ fits_now. fits_now ≡ fits T.grammar T.known atom (reverse symbols.old.items)) }
+    ensures left { IfOk result (λ fits_now. fits_now ≡ true → reverse symbols.new.items ≡ (taken T.grammar T.known atom (reverse symbols.old.items)).left) }
+    ensures actions { IfOk result (λ fits_now. fits_now ≡ true → actions.new.items ≡ actions.old.items ++ (taken T.grammar T.known atom (reverse symbols.old.items)).actions) }
     ensures same { IfOk result (λ fits_now. fits_now ≡ false → symbols.new.items ≡ symbols.old.items) }
     ensures err { OnErr result (symbols.new.items ≡ symbols.old.items) }
     ensures before { take (vec_len actions.old) actions.new.items ≡ actions.old.items }
@@ -136,20 +136,20 @@ fn reach<A: Table>(
         below -= 1;
         match symbols[below] {
             Symbol::Token(class) => {
-                let fits = A::is_of(class, atom);
+                let fits = T::is_of(class, atom);
                 if fits {
                     symbols.truncate(below);
                 }
                 return Ok(fits);
             }
             Symbol::Act(action) => actions.push(action)?,
-            Symbol::Rule(rule) if A::begins(rule, atom) => {
+            Symbol::Rule(rule) if T::begins(rule, atom) => {
                 let opening = openings.find(rule, atom)?;
                 actions.extend_from_slice(opening.actions())?;
                 replace(symbols, below, opening.left())?;
                 return Ok(true);
             }
-            Symbol::Rule(rule) if A::can_be_empty(rule) => act(A::passed(rule), actions)?,
+            Symbol::Rule(rule) if T::can_be_empty(rule) => act(T::passed(rule), actions)?,
             Symbol::Rule(_) => return Ok(false),
         }
     }

@@ -11,16 +11,16 @@ use std::marker::Model;
 
 /// What taking an atom does to a rule that it begins. Contracts see the rule and the atom.
 #[derive(Drop)]
-pub(crate) struct Opening<A: Table> {
+pub(crate) struct Opening<T: Table> {
     rule: u8,
     atom: u8,
     /// The actions on the way to the token.
-    actions: Vec<A>,
+    actions: Vec<T::Action>,
     /// What of the rule is still to be read behind it, the symbol at hand last.
-    left: Vec<Symbol<A>>,
+    left: Vec<Symbol<T::Action>>,
 }
 
-impl<A: Table> Model for Opening<A> {
+impl<T: Table> Model for Opening<T> {
     ghost use Rattle.std.specs.Prelude.{◌≡◌, ℕ, reverse};
     ghost use Rattle.inf_machine.specs.Machine.{opened};
 
@@ -28,19 +28,19 @@ impl<A: Table> Model for Opening<A> {
 
     ghost view = { λ o. (o.rule, o.atom) };
 
-    ghost invariant = { λ o. opened A.grammar A.known o.rule o.atom ≡ record { actions = o.actions.items; left = reverse o.left.items } };
+    ghost invariant = { λ o. opened T.grammar T.known o.rule o.atom ≡ record { actions = o.actions.items; left = reverse o.left.items } };
 }
 
-impl<A: Table> Opening<A> {
+impl<T: Table> Opening<T> {
     /// How an atom opens a rule that it begins.
-    pub(crate) fn of(alloc: Global, rule: u8, atom: u8) -> Result<Opening<A>, AllocError>
-        requires { has (A.known.begins rule) atom ≡ true }
+    pub(crate) fn of(alloc: Global, rule: u8, atom: u8) -> Result<Opening<T>, AllocError>
+        requires { has (T.known.begins rule) atom ≡ true }
         ensures { IfOk result (λ opening. opening ≡ (rule, atom)) }
     {
         let mut stack = Stack::new(alloc);
         let mut actions = Vec::new(alloc);
         stack.push(Symbol::Rule(rule))?;
-        reach(&mut stack, atom, &mut actions)?;
+        reach::<T>(&mut stack, atom, &mut actions)?;
         Ok(Opening {
             rule,
             atom,
@@ -57,31 +57,35 @@ impl<A: Table> Opening<A> {
     }
 
     /// The actions on the way to the token.
-    pub(crate) fn actions(&self) -> &[A]
-        ensures { result.now ≡ (opened A.grammar A.known self.now.0 self.now.1).actions }
+    pub(crate) fn actions(&self) -> &[T::Action]
+        ensures { result.now ≡ (opened T.grammar T.known self.now.0 self.now.1).actions }
     {
         &self.actions
     }
 
     /// What of the rule is still to be read behind the token, the symbol at hand last.
-    pub(crate) fn left(&self) -> &[Symbol<A>]
-        ensures { reverse result.now ≡ (opened A.grammar A.known self.now.0 self.now.1).left }
+    pub(crate) fn left(&self) -> &[Symbol<T::Action>]
+        ensures { reverse result.now ≡ (opened T.grammar T.known self.now.0 self.now.1).left }
     {
         &self.left
     }
 }
 
 /// Goes on to behind a token that fits, with the actions on the way to it, rule by rule.
-fn reach<A: Table>(stack: &mut Stack<A>, atom: u8, actions: &mut Vec<A>) -> Result<(), AllocError>
-    requires { fits A.grammar A.known atom stack.old ≡ true }
-    ensures left { OnOk result (stack.new ≡ (taken A.grammar A.known atom stack.old).left) }
-    ensures actions { OnOk result (actions.new.items ≡ actions.old.items ++ (taken A.grammar A.known atom stack.old).actions) }
+fn reach<T: Table>(
+    stack: &mut Stack<T::Action>,
+    atom: u8,
+    actions: &mut Vec<T::Action>,
+) -> Result<(), AllocError>
+    requires { fits T.grammar T.known atom stack.old ≡ true }
+    ensures left { OnOk result (stack.new ≡ (taken T.grammar T.known atom stack.old).left) }
+    ensures actions { OnOk result (actions.new.items ≡ actions.old.items ++ (taken T.grammar T.known atom stack.old).actions) }
 {
     while let Some(symbol) = stack.pop() {
         match symbol {
             Symbol::Token(_) => return Ok(()),
             Symbol::Act(action) => actions.push(action)?,
-            Symbol::Rule(rule) => stack.add_all(A::way(rule, atom))?,
+            Symbol::Rule(rule) => stack.add_all(T::way(rule, atom))?,
         }
     }
     Ok(())

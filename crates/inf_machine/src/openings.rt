@@ -11,9 +11,9 @@ const PLACES: usize = 1024;
 
 /// The openings that were met, each at the place of its rule and atom. One that is met takes the place of another.
 #[derive(Drop)]
-pub(crate) struct Openings<A: Table> {
+pub(crate) struct Openings<T: Table> {
     alloc: Global,
-    places: Vec<Option<Opening<A>>>,
+    places: Vec<Option<Opening<T>>>,
 }
 
 /// The place of an opening. Those that come often in a source have places of their own.
@@ -21,9 +21,9 @@ fn place_of(rule: u8, atom: u8) -> usize {
     (rule as usize * 37 + atom as usize) % PLACES
 }
 
-impl<A: Table> Openings<A> {
+impl<T: Table> Openings<T> {
     /// None was met. It takes no memory until one is.
-    pub(crate) fn new(alloc: Global) -> Openings<A> {
+    pub(crate) fn new(alloc: Global) -> Openings<T> {
         Openings {
             alloc,
             places: Vec::new(alloc),
@@ -31,8 +31,8 @@ impl<A: Table> Openings<A> {
     }
 
     /// How an atom opens a rule that it begins.
-    pub(crate) fn find(&mut self, rule: u8, atom: u8) -> Result<&Opening<A>, AllocError>
-        requires { has (A.known.begins rule) atom ≡ true }
+    pub(crate) fn find(&mut self, rule: u8, atom: u8) -> Result<&Opening<T>, AllocError>
+        requires { has (T.known.begins rule) atom ≡ true }
         ensures { IfOk result (λ opening. opening.now ≡ (rule, atom)) }
     {
         let place = place_of(rule, atom);
@@ -57,8 +57,8 @@ impl<A: Table> Openings<A> {
 /// Makes places up to one.
 #[cold]
 #[inline(never)]
-fn make_places<A: Table>(
-    places: &mut Vec<Option<Opening<A>>>,
+fn make_places<T: Table>(
+    places: &mut Vec<Option<Opening<T>>>,
     place: usize,
 ) -> Result<(), AllocError>
     ensures { OnOk result (place < vec_len places.new) }
@@ -72,13 +72,13 @@ fn make_places<A: Table>(
 /// Puts how an atom opens a rule that it begins in a place.
 #[cold]
 #[inline(never)]
-fn fill<A: Table>(
-    kept: &mut Option<Opening<A>>,
+fn fill<T: Table>(
+    kept: &mut Option<Opening<T>>,
     alloc: Global,
     rule: u8,
     atom: u8,
 ) -> Result<(), AllocError>
-    requires { has (A.known.begins rule) atom ≡ true }
+    requires { has (T.known.begins rule) atom ≡ true }
     ensures { OnOk result (kept.new ≡ Some (rule, atom)) }
 {
     *kept = Some(Opening::of(alloc, rule, atom)?);

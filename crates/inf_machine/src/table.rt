@@ -6,10 +6,13 @@ ghost use Rattle.inf_machine.specs.Machine.{Known, are_acts, passed_row, way};
 
 use crate::symbols::Symbol;
 
-/// The table of a grammar, which is told by the type of its actions.
-pub trait Table: Copy + 'static {
+/// The table of a grammar, which is told by a type.
+pub trait Table: 'static {
+    /// What reading a text is to do.
+    type Action: Copy + 'static;
+
     /// The grammar.
-    ghost grammar: { Grammar Self };
+    ghost grammar: { Grammar Self.Action };
 
     /// What is known of its rules.
     ghost known: { Known };
@@ -28,11 +31,11 @@ pub trait Table: Copy + 'static {
 
     /// What stands for a rule before an atom, its last part first: the row that the atom begins; where it begins none, the one that
     /// can be empty, or nothing where there is no action on the way through that.
-    fn way(rule: u8, atom: u8) -> &'static [Symbol<Self>]
+    fn way(rule: u8, atom: u8) -> &'static [Symbol<Self::Action>]
         ensures { reverse result.now ≡ way grammar known atom rule };
 
     /// What stands for a rule that can be empty before an atom that does not begin it, its last part first: actions alone.
-    fn passed(rule: u8) -> &'static [Symbol<Self>]
+    fn passed(rule: u8) -> &'static [Symbol<Self::Action>]
         ensures row { reverse result.now ≡ passed_row grammar known (grammar.rows_of rule) }
         ensures acts { are_acts (passed_row grammar known (grammar.rows_of rule)) ≡ true };
 

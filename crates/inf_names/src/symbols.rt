@@ -224,7 +224,8 @@ impl<P: Copy> Symbols<P> {
         ensures fault { let fault = refer_fault name.now self.old in
             MatchResult result (λ _. fault ≡ None) (λ refused. refused ≡ refer_refusal fault) }
     {
-        if let Some(number) = self.number(name) {
+        let key = folded(name);
+        if let Some(number) = self.number(&key) {
             return Ok((self.found_at(number), Some(number)));
         }
         if let Some(meaning) = system_meaning(name, self.is_debugging) {
@@ -234,8 +235,7 @@ impl<P: Copy> Symbols<P> {
             return Err(ReferFault::Full);
         }
         let number = self.len();
-        self.entries
-            .insert(folded(name), Entry::Used(spelled(name), place))?;
+        self.entries.insert(key, Entry::Used(spelled(name), place))?;
         Ok((Found::Unknown, Some(number)))
     }
 
@@ -300,13 +300,11 @@ impl<P: Copy> Symbols<P> {
         Some(entry)
     }
 
-    /// How many names came before one that was declared or used.
-    fn number(&self, name: &[u8]) -> Option<usize>
-        requires { length name.now ≤ 35 }
-        ensures { result ≡ number_among (key_of name.now) self.now.names }
+    /// How many names came before one that was declared or used, given without case.
+    fn number(&self, key: &ArrayVec<u8, LONGEST_NAME>) -> Option<usize>
+        ensures { result ≡ number_among key.now.items self.now.names }
     {
-        let key = folded(name);
-        self.entries.get_index_of(&key)
+        self.entries.get_index_of(key)
     }
 
     /// Whether there are as many names as there may be.

@@ -3,7 +3,7 @@ use Rattle.std.specs.Prelude.{◌&&◌}
 use Rattle.std.proofs.Common.{Bool, List, [], ◌∷◌, Option, Some, None, refl}
 use Rattle.inf_scanner.specs.declared.tokens.Place.{Place}
 use Rattle.inf_grammar.specs.Language.{grammar, known}
-use Rattle.inf_grammar.specs.declared.actions.Action.{Action}
+use Rattle.inf_syntax.specs.declared.actions.Action.{Action}
 use Rattle.inf_machine.specs.Machine.{fits, taken}
 use Rattle.inf_machine.specs.declared.symbols.Symbol.{Symbol}
 use Rattle.inf_unit.specs.Messages.{FileNames}

@@ -9,7 +9,7 @@ use Rattle.inf_scanner.specs.Tokens.{Read, next_token as scanned}
 use Rattle.inf_scanner.proofs.TokenLaws.{tokens_take_bytes}
 use Rattle.inf_unit.specs.Tokens.{Spelled, is_end}
 use Rattle.inf_unit.proofs.Cases.{of_both}
-use Rattle.inf_grammar.specs.declared.actions.Action.{Action}
+use Rattle.inf_syntax.specs.declared.actions.Action.{Action}
 use Rattle.inf_machine.specs.declared.symbols.Symbol.{Symbol}
 use Rattle.inf_work.specs.Actions.{Work}
 use Rattle.inf_unit.specs.Messages.{FileNames}

@@ -6,7 +6,7 @@ use Rattle.inf_sources.specs.Cursors.{Cursor}
 use Rattle.inf_reader.specs.Cursors.{next_token}
 use Rattle.inf_report.specs.Messages.{Message}
 use Rattle.inf_unit.specs.Messages.{FileNames}
-use Rattle.inf_grammar.specs.declared.actions.Action.{Action}
+use Rattle.inf_syntax.specs.declared.actions.Action.{Action}
 use Rattle.inf_machine.specs.declared.symbols.Symbol.{Symbol}
 use Rattle.inf_machine.specs.declared.symbols.Symbol.TheVariants.{Rule}
 use Rattle.inf_machine.specs.Grammar.{Event, IsText, Begins}

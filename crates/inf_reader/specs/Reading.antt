@@ -15,7 +15,7 @@ use Rattle.inf_report.specs.declared.messages.Kind.{Kind}
 use Rattle.inf_report.specs.declared.messages.Kind.TheVariants as weight
 use Rattle.inf_unit.specs.Messages.{FileNames, Reported, location, with_error, with_fatal}
 use Rattle.inf_unit.specs.Tokens.{Spelled, is_end, is_mark, number_of}
-use Rattle.inf_grammar.specs.declared.actions.Action.{Action}
+use Rattle.inf_syntax.specs.declared.actions.Action.{Action}
 use Rattle.inf_machine.specs.declared.symbols.Symbol.{Symbol}
 use Rattle.inf_machine.specs.declared.symbols.Symbol.TheVariants.{Rule}
 use Rattle.inf_machine.specs.Machine.{fits, taken}

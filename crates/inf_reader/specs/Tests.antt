@@ -11,8 +11,8 @@ use Rattle.inf_scanner.specs.declared.tokens.TokenKind.{TokenKind}
 use Rattle.inf_scanner.specs.declared.tokens.TokenKind.TheVariants as kind
 use Rattle.inf_settings.specs.declared.setting.Setting.TheVariants.{QuotedText}
 use Rattle.inf_report.specs.Messages.{Message, Syntax, IllegalCharacter, UnclosedQuote, NumberOutOfRange, UnknownEscape, LongName, NoZscii, Exceeded}
-use Rattle.inf_grammar.specs.Atoms.{mark_atom, place_in, first_word, first_literal}
-use Rattle.inf_grammar.specs.Words.{words}
+use Rattle.inf_syntax.specs.Atoms.{mark_atom, place_in, first_word, first_literal}
+use Rattle.inf_syntax.specs.Words.{words}
 use Rattle.inf_unit.specs.Keywords.{is_condition_word}
 use Rattle.inf_unit.specs.Tokens.{Spelled, told}
 

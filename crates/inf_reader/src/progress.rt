@@ -6,7 +6,7 @@ ghost use Rattle.inf_unit.specs.Tokens.{spelled};
 ghost use Rattle.inf_work.specs.Works.{named_of, number_of, read_of, work as work_of};
 ghost use Rattle.inf_reader.specs.Handing.{hash};
 ghost use Rattle.inf_reader.specs.Reading.{gathering, with_complaint};
-ghost use Rattle.inf_reader.specs.Tests.{complaint_of};
+ghost use Rattle.inf_reader.specs.Tests.{atom_of, complaint_of};
 
 use crate::mode::{Mode, passed};
 use crate::reader::Reader;
@@ -14,12 +14,12 @@ use crate::selection::{begins_piece, has_come};
 use crate::tokens::{atom_at, complaint_of, text_of};
 use inf_conditionals::conditionals::tell_lone;
 use inf_conditionals::judged::{Handed, Judged, Site};
-use inf_grammar::Action;
 use inf_lexer::{Place, Stack};
 use inf_report::messages::{Kind, Location};
 use inf_scanner::{Mark, TokenKind};
 use inf_settings::settings::Settings;
 use inf_symbol::spellings::Name;
+use inf_syntax::Action;
 use inf_text::{CharSet, Text};
 use inf_unit::messages::{Messages, location};
 use inf_unit::tokens::{Spelled, is_end};
@@ -131,31 +131,34 @@ impl Progress {
             OnOk result (standing self.new
             ≡ read_at files.now.names (spelled token.now) before.stack before (work self.old.work)) }
     {
+        let atom = atom_at(token);
         if !self.reader.machine.is_done() {
-            let may_come = has_come(&self.reader.unit, token);
-            return self.judge(files, token, may_come);
+            let may_come = has_come(&self.reader.unit, token, atom);
+            return self.judge(files, token, atom, may_come);
         }
         if is_end(token.kind) {
             self.reader.mode = Mode::Ended;
             return Ok(());
         }
         self.reader.begin()?;
-        self.judge(files, token, begins_piece(token))
+        self.judge(files, token, atom, begins_piece(token))
     }
 
-    /// Takes a token of the piece at hand if it fits and may go on with it; else it is the bad one.
+    /// Takes a token of the piece at hand, which the grammar sees as this atom, if it fits and may go on with it; else it is the bad one.
     fn judge(
         &mut self,
         files: &Stack,
         token: &Spelled<'_>,
+        atom: u8,
         has_come: bool,
     ) -> Result<(), AllocError>
-        requires { IsSome (name_of (spelled token.now)) → length token.now.bytes.now ≤ 32 }
+        requires seen { atom ≡ atom_of (spelled token.now) }
+        requires few { IsSome (name_of (spelled token.now)) → length token.now.bytes.now ≤ 32 }
         ensures { let before = reading self.old.reader in
             OnOk result (standing self.new
             ≡ judged files.now.names has_come (spelled token.now) before (work self.old.work)) }
     {
-        if !(has_come && self.reader.read(atom_at(token), &mut self.actions)?) {
+        if !(has_come && self.reader.read(atom, &mut self.actions)?) {
             return self.bad(files, token);
         }
         let (unit, actions) = (&self.reader.unit, self.actions.as_slice());
@@ -165,6 +168,8 @@ impl Progress {
     }
 
     /// Tells the bad token of a piece, and passes over it.
+    #[cold]
+    #[inline(never)]
     fn bad(&mut self, files: &Stack, token: &Spelled<'_>) -> Result<(), AllocError>
         ensures { let before = reading self.old.reader in
             OnOk result (standing self.new ≡ bad files.now.names (spelled token.now) before (work self.old.work)) }

@@ -3,11 +3,13 @@ ghost use Rattle.std.specs.Prelude.{◌≡◌};
 ghost use Rattle.std.specs.List.{list_any};
 ghost use Rattle.std.specs.Str.{str_eq_ignore_ascii_case};
 ghost use Rattle.inf_reader.specs.Selection.{is_directive_word, is_later_word, begins_statement, begins_unit, goes_on, goes_on_constant, goes_on_directive, goes_on_print, goes_on_call, has_come, begins_piece};
+ghost use Rattle.inf_reader.specs.Tests.{atom_of, name_atom};
 ghost use Rattle.inf_unit.specs.AtHand.{unit};
 ghost use Rattle.inf_unit.specs.Tokens.{spelled};
 
 use crate::tokens::is_operand;
 use inf_scanner::{Mark, TokenKind};
+use inf_syntax::OTHER_NAME;
 use inf_unit::directives::Directive;
 use inf_unit::tokens::{Spelled, is_mark, number_of};
 use inf_unit::unit::{Head, Statement, Unit};
@@ -65,11 +67,13 @@ fn is_directive_word(name: &[u8]) -> bool
     is_among(&DIRECTIVE_WORDS, name)
 }
 
-/// Whether a name is the word of a statement that has not come, in any case.
-fn is_later_word(name: &[u8]) -> bool
+/// Whether a name, which the grammar sees as this atom, is the word of a statement that has not come, in any case. Each of these is a
+/// word of the grammar.
+fn is_later_word(name: &[u8], atom: u8) -> bool
+    requires { atom ≡ name_atom name.now }
     ensures { result ≡ is_later_word name.now }
 {
-    is_among(&LATER_WORDS, name)
+    atom != OTHER_NAME && is_among(&LATER_WORDS, name)
 }
 
 fn is_among(words: &[&str], name: &[u8]) -> bool
@@ -81,37 +85,40 @@ fn is_among(words: &[&str], name: &[u8]) -> bool
 }
 
 /// Whether a token may stand at the front of a statement that has come, or ends the routine there.
-fn begins_statement(token: &Spelled<'_>) -> bool
+fn begins_statement(token: &Spelled<'_>, atom: u8) -> bool
+    requires { atom ≡ atom_of (spelled token.now) }
     ensures { result ≡ begins_statement token.now.kind token.now.bytes.now }
 {
     match token.kind {
-        TokenKind::Name => !is_later_word(token.bytes),
+        TokenKind::Name => !is_later_word(token.bytes, atom),
         _ => is_mark(token.kind, Mark::Semicolon) || is_mark(token.kind, Mark::CloseBracket),
     }
 }
 
 /// Whether a token may begin a unit, as far as what has come goes. Behind a `#` the unit is still at
 /// the front of its piece.
-fn begins_unit(at_hand: &Unit, token: &Spelled<'_>) -> bool
+fn begins_unit(at_hand: &Unit, token: &Spelled<'_>, atom: u8) -> bool
+    requires { atom ≡ atom_of (spelled token.now) }
     ensures { result ≡ begins_unit (unit at_hand.now) (spelled token.now) }
 {
     if at_hand.is_outer {
         begins_piece(token)
     } else {
-        begins_statement(token)
+        begins_statement(token, atom)
     }
 }
 
-/// Whether a token may go on with a unit, as far as what has come goes. Whether it fits the grammar
-/// there is another question.
-pub fn has_come(at_hand: &Unit, token: &Spelled<'_>) -> bool
+/// Whether a token, which the grammar sees as this atom, may go on with a unit, as far as what has come goes. Whether it fits the
+/// grammar there is another question.
+pub fn has_come(at_hand: &Unit, token: &Spelled<'_>, atom: u8) -> bool
+    requires { atom ≡ atom_of (spelled token.now) }
     ensures { result ≡ has_come (unit at_hand.now) (spelled token.now) }
 {
     match at_hand.head {
-        None => begins_unit(at_hand, token),
+        None => begins_unit(at_hand, token, atom),
         Some(Head::Header(_)) => true,
         Some(Head::Directive(directive, _)) => goes_on_directive(directive, at_hand, token),
-        Some(Head::Statement(statement, _)) => goes_on(statement, at_hand, token),
+        Some(Head::Statement(statement, _)) => goes_on(statement, at_hand, token, atom),
     }
 }
 
@@ -146,13 +153,14 @@ fn goes_on_constant(at_hand: &Unit, token: &Spelled<'_>) -> bool
 }
 
 /// Whether a token may go on with a statement.
-fn goes_on(statement: Statement, at_hand: &Unit, token: &Spelled<'_>) -> bool
+fn goes_on(statement: Statement, at_hand: &Unit, token: &Spelled<'_>, atom: u8) -> bool
+    requires { atom ≡ atom_of (spelled token.now) }
     ensures { result ≡ goes_on statement (unit at_hand.now) (spelled token.now) }
 {
     match statement {
         Statement::Print => goes_on_print(at_hand, token),
-        Statement::Return => is_operand(token) || is_mark(token.kind, Mark::Semicolon),
-        Statement::Call => goes_on_call(at_hand, token),
+        Statement::Return => is_operand(token, atom) || is_mark(token.kind, Mark::Semicolon),
+        Statement::Call => goes_on_call(at_hand, token, atom),
         Statement::NewLine | Statement::Quit | Statement::ReturnTrue | Statement::ReturnFalse =>
             is_mark(token.kind, Mark::Semicolon),
     }
@@ -171,7 +179,8 @@ fn goes_on_print(at_hand: &Unit, token: &Spelled<'_>) -> bool
 
 /// Whether a token may go on with a call: behind the name of what is called only its bracket may,
 /// and behind the closing one only the end.
-fn goes_on_call(at_hand: &Unit, token: &Spelled<'_>) -> bool
+fn goes_on_call(at_hand: &Unit, token: &Spelled<'_>, atom: u8) -> bool
+    requires { atom ≡ atom_of (spelled token.now) }
     ensures { result ≡ goes_on_call (unit at_hand.now) (spelled token.now) }
 {
     if !at_hand.has_more {
@@ -180,7 +189,7 @@ fn goes_on_call(at_hand: &Unit, token: &Spelled<'_>) -> bool
     if at_hand.is_closed {
         return is_mark(token.kind, Mark::Semicolon);
     }
-    is_operand(token)
+    is_operand(token, atom)
         || is_mark(token.kind, Mark::Comma)
         || is_mark(token.kind, Mark::CloseParenthesis)
 }

@@ -1,22 +1,35 @@
 ghost use Rattle.std.specs.Prelude.{◌≡◌, IfOk};
-ghost use Rattle.inf_reader.specs.Tests.{is_operand, complaint_of, message_of, read_of, atom_of};
+ghost use Rattle.inf_reader.specs.Tests.{is_operand, complaint_of, message_of, name_atom, read_of, atom_of};
+ghost use Rattle.inf_unit.specs.Keywords.{is_condition_word};
 ghost use Rattle.inf_unit.specs.Tokens.{spelled};
 ghost use Rattle.inf_report.specs.Meant.{meant};
 
-use inf_grammar::{Token as Seen, atom_of};
 use inf_report::messages::Message;
 use inf_scanner::{BadToken, TokenKind};
 use inf_settings::setting::Setting;
+use inf_syntax::{OTHER_NAME, Token as Seen, atom_of};
 use inf_text::{CharSet, Mode, Text, TextFault, read_text};
 use inf_unit::keywords::is_condition_word;
 use inf_unit::tokens::{Spelled, told};
 use std::alloc::{AllocError, Global};
 
-/// Whether a token is a name that may stand for a routine or a local variable in a statement.
-pub fn is_operand(token: &Spelled<'_>) -> bool
+/// Whether a token, which the grammar sees as this atom, is a name that may stand for a routine or a local variable in a statement.
+pub fn is_operand(token: &Spelled<'_>, atom: u8) -> bool
+    requires { atom ≡ atom_of (spelled token.now) }
     ensures { result ≡ is_operand (spelled token.now) }
 {
-    matches!(token.kind, TokenKind::Name) && !is_condition_word(token.bytes)
+    match token.kind {
+        TokenKind::Name => !is_condition(token.bytes, atom),
+        _ => false,
+    }
+}
+
+/// Whether a name, which the grammar sees as this atom, is a word of conditions, each of which is a word of the grammar.
+fn is_condition(name: &[u8], atom: u8) -> bool
+    requires { atom ≡ name_atom name.now }
+    ensures { result ≡ is_condition_word name.now }
+{
+    atom != OTHER_NAME && is_condition_word(name)
 }
 
 /// What a bad token is blamed for.

@@ -6,7 +6,7 @@ ghost use Rattle.inf_scanner.specs.Kinds.{digit_of, kind_of, number_of, quote_ki
 use crate::scanner::Ending;
 use crate::spelling::Spelling;
 use crate::tokens::{BadToken, DictionaryWord, TokenKind};
-use inf_text::{CharSet, Mode, Text, TextFault, TextItem, dict_word, read_text};
+use inf_text::{CharSet, Mode, Text, TextFault, TextItem, are_plain, dict_word, read_text};
 use std::alloc::{AllocError, Global};
 
 /// What stands at the end of a quote.
@@ -74,10 +74,13 @@ fn refused(fault: TextFault) -> Result<TokenKind, AllocError>
     }
 }
 
-/// What the bytes between double quotes are.
+/// What the bytes between double quotes are. Most can be read as a text by themselves.
 fn text_kind(alloc: Global, set: CharSet, bytes: &[u8]) -> Result<TokenKind, AllocError>
     ensures ok { IfOk result (λ kind. kind ≡ text_kind set bytes.now) }
 {
+    if are_plain(bytes) {
+        return Ok(TokenKind::Text);
+    }
     let Err(fault) = read_text(alloc, bytes, set, Mode::Text) else {
         return Ok(TokenKind::Text);
     };

@@ -506,6 +506,8 @@ impl<'a> Session<'a> {
     }
 
     /// Enters the file that the text of an inclusion names, or tells, at the place of its unit, why there is none.
+    #[cold]
+    #[inline(never)]
     fn include<F: Files>(&mut self, files: &mut F, text: &[u8], unit: Place) -> Result<(), Fault>
         requires goes { self.old.open_files.lexer.has_failed ≡ false }
         requires set { IsSet self.old }
@@ -553,6 +555,8 @@ impl<'a> Session<'a> {
 
     /// At the end of a file, tells the conditionals that are open in it. An included file is closed, and reading goes on in the
     /// one that includes it.
+    #[cold]
+    #[inline(never)]
     fn leave<F: Files>(&mut self, files: &mut F) -> Result<(), Fault>
         requires is_open { length self.old.open_files.outer < F.depth files.old }
         requires set { IsSet self.old }

@@ -1,3 +1,4 @@
 pub mod TakenBytes
 pub mod LocalLemmas
 pub mod Places
+pub mod SameNames

@@ -1,5 +1,5 @@
 -- What the code's locals stand for.
-use Rattle.std.specs.Prelude.{List, map, option_map}
+use Rattle.std.specs.Prelude.{ℕ, ◌-◌, ◌%◌, List, get_or, length, map, option_map}
 use Rattle.inf_symbol.specs.Spellings.{as_name}
 use Rattle.inf_symbol.specs.Locals.{Local, Repeated, Headed}
 use Rattle.inf_symbol.specs.declared.locals.Local.{Local as CodeLocal}
@@ -18,3 +18,7 @@ repeated r = record { name = as_name r.name.now; first = r.first }
 
 abbrev pub headed : CodeHeaded → Headed
 headed h = record { locals = listed h.locals; repeated = option_map repeated h.repeated; are_too_many = h.are_too_many }
+
+-- the last letter of a name as a number that is the same in any case: 0 where it has none
+abbrev pub last_letter : List ℕ → ℕ
+last_letter name = get_or name (length name - 1) 0 % 32

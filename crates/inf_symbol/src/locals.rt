@@ -2,6 +2,7 @@
 ghost use Rattle.std.specs.Prelude.{◌≡◌, ◌≤◌, ◌<◌, [], IfSome, length, option_map, position};
 ghost use Rattle.std.specs.Str.{str_eq_ignore_ascii_case};
 ghost use Rattle.arrayvec.specs.ArrayVec.{array_vec_len};
+ghost use Rattle.inf_symbol.specs.LocalList.{last_letter};
 ghost use Rattle.inf_symbol.specs.Locals.{number_of, local_of, with_named, with_local, no_locals};
 ghost use Rattle.inf_symbol.specs.Spellings.{as_name};
 
@@ -12,11 +13,21 @@ use inf_scanner::Place;
 /// The most local variables that a routine has (Z-Machine Standard 1.1, section 5.2).
 pub const MOST_LOCALS: usize = 15;
 
-/// Whether two names are the same, in any case.
+/// Whether two names are the same, in any case. Most that are not differ in their last letters.
 fn is_same_name(name: &[u8], other: &[u8]) -> bool
     ensures { result ≡ str_eq_ignore_ascii_case name.now other.now }
 {
-    name.eq_ignore_ascii_case(other)
+    last_letter(name) == last_letter(other) && name.eq_ignore_ascii_case(other)
+}
+
+/// The last letter of a name as a number that is the same in any case: 0 where it has none.
+fn last_letter(name: &[u8]) -> u8
+    ensures { result ≡ last_letter name.now }
+{
+    match name.last() {
+        Some(byte) => *byte % 32,
+        None => 0,
+    }
 }
 
 /// A local variable, as the header of its routine spells it.

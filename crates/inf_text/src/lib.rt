@@ -11,5 +11,7 @@ mod zchars;
 
 pub use abbreviation::{AbbrevFault, Abbreviations};
 pub use dictionary::dict_word;
-pub use inf_characters::{CharSet, Mode, Text, TextFault, TextItem, Zscii, read_text, source_char};
+pub use inf_characters::{
+    CharSet, Mode, Text, TextFault, TextItem, Zscii, are_plain, read_text, source_char,
+};
 pub use packing::{pack, packed_len};

@@ -38,12 +38,15 @@ impl Model for Packer {
 }
 
 impl Packer {
-    /// Nothing packed yet.
-    pub(crate) fn new(alloc: Global) -> Packer
+    /// Nothing packed yet, with room for so many bytes where there is memory for them.
+    pub(crate) fn new(alloc: Global, room: usize) -> Packer
         ensures { result ≡ ([], []) }
     {
+        let mut bytes = Vec::new(alloc);
+        // Where there is no room for so many, there may be for those that come.
+        let _ = bytes.reserve(room);
         Packer {
-            bytes: Vec::new(alloc),
+            bytes,
             waiting: Waiting::Nothing,
         }
     }

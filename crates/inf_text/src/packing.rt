@@ -29,7 +29,8 @@ pub fn pack(
     ensures words { IfOk result (λ bytes. IsTrue (are_words bytes.items)) }
 {
     let mut items = text.as_slice();
-    let mut packer = Packer::new(alloc);
+    // Most items are one Z-character each.
+    let mut packer = Packer::new(alloc, items.len() / 3 * 2 + 2);
     while let Some((zs, rest)) = next_zs(abbreviations, items) {
         packer.push_all(zs)?;
         items = rest;

@@ -1,7 +1,7 @@
 -- A token as a source spells it, and tests of one.
 use Rattle.std.specs.Prelude.{ℕ, List, ◌==◌, Bool, true, false, Option, Some, None}
 use Rattle.std.specs.Str.{str_eq_ignore_ascii_case}
-use Rattle.inf_grammar.specs.Atoms.{mark_atom}
+use Rattle.inf_syntax.specs.Atoms.{mark_atom}
 use Rattle.inf_scanner.specs.declared.tokens.Mark.{Mark}
 use Rattle.inf_scanner.specs.declared.tokens.TokenKind.{TokenKind}
 use Rattle.inf_scanner.specs.declared.tokens.TokenKind.TheVariants as kind

@@ -191,6 +191,9 @@ impl Messages {
         ensures none { OnOk result (self.new ≡ flushed self.old) }
         ensures err { OnErr result (self.new ≡ self.old) }
     {
+        if self.lines.bytes().is_empty() {
+            return Ok(());
+        }
         write_lines(to, self.lines.bytes())?;
         self.lines.clear();
         Ok(())

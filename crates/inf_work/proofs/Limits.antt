@@ -19,8 +19,8 @@ use Rattle.inf_symbol.specs.Locals.{Local, Headed, number_of, with_all_named}
 use Rattle.inf_unit.specs.Names.{constant_in}
 use Rattle.inf_layout.specs.declared.code.CodeLimits.{CodeLimits}
 use Rattle.inf_layout.specs.Code.{Routines, begun_unless, full_begun, full_opened, full_closed, with_closed, with_none_open}
-use Rattle.inf_grammar.specs.declared.actions.Action.{Action}
-use Rattle.inf_grammar.specs.declared.actions.Action.TheVariants as action
+use Rattle.inf_syntax.specs.declared.actions.Action.{Action}
+use Rattle.inf_syntax.specs.declared.actions.Action.TheVariants as action
 use Rattle.inf_unit.specs.declared.directives.Directive.{Directive}
 use Rattle.inf_unit.specs.declared.directives.Directive.TheVariants as directive
 use Rattle.inf_unit.specs.declared.unit.Head.{Head}

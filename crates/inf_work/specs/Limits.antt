@@ -1,7 +1,7 @@
 -- What a source may have of names and of code stays as the settings say.
 use Rattle.std.specs.Prelude.{◌≡◌, List}
 use Rattle.inf_scanner.specs.declared.tokens.Place.{Place}
-use Rattle.inf_grammar.specs.declared.actions.Action.{Action}
+use Rattle.inf_syntax.specs.declared.actions.Action.{Action}
 use Rattle.inf_unit.specs.Messages.{FileNames}
 use Rattle.inf_unit.specs.Statements.{Unit}
 use Rattle.inf_work.specs.Actions.{Work, acted}

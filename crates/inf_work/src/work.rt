@@ -16,7 +16,6 @@ use crate::operands::{add_operands, call_fault, operand_fault};
 use crate::output::Output;
 use arrayvec::ArrayVec;
 use inf_assembler::Setting as CodeSetting;
-use inf_grammar::Action;
 use inf_lexer::{Place, Stack};
 use inf_names::meanings::Meaning;
 use inf_names::symbols::{DeclareFault, Found, ReferFault, Symbols};
@@ -27,6 +26,7 @@ use inf_settings::setting::Setting;
 use inf_settings::settings::Settings;
 use inf_symbol::locals::{Headed, Locals, Repeated};
 use inf_symbol::spellings::Name;
+use inf_syntax::Action;
 use inf_text::{CharSet, Text};
 use inf_unit::directives::{Asked, Directive, weight_of};
 use inf_unit::messages::{Blame, Messages, location, setting_of};
@@ -272,6 +272,7 @@ impl Work {
     }
 
     /// The header of a routine, which ends here.
+    #[inline(never)]
     fn header(
         &mut self,
         files: &Stack,
@@ -345,6 +346,7 @@ impl Work {
     }
 
     /// Ends the open routine at a place: tells its unused locals, and finishes its code.
+    #[inline(never)]
     fn close(&mut self, files: &Stack, place: Place) -> Result<(), AllocError>
         ensures { OnOk result (work self.new ≡ close files.now.names place (work self.old)) }
     {
@@ -357,6 +359,7 @@ impl Work {
     }
 
     /// A statement ends that began so.
+    #[inline(never)]
     fn end_statement(&mut self, files: &Stack, head: Option<Head>) -> Result<(), AllocError>
         ensures { OnOk result (work self.new ≡ statement_end files.now.names head (work self.old)) }
     {
@@ -378,6 +381,7 @@ impl Work {
     }
 
     /// A directive ends that began so, with these names.
+    #[inline(never)]
     fn end_directive(
         &mut self,
         files: &Stack,

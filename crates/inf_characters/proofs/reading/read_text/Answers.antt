@@ -1,4 +1,4 @@
-use Rattle.std.proofs.Common.{◌-◌, [], refl, length, drop, false, sym, arith}
+use Rattle.std.proofs.Common.{◌-◌, [], refl, length, drop, false, sym, ◌∙◌, arith}
 use Rattle.std.proofs.lemmas.List.{take_all, length-drop}
 use Rattle.inf_characters.specs.Reading.{text_from, text_of}
 use Rattle.std.proofs.lemmas.Result.{err_from_is_err_and}
@@ -8,13 +8,15 @@ use Rattle.inf_characters.proofs.reading.read_text.Goals as goal
 
 pub loop-first-init : goal.loop-first-init
 unfolding text_of
-loop-first-init c = record {
-  value = rw c.new-items.ensures.items (with_front-none (text_from c.args.set c.args.mode false 0 c.args.bytes.now));
-  text = rw c.new-items.ensures.items tt;
-  seen = [];
-  bytes_are = refl;
-  cut = λ xs ys split. rw c.new-items.ensures.items (sym (with_front-none (text_from c.args.set c.args.mode false 0 xs)));
-}
+loop-first-init c =
+    let none = c.reserve.ensures.items ∙ c.new-items.ensures.items in
+    record {
+      value = rw none (with_front-none (text_from c.args.set c.args.mode false 0 c.args.bytes.now));
+      text = rw none tt;
+      seen = [];
+      bytes_are = refl;
+      cut = λ xs ys split. rw none (sym (with_front-none (text_from c.args.set c.args.mode false 0 xs)));
+    }
 
 pub returns-in_err-push_times : goal.returns-in_err-push_times
 returns-in_err-push_times c =

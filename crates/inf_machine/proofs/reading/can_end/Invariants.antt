@@ -4,4 +4,4 @@ use Rattle.inf_machine.specs.Machine.{can_end}
 use Rattle.inf_machine.proofs.reading.can_end.Given as goal
 
 abbrev pub invariant-loop-symbol : goal.invariant-loop-symbol
-invariant-loop-symbol g l = can_end g.A.Table.known (reverse l.stack) ≡ can_end g.A.Table.known (reverse l.symbol-iterator.iter.rest.now)
+invariant-loop-symbol g l = can_end g.T.Table.known (reverse l.stack) ≡ can_end g.T.Table.known (reverse l.symbol-iterator.iter.rest.now)

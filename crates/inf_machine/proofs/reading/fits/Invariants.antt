@@ -4,4 +4,4 @@ use Rattle.inf_machine.specs.Machine.{fits}
 use Rattle.inf_machine.proofs.reading.fits.Given as goal
 
 abbrev pub invariant-loop-symbol : goal.invariant-loop-symbol
-invariant-loop-symbol g l = fits g.A.Table.grammar g.A.Table.known l.atom (reverse l.stack) ≡ fits g.A.Table.grammar g.A.Table.known l.atom (reverse l.symbol-iterator.iter.rest.now)
+invariant-loop-symbol g l = fits g.T.Table.grammar g.T.Table.known l.atom (reverse l.stack) ≡ fits g.T.Table.grammar g.T.Table.known l.atom (reverse l.symbol-iterator.iter.rest.now)

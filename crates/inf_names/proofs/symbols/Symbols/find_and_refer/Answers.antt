@@ -4,7 +4,7 @@ use Rattle.std.proofs.lemmas.List.{length-map}
 use Rattle.std.specs.Prelude.{is_some, nat_le}
 use Rattle.inf_names.specs.Entries.{as_named}
 use Rattle.inf_names.specs.SystemNames.{system_meaning}
-use Rattle.inf_names.specs.Symbols.{Named, Table, IsUsed, declarations, folded, is_full, number_of, put, standing_of, with_used}
+use Rattle.inf_names.specs.Symbols.{Named, Table, IsUsed, declarations, folded, is_full, number_among, number_of, put, standing_of, with_used}
 use Rattle.inf_names.proofs.Putting.{declarations-used, fits_behind, found_at_number, index_of-absent, length-put, new_number, new_used, not_numbered, put-insert}
 use Rattle.inf_names.proofs.symbols.Symbols.find_and_refer.Goals as goal
 
@@ -17,11 +17,11 @@ invariant_of-self-2 g c =
     let known = standing_of key names in
     let put_in = IsUsed c.args.name.now c.args.place in
     let absent : is_some known ≡ false =
-    ap (λ (t : Table _). is_some (standing_of key t.names)) c.self.view_is ∙ not_numbered key c.args.self.now.names c.in_default.ensures in
+    ap (λ (t : Table _). is_some (standing_of key t.names)) c.self.view_is ∙ not_numbered key c.args.self.now.names (c.in_default.ensures ∙ ap (λ k. number_among k c.args.self.now.names) c.folded-key.ensures) in
     let new = c.insert.new.self.entries in
     let is : map as_named new ≡ put key put_in names =
     ap (map as_named) c.in_ok-insert.ensures.entries ∙ put-insert _ _ es
-    ∙ ap (λ k. put k (IsUsed c.spelled.result.items c.args.place) names) c.folded.ensures ∙ ap (λ s. put key (IsUsed s c.args.place) names) c.spelled.ensures in
+    ∙ ap (λ k. put k (IsUsed c.spelled.result.items c.args.place) names) c.folded-key.ensures ∙ ap (λ s. put key (IsUsed s c.args.place) names) c.spelled.ensures in
     let count : length new ≡ length es + cond (is_some known) 0 1 =
     sym (length-map new as_named) ∙ ap length is ∙ length-put key put_in names ∙ ap (λ n. n + cond (is_some known) 0 1) (length-map es as_named) in
     let room : is_some known ≡ false → nat_le inside.limit (length es) ≡ false =
@@ -39,11 +39,11 @@ returns-clause-ok g c =
     let system = system_meaning inside.is_debugging c.args.name.now in
     let t : Table _ = record { names = names; declared = inside.declared; limit = inside.limit; is_debugging = inside.is_debugging } in
     let absent : is_some (standing_of key names) ≡ false =
-    ap (λ (t : Table _). is_some (standing_of key t.names)) c.self.view_is ∙ not_numbered key c.args.self.now.names c.in_default.ensures in
+    ap (λ (t : Table _). is_some (standing_of key t.names)) c.self.view_is ∙ not_numbered key c.args.self.now.names (c.in_default.ensures ∙ ap (λ k. number_among k c.args.self.now.names) c.folded-key.ensures) in
     let free : is_some system ≡ false = ap is_some (sym c.in_default-system_meaning.ensures) in
     let is : map as_named c.insert.new.self.entries ≡ put key (IsUsed c.args.name.now c.args.place) names =
     ap (map as_named) c.in_ok-insert.ensures.entries ∙ put-insert _ _ es
-    ∙ ap (λ k. put k (IsUsed c.spelled.result.items c.args.place) names) c.folded.ensures ∙ ap (λ s. put key (IsUsed s c.args.place) names) c.spelled.ensures in
+    ∙ ap (λ k. put k (IsUsed c.spelled.result.items c.args.place) names) c.folded-key.ensures ∙ ap (λ s. put key (IsUsed s c.args.place) names) c.spelled.ensures in
     ap (λ (names : List (Named _)). record { names = names; declared = inside.declared; limit = inside.limit; is_debugging = inside.is_debugging }) is
     ∙ sym (new_used c.args.name.now c.args.place t system (standing_of key names) free absent)
     ∙ ap (with_used c.args.name.now c.args.place) c.self.view_is
@@ -57,7 +57,7 @@ returns-clause-number g c =
     let system = system_meaning inside.is_debugging c.args.name.now in
     let t : Table _ = record { names = names; declared = inside.declared; limit = inside.limit; is_debugging = inside.is_debugging } in
     let absent : is_some (standing_of key names) ≡ false =
-    ap (λ (t : Table _). is_some (standing_of key t.names)) c.self.view_is ∙ not_numbered key c.args.self.now.names c.in_default.ensures in
+    ap (λ (t : Table _). is_some (standing_of key t.names)) c.self.view_is ∙ not_numbered key c.args.self.now.names (c.in_default.ensures ∙ ap (λ k. number_among k c.args.self.now.names) c.folded-key.ensures) in
     let free : is_some system ≡ false = ap is_some (sym c.in_default-system_meaning.ensures) in
     ap Some (c.len-number.ensures.count ∙ ap (λ (t : Table _). length t.names) (sym c.self.view_is) ∙ sym (index_of-absent key names absent))
     ∙ sym (new_number c.args.name.now c.args.place t system (standing_of key names) free absent)
@@ -67,4 +67,4 @@ pub returns-in-Some-clause-found : goal.returns-in-Some-clause-found
 returns-in-Some-clause-found g c =
     let t = c.args.self.now in
     c.found_at.ensures
-    ∙ found_at_number (system_meaning t.is_debugging c.args.name.now) (folded c.args.name.now) t.names c.in-Some.number (sym c.in-Some.is ∙ c.number.ensures)
+    ∙ found_at_number (system_meaning t.is_debugging c.args.name.now) (folded c.args.name.now) t.names c.in-Some.number (sym c.in-Some.is ∙ c.number.ensures ∙ ap (λ k. number_among k t.names) c.folded-key.ensures)

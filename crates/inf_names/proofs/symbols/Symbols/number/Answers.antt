@@ -6,6 +6,5 @@ use Rattle.inf_names.proofs.symbols.Symbols.number.Goals as goal
 
 pub returns : goal.returns
 returns g c =
-    number_of_place c.folded-key.result.items c.self.inside.entries.entries c.get_index_of.result c.get_index_of.ensures.index c.get_index_of.ensures.found
-    ∙ ap (λ (t : Table _). number_among c.folded-key.result.items t.names) c.self.view_is
-    ∙ ap (λ k. number_among k c.args.self.now.names) c.folded-key.ensures
+    number_of_place c.args.key.now.items c.self.inside.entries.entries c.get_index_of.result c.get_index_of.ensures.index c.get_index_of.ensures.found
+    ∙ ap (λ (t : Table _). number_among c.args.key.now.items t.names) c.self.view_is

@@ -1,9 +1,9 @@
 -- The rows of some rules. Made from docs/grammar.txt.
 use Rattle.std.specs.Prelude.{List, [], ◌∷◌}
 use Rattle.inf_machine.specs.Grammar.{Row}
-use Rattle.inf_grammar.specs.declared.actions.Action.{Action}
-use Rattle.inf_grammar.specs.Rows.{row}
-use Rattle.inf_grammar.specs.Parts.{ !comma, !negate, 'comma', 'minus', after_unary, case_end, end, inner_operator, minus_following, neg, outer_following, outer_following_1, outer_operator, prim, range, statement_end, step_prefix, switch_next, switch_next_2, values}
+use Rattle.inf_syntax.specs.declared.actions.Action.{Action}
+use Rattle.inf_syntax.specs.Rows.{row}
+use Rattle.inf_syntax.specs.Parts.{ !comma, !negate, 'comma', 'minus', after_unary, case_end, end, inner_operator, minus_following, neg, outer_following, outer_following_1, outer_operator, prim, range, statement_end, step_prefix, switch_next, switch_next_2, values}
 
 abbrev pub rules_4 : List (List (Row Action))
 rules_4 =

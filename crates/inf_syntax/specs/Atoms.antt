@@ -2,9 +2,9 @@
 -- again as that of a class, a number, a character, a word in quotes, a text, a bad token, the end.
 use Rattle.std.specs.Prelude.{ℕ, ◌+◌, ◌-◌, ◌*◌, ◌^◌, List, [], ◌∷◌, bit_or, bit_and, if◌then◌else◌}
 use Rattle.std.specs.Str.{str_eq_ignore_ascii_case}
-use Rattle.inf_grammar.specs.Words.{words}
-use Rattle.inf_grammar.specs.declared.atoms.Token.{Token as Seen}
-use Rattle.inf_grammar.specs.declared.atoms.Token.TheVariants as seen
+use Rattle.inf_syntax.specs.Words.{words}
+use Rattle.inf_syntax.specs.declared.atoms.Token.{Token as Seen}
+use Rattle.inf_syntax.specs.declared.atoms.Token.TheVariants as seen
 use Rattle.inf_scanner.specs.declared.tokens.Mark.{Mark}
 use Rattle.inf_scanner.specs.declared.tokens.Mark.TheVariants as mark
 

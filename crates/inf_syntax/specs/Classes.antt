@@ -1,6 +1,6 @@
 -- The classes of tokens, as sets of atoms. Made from docs/grammar.txt.
 use Rattle.std.specs.Prelude.{ℕ, List, [], ◌∷◌, codes}
-use Rattle.inf_grammar.specs.Atoms.{of_mark, of_word, name, classname, number, char, word_literal, text, joined, without}
+use Rattle.inf_syntax.specs.Atoms.{of_mark, of_word, name, classname, number, char, word_literal, text, joined, without}
 use Rattle.inf_scanner.specs.declared.tokens.Mark.TheVariants as mark
 
 abbrev pub operand : ℕ

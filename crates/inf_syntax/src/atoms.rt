@@ -1,9 +1,9 @@
 //! Atoms: what the grammar can tell of a token.
 ghost use Rattle.std.specs.Prelude.{◌≡◌, ◌≤◌, ◌<◌, get_or, length, map};
 ghost use Rattle.std.specs.Str.{str_eq_ignore_ascii_case};
-ghost use Rattle.inf_grammar.specs.Atoms.{atom_of, place_in};
-ghost use Rattle.inf_grammar.specs.Tables.{all_slots, letter, slot};
-ghost use Rattle.inf_grammar.specs.Words.{words};
+ghost use Rattle.inf_syntax.specs.Atoms.{atom_of, place_in};
+ghost use Rattle.inf_syntax.specs.Slots.{all_slots, letter, slot};
+ghost use Rattle.inf_syntax.specs.Words.{words};
 
 use crate::words::{SLOTS, WORDS};
 use inf_scanner::Mark;
@@ -33,6 +33,9 @@ const NAMES: u8 = 73;
 
 /// The number of the first atom behind the names.
 const FIRST_LITERAL: u8 = 186;
+
+/// The atom of a name that is no word of the grammar, and not declared as that of a class.
+pub const OTHER_NAME: u8 = FIRST_NAME + NAMES - 1;
 
 /// The atom of a token, a number below 192.
 pub fn atom_of(token: Token<'_>) -> u8

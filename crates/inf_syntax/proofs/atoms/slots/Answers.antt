@@ -1,7 +1,7 @@
 -- By evaluation.
 use Rattle.std.proofs.Common.{refl}
-use Rattle.inf_grammar.specs.Tables.{all_slots}
-use Rattle.inf_grammar.proofs.atoms.slots.Goals as goal
+use Rattle.inf_syntax.specs.Slots.{all_slots}
+use Rattle.inf_syntax.proofs.atoms.slots.Goals as goal
 
 pub returns : goal.returns
 unfolding all_slots

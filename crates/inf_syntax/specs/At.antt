@@ -1,7 +1,7 @@
 -- What stands in a list at a place.
 use Rattle.std.specs.Prelude.{ℕ, List, [], Bool, false, get_or}
 use Rattle.inf_machine.specs.Grammar.{Row}
-use Rattle.inf_grammar.specs.declared.actions.Action.{Action}
+use Rattle.inf_syntax.specs.declared.actions.Action.{Action}
 
 abbrev pub number_at : List ℕ → ℕ → ℕ
 number_at xs at = get_or xs at 0

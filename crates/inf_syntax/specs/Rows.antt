@@ -2,9 +2,9 @@
 use Rattle.std.specs.Prelude.{ℕ, List}
 use Rattle.inf_machine.specs.declared.symbols.Symbol.{Symbol}
 use Rattle.inf_machine.specs.Grammar.{Row}
-use Rattle.inf_grammar.specs.declared.actions.Action.{Action}
-use Rattle.inf_grammar.specs.Classes.{classes}
-use Rattle.inf_grammar.specs.At.{number_at}
+use Rattle.inf_syntax.specs.declared.actions.Action.{Action}
+use Rattle.inf_syntax.specs.Classes.{classes}
+use Rattle.inf_syntax.specs.At.{number_at}
 
 abbrev pub row : List (Symbol Action) → Row Action
 row parts = record { parts = parts; unless = 0 }

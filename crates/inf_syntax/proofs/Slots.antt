@@ -7,9 +7,9 @@ use Rattle.std.proofs.lemmas.List.{length-map}
 use Rattle.std.proofs.lemmas.List.FromFn.{get_or-map-range_with_len}
 use Rattle.std.proofs.lemmas.Slice.Eq.{bytes_eq-Decides}
 use Rattle.std.proofs.Math.ListN.{get_or-map}
-use Rattle.inf_grammar.specs.Atoms.{place_in}
-use Rattle.inf_grammar.specs.Words.{words}
-use Rattle.inf_grammar.specs.Tables.{letter, slot, place_of, word_slots, all_slots}
+use Rattle.inf_syntax.specs.Atoms.{place_in}
+use Rattle.inf_syntax.specs.Words.{words}
+use Rattle.inf_syntax.specs.Slots.{letter, slot, place_of, word_slots, all_slots}
 
 -- The slot of a name in any case
 

@@ -1,9 +1,9 @@
 -- By the word with the name's slot.
 use Rattle.std.proofs.Common.{◌∙◌, sym, ap, arith, get_or}
 use Rattle.std.specs.Str.{str_eq_ignore_ascii_case}
-use Rattle.inf_grammar.specs.Tables.{all_slots}
-use Rattle.inf_grammar.proofs.Slots.{placed, word_at}
-use Rattle.inf_grammar.proofs.atoms.place.Goals as goal
+use Rattle.inf_syntax.specs.Slots.{all_slots}
+use Rattle.inf_syntax.proofs.Slots.{placed, word_at}
+use Rattle.inf_syntax.proofs.atoms.place.Goals as goal
 
 pub returns-in-Some-clause-place : goal.returns-in-Some-clause-place
 returns-in-Some-clause-place c =

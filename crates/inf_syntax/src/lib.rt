@@ -1,0 +1,15 @@
+//! What the grammar of a source is written in, and its rows.
+//!
+//! A token is seen as an atom (`atom_of`); what reading is to do is an `Action`. `specs/` has the numbers of atoms (`Atoms`), the
+//! classes of tokens as sets of atoms (`Classes`), the parts of rows (`Parts`), and the rows, rule by rule (from `Table1` on).
+//! The page `docs/grammar.txt` has the grammar to be read; `tools/grammar.py` makes the tables of it. The crate `inf_grammar`
+//! has what is computed of these rows, and the machine that reads by them.
+#![tactic(auto)]
+
+mod actions;
+mod atoms;
+mod words;
+
+pub use actions::Action;
+pub use atoms::{OTHER_NAME, Token, atom_of};
+pub use inf_scanner::Mark;
