@@ -151,13 +151,14 @@ impl<'t> Headed<'t> {
             self.repeated = Some(self.repeated.unwrap_or(again));
             return;
         }
-        let local = Local {
+        if self.locals.list.is_full() {
+            self.are_too_many = true;
+            return;
+        }
+        self.locals.list.push(Local {
             name: copy_of(&name.spelling),
             place: name.place,
             is_named: false,
-        };
-        if self.locals.list.try_push(local).is_err() {
-            self.are_too_many = true;
-        }
+        });
     }
 }
