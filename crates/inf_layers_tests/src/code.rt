@@ -1,38 +1,56 @@
 //! Routines written out, with the bytes that the Z-Machine Standard 1.1 gives for them.
 
+use crate::expecting::expect;
 use inf_area::{Reference, ReferenceKind};
 use inf_assembler::{GrowFault, RoutineKind, Setting};
 use inf_layout::code::{Code, CodeLimits};
 use inf_opcode::{Instruction, Opcode, Operand};
-use std::test::Fail;
+use std::alloc::Global;
+use std::process::Abort;
 
-// More than each test needs.
+/// What is added to code.
+#[derive(Drop)]
+enum Addition {
+    /// The beginning of a routine of so many locals, at most 15.
+    Open(u8),
+    /// A call of the routine of this number with the first local.
+    Call(usize),
+    /// A return of the number of this routine.
+    Return(usize),
+    NewLine,
+    Quit,
+    /// The end of a routine.
+    Close,
+    /// A routine of one local, which calls the routine of this number with it.
+    Whole(usize),
+}
+
+/// A step with code, and what has to come of it.
+#[derive(Drop)]
+enum Step {
+    Adds(Addition),
+    /// This is refused, as it would pass a limit.
+    Refuses(Addition, Setting),
+    GivesUp,
+    /// Code begins, or would pass this limit.
+    Begins(Option<Setting>),
+    /// The finished routines have so many bytes.
+    Len(usize),
+    /// With the first routine there are so many bytes, and so many references.
+    Counts(usize, usize),
+}
+
+use Addition::*;
+use Step::*;
+
+/// More than each test needs.
 const ROOMY: CodeLimits = CodeLimits {
     labels: 100,
     code: 1_000,
     refs: 100,
 };
 
-const CODE_IS_FULL: Result<(), GrowFault> = Err(GrowFault::Full(Setting::Code));
-
-const REFS_ARE_FULL: Result<(), GrowFault> = Err(GrowFault::Full(Setting::Refs));
-
-// Code of so many bytes at most.
-fn code_of(rt: &HostRuntime, bytes: usize) -> Code {
-    code_with(rt, bytes, ROOMY.refs)
-}
-
-// Code of so many bytes and references at most.
-fn code_with(rt: &HostRuntime, bytes: usize, refs: usize) -> Code {
-    let limits = CodeLimits {
-        code: bytes,
-        refs,
-        ..ROOMY
-    };
-    Code::new(rt.alloc(), limits)
-}
-
-// A routine that is known later, by its number.
+/// A routine that is known later, by its number.
 fn routine(number: usize) -> Reference {
     Reference {
         kind: ReferenceKind::PackedAddress,
@@ -40,187 +58,252 @@ fn routine(number: usize) -> Reference {
     }
 }
 
-// Calls a routine with the first local.
+/// Calls a routine with the first local.
 fn emit_call(code: &mut Code, number: usize) -> Result<(), GrowFault> {
     let operands = [Operand::Later(routine(number)), Operand::Variable(1)];
     code.emit(&Instruction::new(Opcode::Call2n, &operands, None))
 }
 
-// Returns the number of a routine.
+/// Returns the number of a routine.
 fn emit_return(code: &mut Code, number: usize) -> Result<(), GrowFault> {
     let operands = [Operand::Later(routine(number))];
     code.emit(&Instruction::new(Opcode::Ret, &operands, None))
 }
 
-// Appends a routine of one local, which calls a routine with it.
-fn close_call(rt: &HostRuntime, code: &mut Code, number: usize) -> Result<(), Fail> {
-    code.open(rt.alloc(), 1)?;
+/// Adds a routine of one local, which calls a routine with it.
+fn add_whole(alloc: Global, code: &mut Code, number: usize) -> Result<(), GrowFault> {
+    code.open(alloc, 1)?;
     emit_call(code, number)?;
-    code.close(RoutineKind::Plain)?;
-    Ok(())
+    code.close(RoutineKind::Plain)
 }
 
-#[test]
-fn a_call_takes_its_number(rt: HostRuntime) -> Result<(), Fail> {
-    let mut code = Code::new(rt.alloc(), ROOMY);
-    assert_eq!(rt; (code.count(), code.references()), (0, 4));
-    close_call(&rt, &mut code, 1)?;
-    assert_eq!(rt; code.len(), 8);
-    assert_eq!(rt; (code.count(), code.references()), (16, 6));
-    let area = code.fill(&[5, 0x00F4]);
-    let bytes = [0x01, 0xDA, 0x2F, 0x00, 0xF4, 0x01, 0xB0, 0x00];
-    assert_eq!(rt; area.as_slice(), bytes.as_slice());
-    Ok(())
+/// Adds this.
+fn add(
+    rt: &impl Abort,
+    alloc: Global,
+    code: &mut Code,
+    addition: &Addition,
+) -> Result<(), GrowFault> {
+    match addition {
+        Open(locals) => {
+            assert!(rt; *locals <= 15);
+            code.open(alloc, *locals)
+        }
+        Call(number) => emit_call(code, *number),
+        Return(number) => emit_return(code, *number),
+        NewLine => code.emit(&Instruction::bare(Opcode::NewLine)),
+        Quit => code.emit(&Instruction::bare(Opcode::Quit)),
+        Close => code.close(RoutineKind::Plain),
+        Whole(number) => add_whole(alloc, code, *number),
+    }
 }
 
-#[test]
-fn a_routine_with_no_items_is_padded(rt: HostRuntime) -> Result<(), Fail> {
-    let mut code = Code::new(rt.alloc(), ROOMY);
-    code.open(rt.alloc(), 0)?;
-    code.close(RoutineKind::Plain)?;
-    assert_eq!(rt; code.len(), 4);
-    let area = code.fill(&[]);
-    assert_eq!(rt; area.as_slice(), [0x00, 0xB0, 0x00, 0x00].as_slice());
-    Ok(())
+/// Takes a step, at this place of a case.
+fn take(rt: &impl Abort, alloc: Global, code: &mut Code, step: &Step, at: (&str, usize)) {
+    match step {
+        Adds(addition) => expect(rt, &at, &add(rt, alloc, code, addition), &Ok(())),
+        Refuses(addition, setting) => {
+            let refused = Err(GrowFault::Full(*setting));
+            expect(rt, &at, &add(rt, alloc, code, addition), &refused);
+        }
+        GivesUp => code.give_up(),
+        Begins(full) => expect(rt, &at, &code.begin(), full),
+        Len(bytes) => expect(rt, &at, &code.len(), bytes),
+        Counts(bytes, references) => {
+            let counts = (code.count(), code.references());
+            expect(rt, &at, &counts, &(*bytes, *references));
+        }
+    }
 }
 
-#[test]
-fn each_call_takes_its_own_number(rt: HostRuntime) -> Result<(), Fail> {
-    let mut code = Code::new(rt.alloc(), ROOMY);
-    close_call(&rt, &mut code, 1)?;
-    close_call(&rt, &mut code, 0)?;
-    // The list has no number 2.
-    close_call(&rt, &mut code, 2)?;
-    assert_eq!(rt; code.len(), 24);
-    let area = code.fill(&[0x1234, 0xABCD]);
-    let bytes = [
-        0x01, 0xDA, 0x2F, 0xAB, 0xCD, 0x01, 0xB0, 0x00, 0x01, 0xDA, 0x2F, 0x12, 0x34, 0x01, 0xB0,
-        0x00, 0x01, 0xDA, 0x2F, 0x00, 0x00, 0x01, 0xB0, 0x00,
-    ];
-    assert_eq!(rt; area.as_slice(), bytes.as_slice());
-    Ok(())
+/// Takes the steps of a case in turn.
+fn take_all(rt: &impl Abort, alloc: Global, code: &mut Code, case: &str, steps: &[Step]) {
+    for (place, step) in steps.iter().enumerate() {
+        take(rt, alloc, code, step, (case, place));
+    }
 }
 
-#[test]
-fn a_routine_that_is_given_up_leaves_nothing(rt: HostRuntime) -> Result<(), Fail> {
-    let mut code = Code::new(rt.alloc(), ROOMY);
-    close_call(&rt, &mut code, 0)?;
-    code.open(rt.alloc(), 2)?;
-    emit_return(&mut code, 1)?;
-    code.give_up();
-    assert_eq!(rt; code.len(), 8);
-    // A routine that is still open is given up by the next one.
-    code.open(rt.alloc(), 3)?;
-    emit_return(&mut code, 1)?;
-    code.open(rt.alloc(), 0)?;
-    code.emit(&Instruction::bare(Opcode::Quit))?;
-    code.close(RoutineKind::Plain)?;
-    assert_eq!(rt; code.len(), 12);
-    // No routine is open: nothing is written and nothing closed.
-    code.emit(&Instruction::bare(Opcode::NewLine))?;
-    code.close(RoutineKind::Plain)?;
-    // What is open at the end is no part of the code.
-    code.open(rt.alloc(), 4)?;
-    let area = code.fill(&[0x1234, 0xABCD]);
-    let bytes = [
-        0x01, 0xDA, 0x2F, 0x12, 0x34, 0x01, 0xB0, 0x00, 0x00, 0xBA, 0x00, 0x00,
-    ];
-    assert_eq!(rt; area.as_slice(), bytes.as_slice());
-    Ok(())
-}
+/// What a case shows, its steps, the numbers that are known at the end, and the bytes of the finished routines.
+const WRITTEN: [(&str, &[Step], &[u16], &[u8]); 4] = [
+    (
+        "a call takes its number",
+        &[Counts(0, 4), Adds(Whole(1)), Len(8), Counts(16, 6)],
+        &[5, 0x00F4],
+        &[0x01, 0xDA, 0x2F, 0x00, 0xF4, 0x01, 0xB0, 0x00],
+    ),
+    (
+        "a routine with no items is padded",
+        &[Adds(Open(0)), Adds(Close), Len(4)],
+        &[],
+        &[0x00, 0xB0, 0x00, 0x00],
+    ),
+    (
+        // The list has no number 2.
+        "each call takes its own number",
+        &[Adds(Whole(1)), Adds(Whole(0)), Adds(Whole(2)), Len(24)],
+        &[0x1234, 0xABCD],
+        &[
+            0x01, 0xDA, 0x2F, 0xAB, 0xCD, 0x01, 0xB0, 0x00, 0x01, 0xDA, 0x2F, 0x12, 0x34, 0x01,
+            0xB0, 0x00, 0x01, 0xDA, 0x2F, 0x00, 0x00, 0x01, 0xB0, 0x00,
+        ],
+    ),
+    (
+        "a routine that is given up leaves nothing",
+        &[
+            Adds(Whole(0)),
+            Adds(Open(2)),
+            Adds(Return(1)),
+            GivesUp,
+            Len(8),
+            // A routine that is still open is given up by the next one.
+            Adds(Open(3)),
+            Adds(Return(1)),
+            Adds(Open(0)),
+            Adds(Quit),
+            Adds(Close),
+            Len(12),
+            // No routine is open: nothing is written and nothing closed.
+            Adds(NewLine),
+            Adds(Close),
+            // What is open at the end is no part of the code.
+            Adds(Open(4)),
+        ],
+        &[0x1234, 0xABCD],
+        &[
+            0x01, 0xDA, 0x2F, 0x12, 0x34, 0x01, 0xB0, 0x00, 0x00, 0xBA, 0x00, 0x00,
+        ],
+    ),
+];
 
 #[test]
-fn a_routine_takes_the_last_byte(rt: HostRuntime) -> Result<(), Fail> {
+fn routines_are_written_out(rt: HostRuntime) {
+    for (case, steps, numbers, bytes) in WRITTEN {
+        let mut code = Code::new(rt.alloc(), ROOMY);
+        take_all(&rt, rt.alloc(), &mut code, case, steps);
+        expect(&rt, &case, &code.fill(numbers).as_slice(), &bytes);
+    }
+}
+
+/// What a case shows, the most bytes and references, and the steps.
+const LIMITED: [(&str, usize, usize, &[Step]); 11] = [
     // The first routine; the number of locals, the five bytes of a call, what returns, and a zero.
-    let mut code = code_of(&rt, 16);
-    close_call(&rt, &mut code, 1)?;
-    assert_eq!(rt; code.len(), 8);
-    assert_eq!(rt; code.open(rt.alloc(), 0), CODE_IS_FULL);
-    Ok(())
-}
-
-#[test]
-fn the_zeros_behind_a_routine_take_bytes(rt: HostRuntime) -> Result<(), Fail> {
-    let mut code = code_of(&rt, 15);
-    code.open(rt.alloc(), 1)?;
-    emit_call(&mut code, 1)?;
-    assert_eq!(rt; code.close(RoutineKind::Plain), CODE_IS_FULL);
-    // No reference of it is left.
-    assert_eq!(rt; (code.count(), code.references()), (8, 5));
-    Ok(())
-}
-
-#[test]
-fn code_begins_once(rt: HostRuntime) {
-    let mut code = code_with(&rt, 8, 5);
-    assert_eq!(rt; code.begin(), None);
-    assert_eq!(rt; code.begin(), None);
-    assert_eq!(rt; (code.count(), code.references()), (8, 5));
-    assert_eq!(rt; code_with(&rt, 7, 4).begin(), Some(Setting::Code));
-    assert_eq!(rt; code_with(&rt, 8, 4).begin(), Some(Setting::Refs));
-}
-
-#[test]
-fn the_end_of_a_routine_takes_a_byte(rt: HostRuntime) -> Result<(), Fail> {
-    let mut code = code_of(&rt, 14);
-    code.open(rt.alloc(), 1)?;
-    emit_call(&mut code, 1)?;
-    assert_eq!(rt; code.close(RoutineKind::Plain), CODE_IS_FULL);
-    assert_eq!(rt; code.len(), 0);
-    Ok(())
-}
-
-#[test]
-fn nothing_returns_behind_an_instruction_that_leaves(rt: HostRuntime) -> Result<(), Fail> {
-    let mut code = code_of(&rt, 13);
-    code.open(rt.alloc(), 1)?;
-    assert_eq!(rt; emit_call(&mut code, 1), CODE_IS_FULL);
-    emit_return(&mut code, 1)?;
-    code.close(RoutineKind::Plain)?;
-    assert_eq!(rt; code.len(), 4);
-    Ok(())
-}
-
-#[test]
-fn no_routine_is_opened_in_no_bytes(rt: HostRuntime) {
-    let mut code = code_of(&rt, 8);
-    assert_eq!(rt; code.open(rt.alloc(), 0), CODE_IS_FULL);
-}
-
-#[test]
-fn finished_routines_count_with_the_open_one(rt: HostRuntime) -> Result<(), Fail> {
-    let mut code = code_of(&rt, 22);
-    close_call(&rt, &mut code, 1)?;
-    code.open(rt.alloc(), 1)?;
-    emit_call(&mut code, 1)?;
-    assert_eq!(rt; code.emit(&Instruction::bare(Opcode::Quit)), CODE_IS_FULL);
+    (
+        "a routine takes the last byte",
+        16,
+        100,
+        &[Adds(Whole(1)), Len(8), Refuses(Open(0), Setting::Code)],
+    ),
+    // No reference of a refused routine is left.
+    (
+        "the zeros behind a routine take bytes",
+        15,
+        100,
+        &[
+            Adds(Open(1)),
+            Adds(Call(1)),
+            Refuses(Close, Setting::Code),
+            Counts(8, 5),
+        ],
+    ),
+    (
+        "code begins once",
+        8,
+        5,
+        &[Begins(None), Begins(None), Counts(8, 5)],
+    ),
+    (
+        "the first routine takes bytes",
+        7,
+        4,
+        &[Begins(Some(Setting::Code))],
+    ),
+    (
+        "the first routine takes a reference",
+        8,
+        4,
+        &[Begins(Some(Setting::Refs))],
+    ),
+    (
+        "the end of a routine takes a byte",
+        14,
+        100,
+        &[
+            Adds(Open(1)),
+            Adds(Call(1)),
+            Refuses(Close, Setting::Code),
+            Len(0),
+        ],
+    ),
+    (
+        "nothing returns behind an instruction that leaves",
+        13,
+        100,
+        &[
+            Adds(Open(1)),
+            Refuses(Call(1), Setting::Code),
+            Adds(Return(1)),
+            Adds(Close),
+            Len(4),
+        ],
+    ),
+    (
+        "no routine is opened in no bytes",
+        8,
+        100,
+        &[Refuses(Open(0), Setting::Code)],
+    ),
     // A routine that is given up does not count.
-    code.open(rt.alloc(), 0)?;
-    code.emit(&Instruction::bare(Opcode::Quit))?;
-    code.close(RoutineKind::Plain)?;
-    assert_eq!(rt; code.len(), 12);
-    Ok(())
-}
+    (
+        "finished routines count with the open one",
+        22,
+        100,
+        &[
+            Adds(Whole(1)),
+            Adds(Open(1)),
+            Adds(Call(1)),
+            Refuses(Quit, Setting::Code),
+            Adds(Open(0)),
+            Adds(Quit),
+            Adds(Close),
+            Len(12),
+        ],
+    ),
+    (
+        "the last reference is the limit",
+        1_000,
+        7,
+        &[
+            Adds(Whole(1)),
+            Adds(Open(1)),
+            Adds(Call(1)),
+            Refuses(Call(1), Setting::Refs),
+            Refuses(Return(1), Setting::Refs),
+            Adds(Quit),
+            Adds(Close),
+            Len(16),
+        ],
+    ),
+    (
+        "of two limits that of the bytes comes first",
+        13,
+        5,
+        &[
+            Adds(Open(1)),
+            Refuses(Call(1), Setting::Code),
+            Refuses(Return(1), Setting::Refs),
+        ],
+    ),
+];
 
 #[test]
-fn the_last_reference_is_the_limit(rt: HostRuntime) -> Result<(), Fail> {
-    let mut code = code_with(&rt, 1_000, 7);
-    close_call(&rt, &mut code, 1)?;
-    code.open(rt.alloc(), 1)?;
-    emit_call(&mut code, 1)?;
-    assert_eq!(rt; emit_call(&mut code, 1), REFS_ARE_FULL);
-    assert_eq!(rt; emit_return(&mut code, 1), REFS_ARE_FULL);
-    code.emit(&Instruction::bare(Opcode::Quit))?;
-    code.close(RoutineKind::Plain)?;
-    assert_eq!(rt; code.len(), 16);
-    Ok(())
-}
-
-#[test]
-fn of_two_limits_that_of_the_bytes_comes_first(rt: HostRuntime) -> Result<(), Fail> {
-    let mut code = code_with(&rt, 13, 5);
-    code.open(rt.alloc(), 1)?;
-    assert_eq!(rt; emit_call(&mut code, 1), CODE_IS_FULL);
-    assert_eq!(rt; emit_return(&mut code, 1), REFS_ARE_FULL);
-    Ok(())
+fn each_limit_is_reached_and_not_passed(rt: HostRuntime) {
+    for (case, bytes, refs, steps) in LIMITED {
+        let limits = CodeLimits {
+            code: bytes,
+            refs,
+            ..ROOMY
+        };
+        let mut code = Code::new(rt.alloc(), limits);
+        take_all(&rt, rt.alloc(), &mut code, case, steps);
+    }
 }

@@ -1,3 +1,4 @@
+use crate::expecting::expect;
 use inf_words::dates::serial;
 use jiff::civil::Date;
 use std::test::Fail;
@@ -12,7 +13,7 @@ fn a_date_is_six_digits(rt: HostRuntime) -> Result<(), Fail> {
     ];
     for (year, month, day, digits) in cases {
         let date = Date::new(year, month, day)?;
-        assert_eq!(rt; serial(date), *digits, "year {year}");
+        expect(&rt, &year, &serial(date), digits);
     }
     Ok(())
 }

@@ -1,40 +1,46 @@
+use crate::expecting::expect;
 use inf_disk::disk::{DiskFiles, OutputSink, StoryPlace, StorySink};
 use inf_symbol::sinks::{Sink, SinkFault, write_whole};
 use inf_token::files::{Files, OpenFault, ReadFault};
 use std::io::{self, ErrorKind};
+use std::process::Abort;
+use std::rt;
 use std::test::Fail;
+
+/// Names of files that are absent, and why they cannot be opened.
+const ABSENT: [(&str, ErrorKind); 2] = [
+    ("/no/such/file", ErrorKind::NotFound),
+    ("/dev/null/file", ErrorKind::NotADirectory),
+];
 
 #[test]
 fn a_missing_file_is_absent(rt: HostRuntime) {
     let place = StoryPlace::new("/no/such/story");
     let mut files = DiskFiles::new(rt.alloc(), &rt, &place);
-    assert_eq!(rt; files.open("/no/such/file"), Err(OpenFault::Absent));
-    assert_eq!(rt; files.trouble.reason, Some(ErrorKind::NotFound));
-    assert_eq!(rt; files.open("/dev/null/file"), Err(OpenFault::Absent));
-    assert_eq!(rt; files.trouble.reason, Some(ErrorKind::NotADirectory));
+    for (name, reason) in ABSENT {
+        expect(&rt, &name, &files.open(name), &Err(OpenFault::Absent));
+        expect(&rt, &name, &files.trouble.reason, &Some(reason));
+    }
 }
 
-#[test]
-fn a_folder_cannot_be_read(rt: HostRuntime) -> Result<(), Fail> {
-    let place = StoryPlace::new("/no/such/story");
-    let mut files = DiskFiles::new(rt.alloc(), &rt, &place);
-    files.open("/")?;
-    let mut part = [0; 4];
-    assert_eq!(rt; files.read(&mut part), Err(ReadFault::Device));
-    assert_eq!(rt; files.trouble.reason, Some(ErrorKind::IsADirectory));
-    files.close();
-    Ok(())
-}
+/// Names of files that give no bytes, what a read of one answers, and the reason that it leaves.
+const WITHOUT_BYTES: [(&str, Result<usize, ReadFault>, Option<ErrorKind>); 2] = [
+    // A folder.
+    ("/", Err(ReadFault::Device), Some(ErrorKind::IsADirectory)),
+    // A file that ends at once.
+    ("/dev/null", Ok(0), None),
+];
 
 #[test]
-fn an_empty_file_ends_at_once(rt: HostRuntime) -> Result<(), Fail> {
-    let place = StoryPlace::new("/no/such/story");
-    let mut files = DiskFiles::new(rt.alloc(), &rt, &place);
-    files.open("/dev/null")?;
-    let mut part = [0; 4];
-    assert_eq!(rt; files.read(&mut part), Ok(0));
-    assert_eq!(rt; files.trouble.reason, None);
-    files.close();
+fn a_folder_cannot_be_read_and_an_empty_file_ends(rt: HostRuntime) -> Result<(), Fail> {
+    for (name, count, reason) in WITHOUT_BYTES {
+        let place = StoryPlace::new("/no/such/story");
+        let mut files = DiskFiles::new(rt.alloc(), &rt, &place);
+        files.open(name)?;
+        expect(&rt, &name, &files.read(&mut [0; 4]), &count);
+        expect(&rt, &name, &files.trouble.reason, &reason);
+        files.close();
+    }
     Ok(())
 }
 
@@ -45,10 +51,10 @@ fn the_last_opened_file_is_read(rt: HostRuntime) -> Result<(), Fail> {
     files.open("/dev/null")?;
     files.open("/dev/zero")?;
     let mut part = [1; 4];
-    assert_eq!(rt; files.read(&mut part), Ok(4));
-    assert_eq!(rt; part, [0; 4]);
+    expect(&rt, &"/dev/zero", &files.read(&mut part), &Ok(4));
+    expect(&rt, &"/dev/zero", &part, &[0; 4]);
     files.close();
-    assert_eq!(rt; files.read(&mut part), Ok(0));
+    expect(&rt, &"/dev/null", &files.read(&mut part), &Ok(0));
     files.close();
     Ok(())
 }
@@ -56,33 +62,41 @@ fn the_last_opened_file_is_read(rt: HostRuntime) -> Result<(), Fail> {
 #[test]
 fn a_writer_takes_all(rt: HostRuntime) {
     let mut output = OutputSink::new(io::sink());
-    assert_eq!(rt; write_whole(&mut output, b"hello"), Ok(()));
+    expect(&rt, &"hello", &write_whole(&mut output, b"hello"), &Ok(()));
+}
+
+/// Bytes that are written, what that answers, and the reason that it leaves.
+type Written = (&'static [u8], Result<(), usize>, Option<ErrorKind>);
+
+/// Writes a story at this place, the one part behind the other.
+fn write_story<R: rt::Files + Abort>(rt: &R, place: &StoryPlace<'_>, parts: &[Written]) {
+    let mut story = StorySink::new(rt, place);
+    for (bytes, answer, reason) in parts {
+        expect(rt, bytes, &write_whole(&mut story, bytes), answer);
+        expect(rt, bytes, &story.trouble.reason, reason);
+    }
 }
 
 #[test]
 fn a_story_that_cannot_be_written_is_a_failure(rt: HostRuntime) {
-    let place = StoryPlace::new("/dev/full");
-    let mut full = StorySink::new(&rt, &place);
-    assert_eq!(rt; write_whole(&mut full, b"hello"), Err(0));
-    assert_eq!(rt; full.trouble.reason, Some(ErrorKind::StorageFull));
-    let place = StoryPlace::new("/no/such/folder/story");
-    let mut nowhere = StorySink::new(&rt, &place);
-    assert_eq!(rt; write_whole(&mut nowhere, b""), Ok(()));
-    assert_eq!(rt; nowhere.trouble.reason, None);
-    assert_eq!(rt; write_whole(&mut nowhere, b"hello"), Err(0));
-    assert_eq!(rt; nowhere.trouble.reason, Some(ErrorKind::NotFound));
+    let full = [(b"hello".as_slice(), Err(0), Some(ErrorKind::StorageFull))];
+    write_story(&rt, &StoryPlace::new("/dev/full"), &full);
+    let nowhere = [
+        (b"".as_slice(), Ok(()), None),
+        (b"hello".as_slice(), Err(0), Some(ErrorKind::NotFound)),
+    ];
+    write_story(&rt, &StoryPlace::new("/no/such/folder/story"), &nowhere);
 }
 
 #[test]
 fn a_source_is_no_place_for_a_story(rt: HostRuntime) -> Result<(), Fail> {
     let place = StoryPlace::new("/dev/null");
     let mut files = DiskFiles::new(rt.alloc(), &rt, &place);
-    files.open("/dev/zero")?;
-    assert!(rt; !place.is_source());
-    files.open("/dev/../dev/null")?;
-    assert!(rt; place.is_source());
-    let mut story = StorySink::new(&rt, &place);
-    assert_eq!(rt; write_whole(&mut story, b"hello"), Err(0));
-    assert_eq!(rt; story.trouble.reason, Some(ErrorKind::ResourceBusy));
+    for (name, is_source) in [("/dev/zero", false), ("/dev/../dev/null", true)] {
+        files.open(name)?;
+        expect(&rt, &name, &place.is_source(), &is_source);
+    }
+    let busy = [(b"hello".as_slice(), Err(0), Some(ErrorKind::ResourceBusy))];
+    write_story(&rt, &place, &busy);
     Ok(())
 }

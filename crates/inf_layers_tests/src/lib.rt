@@ -10,6 +10,8 @@ mod dates;
 #[cfg(test)]
 mod disk;
 #[cfg(test)]
+mod expecting;
+#[cfg(test)]
 mod memory_files;
 #[cfg(test)]
 mod sinks;

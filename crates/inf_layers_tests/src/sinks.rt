@@ -1,8 +1,9 @@
 ghost use Rattle.std.specs.Prelude.{None};
 
+use crate::expecting::expect;
 use inf_symbol::memory_sink::MemorySink;
 use inf_symbol::sinks::{Sink, SinkFault, write_whole};
-use std::test::Fail;
+use std::process::Abort;
 
 /// Takes one byte a write.
 #[derive(Drop)]
@@ -44,15 +45,24 @@ impl Sink for Small {
     }
 }
 
+/// Bytes that are written, and what comes of it.
+type Written = (&'static [u8], Result<(), usize>);
+
+/// Writes these, the one behind the other.
+fn write_all(rt: &impl Abort, sink: &mut impl Sink, parts: &[Written]) {
+    for (bytes, wanted) in parts {
+        expect(rt, bytes, &write_whole(sink, bytes), wanted);
+    }
+}
+
 #[test]
 fn short_writes_go_on_behind_what_was_taken(rt: HostRuntime) {
     let mut sink = Narrow {
         whole: MemorySink::new(rt.alloc()),
     };
-    assert_eq!(rt; write_whole(&mut sink, b"hello"), Ok(()));
-    assert_eq!(rt; write_whole(&mut sink, b""), Ok(()));
-    assert_eq!(rt; write_whole(&mut sink, b"!"), Ok(()));
-    assert_eq!(rt; sink.whole.bytes(), b"hello!".as_slice());
+    let parts: [Written; 3] = [(b"hello", Ok(())), (b"", Ok(())), (b"!", Ok(()))];
+    write_all(&rt, &mut sink, &parts);
+    expect(&rt, &"hello!", &sink.whole.bytes(), &b"hello!".as_slice());
 }
 
 #[test]
@@ -62,8 +72,7 @@ fn a_write_of_nothing_is_a_failure(rt: HostRuntime) {
         room: 3,
         failures: 0,
     };
-    assert_eq!(rt; write_whole(&mut sink, b"hello"), Err(3));
-    assert_eq!(rt; write_whole(&mut sink, b"hello"), Err(0));
-    assert_eq!(rt; sink.whole.bytes(), b"hel".as_slice());
+    write_all(&rt, &mut sink, &[(b"hello", Err(3)), (b"hello", Err(0))]);
+    expect(&rt, &"hel", &sink.whole.bytes(), &b"hel".as_slice());
     assert_eq!(rt; sink.failures, 2);
 }

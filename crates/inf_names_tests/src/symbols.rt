@@ -1,137 +1,215 @@
 //! The names of a source: in which order they come, which is found, and how many there may be.
 use inf_names::meanings::Meaning;
 use inf_names::symbols::{DeclareFault, Found, LONGEST_NAME, ReferFault, Symbols};
-use std::test::Fail;
+use std::process::Abort;
 
 /// A file and a line.
 type Place = (u16, u32);
 
-#[test]
-fn counts_what_is_declared(rt: HostRuntime) -> Result<(), Fail> {
-    let mut symbols: Symbols<Place> = Symbols::new(rt.alloc(), 10, false);
-    assert_eq!(rt;
-        symbols.declare(b"Main", (0, 1), Meaning::Routine(0)),
-        Ok(1)
-    );
-    assert_eq!(rt; symbols.refer(b"later", (0, 2)), Ok(Some(1)));
-    assert_eq!(rt; symbols.declare(b"K", (0, 3), Meaning::Number(5)), Ok(2));
-    assert_eq!(rt;
-        symbols.declare(b"Later", (1, 4), Meaning::Number(6)),
-        Ok(3)
-    );
-    assert_eq!(rt; symbols.len(), 3);
-    assert_eq!(rt; symbols.declared(), 3);
-    Ok(())
+/// What is asked of the names about one of them, and what has to come of it.
+#[derive(Drop)]
+enum Asked {
+    Declare(Place, Meaning, Result<usize, DeclareFault<Place>>),
+    Refer(Place, Result<Option<usize>, ReferFault>),
+    Look(Found<Place>),
+    /// The name is that of the first use of this number.
+    UsedAs(usize, Place),
 }
 
-#[test]
-fn finds_the_first_declaration(rt: HostRuntime) -> Result<(), Fail> {
-    let mut symbols: Symbols<Place> = Symbols::new(rt.alloc(), 10, false);
-    assert_eq!(rt; symbols.look(b"hall"), Found::Unknown);
-    assert_eq!(rt; symbols.refer(b"Hall", (0, 2)), Ok(Some(0)));
-    assert_eq!(rt; symbols.look(b"hall"), Found::Used);
-    assert_eq!(rt; symbols.declare(b"HALL", (0, 3), Meaning::Object(5)), Ok(1));
-    let second = symbols.declare(b"hall", (0, 9), Meaning::Number(1));
-    assert_eq!(rt; second, Err(DeclareFault::Present(Some((0, 3)))));
-    assert_eq!(rt;
-        symbols.look(b"hAlL"),
-        Found::Declared(Meaning::Object(5), (0, 3))
-    );
-    assert_eq!(rt; symbols.refer(b"hall", (0, 10)), Ok(Some(0)));
-    assert_eq!(rt; symbols.meaning_at(0), Some(Meaning::Object(5)));
-    assert_eq!(rt; symbols.use_at(0), None);
-    Ok(())
+/// What is held behind that.
+#[derive(Drop)]
+enum Held {
+    NoUse(usize),
+    HasMeaning(usize, Option<Meaning>),
+    /// So many names, and so many declared ones.
+    Counts(usize, usize),
 }
 
-#[test]
-fn keeps_the_first_uses_in_order(rt: HostRuntime) -> Result<(), Fail> {
-    let mut symbols: Symbols<Place> = Symbols::new(rt.alloc(), 10, false);
-    for (name, line, number) in [("One", 1, 0), ("TWO", 2, 1), ("one", 3, 0), ("three", 4, 2)] {
-        assert_eq!(rt; symbols.refer(name.as_bytes(), (0, line)), Ok(Some(number)));
+use Asked::*;
+use Held::*;
+
+/// Asks about a name.
+fn ask(rt: &impl Abort, symbols: &mut Symbols<Place>, name: &[u8], asked: &Asked) {
+    assert!(rt; name.len() <= LONGEST_NAME);
+    let holds = match asked {
+        Declare(place, meaning, wanted) => symbols.declare(name, *place, *meaning) == *wanted,
+        Refer(place, wanted) => symbols.refer(name, *place) == *wanted,
+        Look(wanted) => symbols.look(name) == *wanted,
+        UsedAs(number, place) => symbols.use_at(*number) == Some((name, *place)),
+    };
+    assert!(rt; holds, "{name:?}");
+}
+
+/// Asks these in turn.
+fn ask_all(rt: &impl Abort, symbols: &mut Symbols<Place>, rows: &[(&str, Asked)]) {
+    for (name, asked) in rows {
+        ask(rt, symbols, name.as_bytes(), asked);
     }
-    assert_eq!(rt; symbols.declare(b"two", (0, 5), Meaning::Number(2)), Ok(1));
-    let one: &[u8] = b"One";
-    let three: &[u8] = b"three";
-    assert_eq!(rt; symbols.use_at(0), Some((one, (0, 1))));
-    assert_eq!(rt; symbols.use_at(1), None);
-    assert_eq!(rt; symbols.use_at(2), Some((three, (0, 4))));
-    assert_eq!(rt; symbols.use_at(3), None);
-    assert_eq!(rt; symbols.meaning_at(0), None);
-    assert_eq!(rt; symbols.meaning_at(1), Some(Meaning::Number(2)));
-    assert_eq!(rt; symbols.meaning_at(3), None);
-    Ok(())
 }
 
-#[test]
-fn tells_what_was_declared_before(rt: HostRuntime) -> Result<(), Fail> {
-    let mut symbols: Symbols<Place> = Symbols::new(rt.alloc(), 10, false);
-    assert_eq!(rt; symbols.refer(b"c", (0, 1)), Ok(Some(0)));
-    for (name, count) in [("a", 1), ("b", 2), ("c", 3)] {
-        let declared = symbols.declare(name.as_bytes(), (0, 2), Meaning::Number(0));
-        assert_eq!(rt; declared, Ok(count));
+/// Asserts these of the names.
+fn hold_all(rt: &impl Abort, symbols: &Symbols<Place>, rows: &[Held]) {
+    for (row, held) in rows.iter().enumerate() {
+        let holds = match held {
+            NoUse(number) => symbols.use_at(*number).is_none(),
+            HasMeaning(number, wanted) => symbols.meaning_at(*number) == *wanted,
+            Counts(names, declared) => symbols.len() == *names && symbols.declared() == *declared,
+        };
+        assert!(rt; holds, "{row}");
     }
-    for (name, first) in [("a", 1), ("b", 2), ("c", 3)] {
-        for n in 0..5 {
+}
+
+/// Three declarations and a use of what the last of them declares.
+const COUNTED: [(&str, Asked); 4] = [
+    ("Main", Declare((0, 1), Meaning::Routine(0), Ok(1))),
+    ("later", Refer((0, 2), Ok(Some(1)))),
+    ("K", Declare((0, 3), Meaning::Number(5), Ok(2))),
+    ("Later", Declare((1, 4), Meaning::Number(6), Ok(3))),
+];
+
+#[test]
+fn counts_what_is_declared(rt: HostRuntime) {
+    let mut symbols: Symbols<Place> = Symbols::new(rt.alloc(), 10, false);
+    ask_all(&rt, &mut symbols, &COUNTED);
+    hold_all(&rt, &symbols, &[Counts(3, 3)]);
+}
+
+/// A name that is used, declared, and declared once more.
+const DECLARED_AGAIN: [(&str, Asked); 7] = [
+    ("hall", Look(Found::Unknown)),
+    ("Hall", Refer((0, 2), Ok(Some(0)))),
+    ("hall", Look(Found::Used)),
+    ("HALL", Declare((0, 3), Meaning::Object(5), Ok(1))),
+    (
+        "hall",
+        Declare(
+            (0, 9),
+            Meaning::Number(1),
+            Err(DeclareFault::Present(Some((0, 3)))),
+        ),
+    ),
+    ("hAlL", Look(Found::Declared(Meaning::Object(5), (0, 3)))),
+    ("hall", Refer((0, 10), Ok(Some(0)))),
+];
+
+#[test]
+fn finds_the_first_declaration(rt: HostRuntime) {
+    let mut symbols: Symbols<Place> = Symbols::new(rt.alloc(), 10, false);
+    ask_all(&rt, &mut symbols, &DECLARED_AGAIN);
+    let held = [HasMeaning(0, Some(Meaning::Object(5))), NoUse(0)];
+    hold_all(&rt, &symbols, &held);
+}
+
+/// Three names that are used, one of them twice, and one declared behind that.
+const USED_IN_ORDER: [(&str, Asked); 7] = [
+    ("One", Refer((0, 1), Ok(Some(0)))),
+    ("TWO", Refer((0, 2), Ok(Some(1)))),
+    ("one", Refer((0, 3), Ok(Some(0)))),
+    ("three", Refer((0, 4), Ok(Some(2)))),
+    ("two", Declare((0, 5), Meaning::Number(2), Ok(1))),
+    ("One", UsedAs(0, (0, 1))),
+    ("three", UsedAs(2, (0, 4))),
+];
+
+/// What is held of them then.
+const HELD_IN_ORDER: [Held; 5] = [
+    NoUse(1),
+    NoUse(3),
+    HasMeaning(0, None),
+    HasMeaning(1, Some(Meaning::Number(2))),
+    HasMeaning(3, None),
+];
+
+#[test]
+fn keeps_the_first_uses_in_order(rt: HostRuntime) {
+    let mut symbols: Symbols<Place> = Symbols::new(rt.alloc(), 10, false);
+    ask_all(&rt, &mut symbols, &USED_IN_ORDER);
+    hold_all(&rt, &symbols, &HELD_IN_ORDER);
+}
+
+/// Three declarations, the last of a name that was used before.
+const DECLARED_IN_ORDER: [(&str, Asked); 4] = [
+    ("c", Refer((0, 1), Ok(Some(0)))),
+    ("a", Declare((0, 2), Meaning::Number(0), Ok(1))),
+    ("b", Declare((0, 2), Meaning::Number(0), Ok(2))),
+    ("c", Declare((0, 2), Meaning::Number(0), Ok(3))),
+];
+
+/// Where there are several declarations, a name is there from its own on.
+#[test]
+fn tells_what_was_declared_before(rt: HostRuntime) {
+    let mut symbols: Symbols<Place> = Symbols::new(rt.alloc(), 10, false);
+    ask_all(&rt, &mut symbols, &DECLARED_IN_ORDER);
+    for (name, first) in [("a", 1), ("b", 2), ("c", 3), ("d", 6), ("Nothing", 0)] {
+        for n in 0..6 {
             assert_eq!(rt; symbols.declared_before(name.as_bytes(), n), first <= n);
         }
     }
-    assert!(rt; !symbols.declared_before(b"d", 5));
-    assert!(rt; symbols.declared_before(b"Nothing", 0));
-    Ok(())
 }
 
+/// Names where there may be two.
+const LIMITED: [(&str, Asked); 9] = [
+    ("Main", Declare((0, 1), Meaning::Routine(0), Ok(1))),
+    ("K", Refer((0, 2), Ok(Some(1)))),
+    (
+        "L",
+        Declare((0, 3), Meaning::Number(0), Err(DeclareFault::Full)),
+    ),
+    ("L", Refer((0, 3), Err(ReferFault::Full))),
+    ("L", Look(Found::Unknown)),
+    (
+        "main",
+        Declare(
+            (0, 3),
+            Meaning::Number(0),
+            Err(DeclareFault::Present(Some((0, 1)))),
+        ),
+    ),
+    ("k", Declare((0, 4), Meaning::Number(9), Ok(2))),
+    ("main", Refer((0, 5), Ok(Some(0)))),
+    ("sender", Refer((0, 5), Ok(None))),
+];
+
 #[test]
-fn has_a_limit(rt: HostRuntime) -> Result<(), Fail> {
+fn has_a_limit(rt: HostRuntime) {
     let mut symbols: Symbols<Place> = Symbols::new(rt.alloc(), 2, false);
-    assert_eq!(rt;
-        symbols.declare(b"Main", (0, 1), Meaning::Routine(0)),
-        Ok(1)
-    );
-    assert_eq!(rt; symbols.refer(b"K", (0, 2)), Ok(Some(1)));
-    let full = symbols.declare(b"L", (0, 3), Meaning::Number(0));
-    assert_eq!(rt; full, Err(DeclareFault::Full));
-    assert_eq!(rt; symbols.refer(b"L", (0, 3)), Err(ReferFault::Full));
-    assert_eq!(rt; symbols.look(b"L"), Found::Unknown);
-    let present = symbols.declare(b"main", (0, 3), Meaning::Number(0));
-    assert_eq!(rt; present, Err(DeclareFault::Present(Some((0, 1)))));
-    assert_eq!(rt; symbols.declare(b"k", (0, 4), Meaning::Number(9)), Ok(2));
-    assert_eq!(rt; symbols.refer(b"main", (0, 5)), Ok(Some(0)));
-    assert_eq!(rt; symbols.refer(b"sender", (0, 5)), Ok(None));
-    assert_eq!(rt; symbols.len(), 2);
-    Ok(())
+    ask_all(&rt, &mut symbols, &LIMITED);
+    hold_all(&rt, &symbols, &[Counts(2, 2)]);
 }
 
+/// Names of which only the last letter is another.
 #[test]
-fn takes_the_longest_name(rt: HostRuntime) -> Result<(), Fail> {
+fn takes_the_longest_name(rt: HostRuntime) {
     let mut symbols: Symbols<Place> = Symbols::new(rt.alloc(), 3, false);
-    let name: &[u8] = &[b'N'; LONGEST_NAME];
-    let other: &[u8] = &[b'n'; LONGEST_NAME - 1];
-    assert_eq!(rt; symbols.refer(name, (0, 1)), Ok(Some(0)));
-    assert_eq!(rt; symbols.refer(other, (0, 2)), Ok(Some(1)));
-    assert_eq!(rt; symbols.use_at(0), Some((name, (0, 1))));
-    Ok(())
+    let name = &[b'N'; LONGEST_NAME];
+    ask(&rt, &mut symbols, name, &Refer((0, 1), Ok(Some(0))));
+    let shorter = &[b'n'; LONGEST_NAME - 1];
+    ask(&rt, &mut symbols, shorter, &Refer((0, 2), Ok(Some(1))));
+    ask(&rt, &mut symbols, name, &UsedAs(0, (0, 1)));
+}
+
+/// Declares or uses the name of a line. Answers whether its growth was refused.
+fn is_refused(symbols: &mut Symbols<Place>, name: &[u8; 2], line: u32) -> bool {
+    if line % 3 == 0 {
+        matches!(symbols.refer(name, (0, line)), Err(ReferFault::Memory))
+    } else {
+        let declared = symbols.declare(name, (0, line), Meaning::Number(0));
+        matches!(declared, Err(DeclareFault::Memory))
+    }
 }
 
 /// Each growth refused in turn leaves the names as they were.
 #[test]
-fn refused_growths_change_nothing(rt: HostRuntime) -> Result<(), Fail> {
+fn refused_growths_change_nothing(rt: HostRuntime) {
     let mut symbols: Symbols<Place> = Symbols::new(rt.alloc(), 100, false);
     for line in 0..100u32 {
         let name = [b'a' + (line / 26) as u8, b'a' + (line % 26) as u8];
         let before = (symbols.len(), symbols.declared());
-        let is_used = line % 3 == 0;
-        let is_refused = if is_used {
-            matches!(symbols.refer(&name, (0, line)), Err(ReferFault::Memory))
-        } else {
-            let declared = symbols.declare(&name, (0, line), Meaning::Number(0));
-            matches!(declared, Err(DeclareFault::Memory))
-        };
-        if is_refused {
+        if is_refused(&mut symbols, &name, line) {
             assert_eq!(rt; (symbols.len(), symbols.declared()), before);
             assert_eq!(rt; symbols.look(&name), Found::Unknown);
         } else {
-            assert_eq!(rt; symbols.len(), before.0 + 1);
+            assert_eq!(rt; Some(symbols.len()), before.0.checked_add(1));
         }
     }
-    Ok(())
 }

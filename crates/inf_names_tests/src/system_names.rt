@@ -2,7 +2,7 @@
 use inf_names::meanings::{Function, Meaning};
 use inf_names::symbols::{DeclareFault, Found, LONGEST_NAME, Symbols};
 use inf_names::system_names::system_meaning;
-use std::test::Fail;
+use std::process::Abort;
 
 /// Names and what they stand for, as the manual of the language lists them.
 const LISTED: [(&str, Meaning); 21] = [
@@ -35,40 +35,46 @@ const LISTED: [(&str, Meaning); 21] = [
     ("temp_global", Meaning::Variable(255)),
 ];
 
+/// Nothing that is asked about this name of the language changes what it stands for.
+fn stays(rt: &impl Abort, symbols: &mut Symbols<u32>, name: &[u8], meaning: Meaning) {
+    assert!(rt; name.len() <= LONGEST_NAME);
+    assert!(rt; symbols.declared_before(name, 0));
+    let declared = symbols.declare(name, 1, Meaning::Number(7));
+    assert!(rt; declared == Err(DeclareFault::Present(None)));
+    assert!(rt; symbols.refer(name, 1) == Ok(None));
+    assert!(rt; symbols.look(name) == Found::System(meaning));
+}
+
 #[test]
-fn has_the_listed_names(rt: HostRuntime) -> Result<(), Fail> {
+fn has_the_listed_names(rt: HostRuntime) {
     let mut symbols: Symbols<u32> = Symbols::new(rt.alloc(), 5, false);
     for (name, meaning) in LISTED {
-        assert!(rt; name.len() <= LONGEST_NAME);
-        assert_eq!(rt; system_meaning(name.as_bytes(), false), Some(meaning));
-        assert_eq!(rt; symbols.look(name.as_bytes()), Found::System(meaning));
-        assert!(rt; symbols.declared_before(name.as_bytes(), 0));
-        let declared = symbols.declare(name.as_bytes(), 1, Meaning::Number(7));
-        assert_eq!(rt; declared, Err(DeclareFault::Present(None)));
-        assert_eq!(rt; symbols.refer(name.as_bytes(), 1), Ok(None));
+        let name = name.as_bytes();
+        assert_eq!(rt; system_meaning(name, false), Some(meaning));
+        stays(&rt, &mut symbols, name, meaning);
     }
-    assert_eq!(rt; symbols.len(), 0);
-    Ok(())
+    assert!(rt; symbols.len() == 0);
+}
+
+/// Names, whether debugging was asked for, and what they stand for then.
+const ASKED_FOR: [(&str, bool, Option<Meaning>); 6] = [
+    ("Null", false, Some(Meaning::Number(65535))),
+    ("SELF", false, Some(Meaning::Variable(253))),
+    ("nul", false, None),
+    ("", false, None),
+    ("DEBUG", false, None),
+    ("Debug", true, Some(Meaning::Number(0))),
+];
+
+#[test]
+fn finds_them_in_any_case_and_debug_where_it_is_asked_for(rt: HostRuntime) {
+    for (name, is_debugging, wanted) in ASKED_FOR {
+        assert_eq!(rt; system_meaning(name.as_bytes(), is_debugging), wanted);
+    }
 }
 
 #[test]
-fn finds_them_in_any_case(rt: HostRuntime) {
-    assert_eq!(rt;
-        system_meaning(b"Null", false),
-        Some(Meaning::Number(65535))
-    );
-    assert_eq!(rt;
-        system_meaning(b"SELF", false),
-        Some(Meaning::Variable(253))
-    );
-    assert_eq!(rt; system_meaning(b"nul", false), None);
-    assert_eq!(rt; system_meaning(b"", false), None);
-}
-
-#[test]
-fn has_debug_where_it_is_asked_for(rt: HostRuntime) {
-    assert_eq!(rt; system_meaning(b"DEBUG", false), None);
-    assert_eq!(rt; system_meaning(b"Debug", true), Some(Meaning::Number(0)));
+fn symbols_have_debug_where_it_is_asked_for(rt: HostRuntime) {
     let with: Symbols<u32> = Symbols::new(rt.alloc(), 5, true);
     assert_eq!(rt; with.look(b"debug"), Found::System(Meaning::Number(0)));
     let without: Symbols<u32> = Symbols::new(rt.alloc(), 5, false);

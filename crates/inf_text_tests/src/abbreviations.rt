@@ -1,109 +1,195 @@
 //! Abbreviations at their limits, and which one is taken.
-use inf_text::{
-    AbbrevFault, Abbreviations, CharSet, Mode, Text, TextFault, pack, packed_len, read_text,
-};
+use crate::sources::assert_packs;
+use inf_text::{AbbrevFault, Abbreviations, CharSet, Mode, Text, read_text};
+use std::alloc::Global;
+use std::process::Abort;
 use std::test::Fail;
 
-/// The text of some bytes.
-fn text_of(rt: &HostRuntime, bytes: &[u8]) -> Result<Text, TextFault> {
-    read_text(rt.alloc(), bytes, CharSet::Ascii, Mode::Text)
+/// What is asked of the abbreviations, and what has to come of it.
+#[derive(Clone, Copy)]
+enum Asked<'a> {
+    /// To declare a text that is read in this mode.
+    Declare(&'a [u8], Mode, Result<u8, AbbrevFault>),
+    /// How many there are.
+    Count(usize),
+    /// The last of them.
+    Last(&'a [u8]),
+    /// To pack a text with them.
+    Pack(&'a [u8], &'a [u8]),
+}
+
+use Asked::*;
+
+/// Asks this of the abbreviations.
+fn ask(
+    rt: &impl Abort,
+    alloc: Global,
+    abbreviations: &mut Abbreviations,
+    asked: &Asked<'_>,
+) -> Result<(), Fail> {
+    match asked {
+        Declare(bytes, mode, wanted) => {
+            let text = read_text(alloc, bytes, CharSet::Ascii, *mode)?;
+            assert_eq!(rt; abbreviations.declare(&text), *wanted, "{bytes:?}");
+        }
+        Count(wanted) => {
+            assert_eq!(rt; abbreviations.len(), *wanted);
+            assert_eq!(rt; abbreviations.is_empty(), *wanted == 0);
+        }
+        Last(bytes) => assert_last(rt, alloc, abbreviations, bytes)?,
+        Pack(bytes, wanted) => {
+            assert_packs(
+                rt,
+                alloc,
+                bytes,
+                CharSet::Ascii,
+                Some(abbreviations),
+                wanted,
+            )?;
+        }
+    }
+    Ok(())
+}
+
+/// Asks these in turn.
+fn ask_all(
+    rt: &impl Abort,
+    alloc: Global,
+    abbreviations: &mut Abbreviations,
+    rows: &[Asked<'_>],
+) -> Result<(), Fail> {
+    for asked in rows {
+        ask(rt, alloc, abbreviations, asked)?;
+    }
+    Ok(())
+}
+
+/// Asserts that the last is the text of these bytes.
+fn assert_last(
+    rt: &impl Abort,
+    alloc: Global,
+    abbreviations: &Abbreviations,
+    bytes: &[u8],
+) -> Result<(), Fail> {
+    let wanted = read_text(alloc, bytes, CharSet::Ascii, Mode::Text)?;
+    let last = abbreviations.as_slice().last().map(Text::as_slice);
+    assert_eq!(rt; last, Some(wanted.as_slice()));
+    Ok(())
 }
 
 /// Abbreviations "aa", "ab" and so on, row by row of eight letters.
-fn declared(rt: &HostRuntime, count: u8) -> Result<Abbreviations, Fail> {
-    let mut abbreviations = Abbreviations::new(rt.alloc());
+fn declared(rt: &impl Abort, alloc: Global, count: u8) -> Result<Abbreviations, Fail> {
+    let mut abbreviations = Abbreviations::new(alloc);
     for number in 0..count {
         let bytes = [b'a' + number / 8 % 26, b'a' + number % 8];
-        abbreviations.declare(&text_of(rt, &bytes)?)?;
+        let asked = Declare(&bytes, Mode::Text, Ok(number));
+        ask(rt, alloc, &mut abbreviations, &asked)?;
     }
     Ok(abbreviations)
 }
 
+/// Where 64 are declared.
+const OF_64: [Asked<'static>; 6] = [
+    Count(64),
+    Declare(b"zz", Mode::Text, Err(AbbrevFault::Full)),
+    Declare(b"aa", Mode::Text, Err(AbbrevFault::Full)),
+    Declare(b"z", Mode::Text, Err(AbbrevFault::Full)),
+    Count(64),
+    // The 64th has entry 95 of the table: bank 2, place 31 there.
+    Pack(b"hhaa", &[0x0f, 0xe2, 0x80, 0xa5]),
+];
+
 #[test]
 fn declares_64_and_no_more(rt: HostRuntime) -> Result<(), Fail> {
-    let mut abbreviations = declared(&rt, 64)?;
-    assert_eq!(rt; abbreviations.len(), 64);
-    for bytes in [&b"zz"[..], b"aa", b"z"] {
-        assert_eq!(rt;
-            abbreviations.declare(&text_of(&rt, bytes)?),
-            Err(AbbrevFault::Full)
-        );
-    }
-    assert_eq!(rt; abbreviations.len(), 64);
-    // The 64th has entry 95 of the table: bank 2, place 31 there.
-    let packed = pack(rt.alloc(), &text_of(&rt, b"hhaa")?, Some(&abbreviations))?;
-    assert_eq!(rt; packed.as_slice(), [0x0f, 0xe2, 0x80, 0xa5].as_slice());
-    assert_eq!(rt;
-        packed_len(&text_of(&rt, b"hhaa")?, Some(&abbreviations)),
-        4
-    );
-    Ok(())
+    let mut abbreviations = declared(&rt, rt.alloc(), 64)?;
+    ask_all(&rt, rt.alloc(), &mut abbreviations, &OF_64)
 }
+
+/// Where 50 are declared.
+const OF_50: [Asked<'static>; 5] = [
+    Declare(b"the ", Mode::Text, Ok(50)),
+    Last(b"the "),
+    Declare(b"the ", Mode::Text, Err(AbbrevFault::Repeated)),
+    Declare(b"t", Mode::Text, Err(AbbrevFault::TooShort)),
+    Count(51),
+];
 
 #[test]
 fn numbers_the_51st(rt: HostRuntime) -> Result<(), Fail> {
-    let mut abbreviations = declared(&rt, 50)?;
-    assert_eq!(rt; abbreviations.declare(&text_of(&rt, b"the ")?), Ok(50));
-    let last = text_of(&rt, b"the ")?;
-    assert_eq!(rt;
-        abbreviations.as_slice().last().map(Text::as_slice),
-        Some(last.as_slice())
-    );
-    assert_eq!(rt;
-        abbreviations.declare(&text_of(&rt, b"the ")?),
-        Err(AbbrevFault::Repeated)
-    );
-    assert_eq!(rt;
-        abbreviations.declare(&text_of(&rt, b"t")?),
-        Err(AbbrevFault::TooShort)
-    );
-    assert_eq!(rt; abbreviations.len(), 51);
-    Ok(())
+    let mut abbreviations = declared(&rt, rt.alloc(), 50)?;
+    ask_all(&rt, rt.alloc(), &mut abbreviations, &OF_50)
 }
+
+/// Where none is declared.
+const OF_NONE: [Asked<'static>; 6] = [
+    Count(0),
+    Declare(b"the ", Mode::Abbreviation, Ok(0)),
+    Declare(b"the ", Mode::Abbreviation, Err(AbbrevFault::Repeated)),
+    Declare(b"the lamp", Mode::Abbreviation, Ok(1)),
+    Declare(b"the lamp", Mode::Abbreviation, Err(AbbrevFault::Repeated)),
+    Pack(b"the lamps", &[0x88, 0x38]),
+];
 
 #[test]
-fn shows_none_of_none(rt: HostRuntime) {
-    let abbreviations = Abbreviations::new(rt.alloc());
-    assert_eq!(rt; abbreviations.len(), 0);
-    assert_eq!(rt; abbreviations.is_empty(), true);
+fn takes_the_longest_abbreviation(rt: HostRuntime) -> Result<(), Fail> {
+    let mut abbreviations = Abbreviations::new(rt.alloc());
+    ask_all(&rt, rt.alloc(), &mut abbreviations, &OF_NONE)
 }
 
-/// The number of the abbreviation that a text of one is packed as.
-fn taken(
-    rt: &HostRuntime,
-    bytes: &[u8],
-    abbreviations: &Abbreviations,
-) -> Result<Option<u8>, Fail> {
-    let text = text_of(rt, bytes)?;
-    let packed = pack(rt.alloc(), &text, Some(abbreviations))?;
-    // The first Z-character is bank 2 and the next the place there, or none was taken.
-    match packed.as_slice() {
-        [high, low] if *high / 4 % 32 == 2 => Ok(Some(*high % 4 * 8 + *low / 32)),
-        _ => Ok(None),
-    }
-}
+/// Four abbreviations in some orders, what they are packed as in each, and what "abd" is: bank 2, the
+/// number of the abbreviation, and a filler or "d".
+const ORDERS: [[Asked<'static>; 9]; 4] = [
+    [
+        Declare(b"ab", Mode::Text, Ok(0)),
+        Declare(b"abab", Mode::Text, Ok(1)),
+        Declare(b"abc", Mode::Text, Ok(2)),
+        Declare(b"abcde", Mode::Text, Ok(3)),
+        Pack(b"ab", &[0x88, 0x05]),
+        Pack(b"abab", &[0x88, 0x25]),
+        Pack(b"abc", &[0x88, 0x45]),
+        Pack(b"abcde", &[0x88, 0x65]),
+        Pack(b"abd", &[0x88, 0x09]),
+    ],
+    [
+        Declare(b"abcde", Mode::Text, Ok(0)),
+        Declare(b"abc", Mode::Text, Ok(1)),
+        Declare(b"abab", Mode::Text, Ok(2)),
+        Declare(b"ab", Mode::Text, Ok(3)),
+        Pack(b"abcde", &[0x88, 0x05]),
+        Pack(b"abc", &[0x88, 0x25]),
+        Pack(b"abab", &[0x88, 0x45]),
+        Pack(b"ab", &[0x88, 0x65]),
+        Pack(b"abd", &[0x88, 0x69]),
+    ],
+    [
+        Declare(b"abc", Mode::Text, Ok(0)),
+        Declare(b"abcde", Mode::Text, Ok(1)),
+        Declare(b"ab", Mode::Text, Ok(2)),
+        Declare(b"abab", Mode::Text, Ok(3)),
+        Pack(b"abc", &[0x88, 0x05]),
+        Pack(b"abcde", &[0x88, 0x25]),
+        Pack(b"ab", &[0x88, 0x45]),
+        Pack(b"abab", &[0x88, 0x65]),
+        Pack(b"abd", &[0x88, 0x49]),
+    ],
+    [
+        Declare(b"abab", Mode::Text, Ok(0)),
+        Declare(b"ab", Mode::Text, Ok(1)),
+        Declare(b"abcde", Mode::Text, Ok(2)),
+        Declare(b"abc", Mode::Text, Ok(3)),
+        Pack(b"abab", &[0x88, 0x05]),
+        Pack(b"ab", &[0x88, 0x25]),
+        Pack(b"abcde", &[0x88, 0x45]),
+        Pack(b"abc", &[0x88, 0x65]),
+        Pack(b"abd", &[0x88, 0x29]),
+    ],
+];
 
 #[test]
 fn takes_the_longest_whatever_the_order(rt: HostRuntime) -> Result<(), Fail> {
-    let orders: [[&[u8]; 4]; 4] = [
-        [b"ab", b"abab", b"abc", b"abcde"],
-        [b"abcde", b"abc", b"abab", b"ab"],
-        [b"abc", b"abcde", b"ab", b"abab"],
-        [b"abab", b"ab", b"abcde", b"abc"],
-    ];
-    for order in orders {
+    for rows in &ORDERS {
         let mut abbreviations = Abbreviations::new(rt.alloc());
-        for bytes in order {
-            abbreviations.declare(&text_of(&rt, bytes)?)?;
-        }
-        for (number, bytes) in order.iter().enumerate() {
-            assert_eq!(rt;
-                taken(&rt, bytes, &abbreviations)?.map(usize::from),
-                Some(number)
-            );
-        }
-        let shorter = taken(&rt, b"abd", &abbreviations)?.map(usize::from);
-        assert_eq!(rt; shorter, order.iter().position(|bytes| bytes.len() == 2));
+        ask_all(&rt, rt.alloc(), &mut abbreviations, rows)?;
     }
     Ok(())
 }

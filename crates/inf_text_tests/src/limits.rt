@@ -1,114 +1,127 @@
 //! The limits of escapes, of the modes and of long texts.
-use inf_text::{CharSet, Mode, Text, TextFault, TextItem, pack, packed_len, read_text};
+use crate::sources::{assert_packs, number_of, repeated};
+use inf_text::{CharSet, Mode, TextFault, read_text};
+use std::alloc::Global;
+use std::process::Abort;
 use std::test::Fail;
 
-/// The code of the only character of a text, or 256 and the number of its only string variable.
-fn only(text: &Text) -> Option<u16> {
-    match text.as_slice() {
-        [TextItem::Character(character)] => Some(u16::from(character.code())),
-        [TextItem::Variable(number)] => Some(256 + u16::from(*number)),
-        _ => None,
+/// The number of the only item of a text, if it has but one: the code of a character, or 256 and the
+/// number of a string variable.
+type Only = Result<Option<u16>, TextFault>;
+
+/// Asserts what comes of the bytes of each row.
+fn assert_all(rt: &impl Abort, alloc: Global, set: CharSet, mode: Mode, rows: &[(&[u8], Only)]) {
+    for (bytes, wanted) in rows {
+        assert_eq!(rt; only(alloc, bytes, set, mode), *wanted, "{bytes:?}");
     }
 }
 
-/// Reads bytes that are one item, and its number.
-fn read_only(
-    rt: &HostRuntime,
-    bytes: &[u8],
-    set: CharSet,
-    mode: Mode,
-) -> Result<Option<u16>, TextFault> {
-    let text = read_text(rt.alloc(), bytes, set, mode)?;
-    Ok(only(&text))
+/// What comes of bytes.
+fn only(alloc: Global, bytes: &[u8], set: CharSet, mode: Mode) -> Only {
+    let text = read_text(alloc, bytes, set, mode)?;
+    match text.as_slice() {
+        [item] => Ok(Some(number_of(*item))),
+        _ => Ok(None),
+    }
 }
+
+/// Escapes at the ends of their ranges.
+const ESCAPES: [(&[u8], Only); 15] = [
+    (b"@31", Ok(Some(256 + 31))),
+    (b"@32", Err(TextFault::BadCode)),
+    (b"@00", Ok(Some(256))),
+    (b"@@12", Err(TextFault::BadCode)),
+    (b"@@13", Ok(Some(13))),
+    (b"@@14", Err(TextFault::BadCode)),
+    (b"@@31", Err(TextFault::BadCode)),
+    (b"@@32", Ok(Some(32))),
+    (b"@@126", Ok(Some(126))),
+    (b"@@127", Err(TextFault::BadCode)),
+    (b"@@154", Err(TextFault::BadCode)),
+    (b"@@155", Ok(Some(155))),
+    (b"@@223", Ok(Some(223))),
+    (b"@@224", Err(TextFault::BadCode)),
+    (b"@@18446744073709551681", Err(TextFault::BadCode)),
+];
 
 #[test]
 fn takes_codes_within_their_ranges(rt: HostRuntime) {
-    let escapes: [(&[u8], Result<Option<u16>, TextFault>); 15] = [
-        (b"@31", Ok(Some(256 + 31))),
-        (b"@32", Err(TextFault::BadCode)),
-        (b"@00", Ok(Some(256))),
-        (b"@@12", Err(TextFault::BadCode)),
-        (b"@@13", Ok(Some(13))),
-        (b"@@14", Err(TextFault::BadCode)),
-        (b"@@31", Err(TextFault::BadCode)),
-        (b"@@32", Ok(Some(32))),
-        (b"@@126", Ok(Some(126))),
-        (b"@@127", Err(TextFault::BadCode)),
-        (b"@@154", Err(TextFault::BadCode)),
-        (b"@@155", Ok(Some(155))),
-        (b"@@223", Ok(Some(223))),
-        (b"@@224", Err(TextFault::BadCode)),
-        (b"@@18446744073709551681", Err(TextFault::BadCode)),
-    ];
     for set in [CharSet::Ascii, CharSet::Latin1] {
-        for (bytes, wanted) in escapes {
-            assert_eq!(rt; read_only(&rt, bytes, set, Mode::Text), wanted);
-        }
+        assert_all(&rt, rt.alloc(), set, Mode::Text, &ESCAPES);
     }
 }
 
+/// Marks in a text.
+const TEXT_MARKS: [(&[u8], Only); 3] = [
+    (b"^", Ok(Some(13))),
+    (b"~", Ok(Some(34))),
+    (b"@05", Ok(Some(256 + 5))),
+];
+
+/// Marks in an abbreviation.
+const ABBREVIATION_MARKS: [(&[u8], Only); 3] = [
+    (b"^", Ok(Some(13))),
+    (b"~", Ok(Some(34))),
+    (b"@05", Err(TextFault::UnknownEscape)),
+];
+
+/// Marks between quotes.
+const QUOTE_MARKS: [(&[u8], Only); 3] = [
+    (b"^", Ok(Some(39))),
+    (b"~", Ok(Some(126))),
+    (b"@05", Err(TextFault::UnknownEscape)),
+];
+
 #[test]
 fn reads_the_marks_of_each_mode(rt: HostRuntime) {
-    let marks: [(&[u8], Mode, Result<Option<u16>, TextFault>); 9] = [
-        (b"^", Mode::Text, Ok(Some(13))),
-        (b"~", Mode::Text, Ok(Some(34))),
-        (b"^", Mode::Abbreviation, Ok(Some(13))),
-        (b"~", Mode::Abbreviation, Ok(Some(34))),
-        (b"^", Mode::Quote, Ok(Some(39))),
-        (b"~", Mode::Quote, Ok(Some(126))),
-        (b"@05", Mode::Text, Ok(Some(256 + 5))),
-        (b"@05", Mode::Quote, Err(TextFault::UnknownEscape)),
-        (b"@05", Mode::Abbreviation, Err(TextFault::UnknownEscape)),
-    ];
-    for (bytes, mode, wanted) in marks {
-        assert_eq!(rt; read_only(&rt, bytes, CharSet::Ascii, mode), wanted);
-    }
+    let (alloc, set) = (rt.alloc(), CharSet::Ascii);
+    assert_all(&rt, alloc, set, Mode::Text, &TEXT_MARKS);
+    assert_all(&rt, alloc, set, Mode::Abbreviation, &ABBREVIATION_MARKS);
+    assert_all(&rt, alloc, set, Mode::Quote, &QUOTE_MARKS);
 }
 
 #[test]
 fn reads_the_space_that_does_not_break(rt: HostRuntime) {
+    let space = [(&b"\xa0"[..], Ok(Some(32)))];
+    let none = [(&b"\xa0"[..], Err(TextFault::NoZscii))];
     for mode in [Mode::Text, Mode::Quote, Mode::Abbreviation] {
-        assert_eq!(rt;
-            read_only(&rt, b"\xa0", CharSet::Latin1, mode),
-            Ok(Some(32))
-        );
-        assert_eq!(rt;
-            read_only(&rt, b"\xa0", CharSet::Ascii, mode),
-            Err(TextFault::NoZscii)
-        );
+        assert_all(&rt, rt.alloc(), CharSet::Latin1, mode, &space);
+        assert_all(&rt, rt.alloc(), CharSet::Ascii, mode, &none);
     }
 }
 
+/// Bytes that are no text, and their first fault.
+const FAULTS: [(&[u8], Only); 11] = [
+    (b"@@154", Err(TextFault::BadCode)),
+    (b"@{20ac}", Err(TextFault::NoZscii)),
+    (b"@q", Err(TextFault::UnknownEscape)),
+    (b"@32", Err(TextFault::BadCode)),
+    (b"a@", Err(TextFault::UnknownEscape)),
+    (
+        b"@@65@@13@@155@@223@{e4}@{20ac",
+        Err(TextFault::UnknownEscape),
+    ),
+    (b"\xe4\xf6\xfc", Err(TextFault::NoZscii)),
+    (b"@", Err(TextFault::UnknownEscape)),
+    (b"\\ \n @", Err(TextFault::UnknownEscape)),
+    (b"\x80", Err(TextFault::NoZscii)),
+    (b"@99", Err(TextFault::BadCode)),
+];
+
 #[test]
-fn tells_a_fault_of_bytes_without_items(rt: HostRuntime) {
-    let texts: [(&[u8], TextFault); 4] = [
-        (b"@", TextFault::UnknownEscape),
-        (b"\\ \n @", TextFault::UnknownEscape),
-        (b"\x80", TextFault::NoZscii),
-        (b"@99", TextFault::BadCode),
-    ];
-    for (bytes, fault) in texts {
-        assert_eq!(rt;
-            read_only(&rt, bytes, CharSet::Ascii, Mode::Text),
-            Err(fault)
-        );
-    }
+fn tells_the_first_fault(rt: HostRuntime) {
+    assert_all(&rt, rt.alloc(), CharSet::Ascii, Mode::Text, &FAULTS);
 }
 
 #[test]
 fn keeps_a_text_of_100_000_items(rt: HostRuntime) -> Result<(), Fail> {
-    let mut bytes = Vec::new(rt.alloc());
-    for _ in 0..100_000 {
-        bytes.push(b'e')?;
-    }
-    let text = read_text(rt.alloc(), bytes.as_slice(), CharSet::Ascii, Mode::Text)?;
+    let alloc = rt.alloc();
+    let source = repeated(alloc, b"e", 100_000)?;
+    let text = read_text(alloc, source.as_slice(), CharSet::Ascii, Mode::Text)?;
     assert_eq!(rt; text.len(), 100_000);
-    // 100,000 Z-characters are 33,333 words and one Z-character of the last word.
-    assert_eq!(rt; packed_len(&text, None), 66_668);
-    let packed = pack(rt.alloc(), &text, None)?;
-    assert_eq!(rt; packed.len(), 66_668);
-    assert_eq!(rt; packed.as_slice().first_chunk::<2>(), Some(&[0x29, 0x4a]));
-    assert_eq!(rt; packed.as_slice().last_chunk::<2>(), Some(&[0xa8, 0xa5]));
-    Ok(())
+    // They are 33,333 words and one Z-character of the last word.
+    let mut bytes = repeated(alloc, &[0x29, 0x4a], 33_333)?;
+    bytes.extend_from_slice(&[0xa8, 0xa5])?;
+    assert_eq!(rt; bytes.len(), 66_668);
+    assert_packs(&rt, alloc, &source, CharSet::Ascii, None, &bytes)
 }

@@ -1,14 +1,17 @@
 //! The texts of worked sources, and a call of each public function that takes memory.
 use inf_text::{
-    AbbrevFault, Abbreviations, CharSet, Mode, TextFault, TextItem, Zscii, dict_word, pack,
-    packed_len, read_text, source_char,
+    Abbreviations, CharSet, Mode, TextItem, Zscii, dict_word, pack, packed_len, read_text,
+    source_char,
 };
+use std::alloc::Global;
+use std::process::Abort;
 use std::test::Fail;
 
 /// Texts of printed strings, and their bytes in a story that an interpreter prints.
-const PRINTED: [(&[u8], CharSet, &[u8]); 6] = [
+const PRINTED: [(&[u8], CharSet, &[u8]); 7] = [
     (b"", CharSet::Ascii, b"\x94\xa5"),
     (b"hello", CharSet::Ascii, b"\x35\x51\xc6\x85"),
+    (b"the lamps", CharSet::Ascii, b"\x65\xaa\x02\x26\xca\xb8"),
     (
         b"The QUICK fox; 100% & more: it's {ok} [x] <y> |z| $5 +a=b *",
         CharSet::Ascii,
@@ -31,99 +34,76 @@ const PRINTED: [(&[u8], CharSet, &[u8]); 6] = [
     ),
 ];
 
-/// The bytes of three times a sentence of 44 letters and spaces.
+/// Asserts the bytes that a text is packed as.
+pub(crate) fn assert_packs(
+    rt: &impl Abort,
+    alloc: Global,
+    source: &[u8],
+    set: CharSet,
+    abbreviations: Option<&Abbreviations>,
+    bytes: &[u8],
+) -> Result<(), Fail> {
+    let text = read_text(alloc, source, set, Mode::Text)?;
+    let packed = pack(alloc, &text, abbreviations)?;
+    assert_eq!(rt; packed.as_slice(), bytes);
+    assert_eq!(rt; packed_len(&text, abbreviations), bytes.len());
+    Ok(())
+}
+
+#[test]
+fn packs_printed_texts(rt: HostRuntime) -> Result<(), Fail> {
+    for (source, set, bytes) in &PRINTED {
+        assert_packs(&rt, rt.alloc(), source, *set, None, bytes)?;
+    }
+    Ok(())
+}
+
+/// So many times some bytes.
+pub(crate) fn repeated(alloc: Global, bytes: &[u8], times: usize) -> Result<Vec<u8>, Fail> {
+    let mut all = Vec::new(alloc);
+    for _ in 0..times {
+        all.extend_from_slice(bytes)?;
+    }
+    Ok(all)
+}
+
+/// A sentence of 44 letters and spaces.
+const SENTENCE: &[u8; 44] = b"the quick brown fox jumps over the lazy dog ";
+
+/// The bytes of three times that sentence.
 const THRICE: &[u8; 88] =
     b"\x65\xaa\x02\xda\x39\x10\x00\xf7\x53\x93\x01\x74\x74\x0f\x6a\x55\x60\x14\x6d\x57\x03\x2d\x28\x11\x1b\xfe\x01\x34\x30\x19\x35\x40\x5b\x4e\x22\x00\x1e\xf4\x72\x60\x2e\x9d\x01\xfa\x4a\xb8\x02\x9b\x2a\xe0\x65\xaa\x02\x26\x7f\xc0\x26\x8c\x03\x2d\x28\x16\x69\xc8\x40\x07\x5e\x9c\x4c\x0b\x53\xa0\x3f\x52\x57\x00\x53\x6a\x5c\x19\x35\x40\x44\xdf\x78\x09\x51\x80";
 
 #[test]
-fn packs_printed_texts(rt: HostRuntime) -> Result<(), Fail> {
-    for (source, set, bytes) in PRINTED {
-        let text = read_text(rt.alloc(), source, set, Mode::Text)?;
-        let packed = pack(rt.alloc(), &text, None)?;
-        assert_eq!(rt; packed.as_slice(), bytes);
-        assert_eq!(rt; packed_len(&text, None), bytes.len());
-    }
-    Ok(())
+fn packs_a_long_text(rt: HostRuntime) -> Result<(), Fail> {
+    let alloc = rt.alloc();
+    let source = repeated(alloc, SENTENCE, 60)?;
+    let mut bytes = repeated(alloc, THRICE, 20)?;
+    // The last word is marked as the end.
+    bytes.truncate(1758);
+    bytes.extend_from_slice(&[0x51 | 0x80, 0x80])?;
+    assert_eq!(rt; bytes.len(), 1760);
+    assert_packs(&rt, alloc, &source, CharSet::Ascii, None, &bytes)
 }
 
-#[test]
-fn packs_a_long_text(rt: HostRuntime) -> Result<(), Fail> {
-    let mut source = Vec::new(rt.alloc());
-    let mut bytes = Vec::new(rt.alloc());
-    for _ in 0..20 {
-        for _ in 0..3 {
-            source.extend_from_slice(b"the quick brown fox jumps over the lazy dog ")?;
-        }
-        bytes.extend_from_slice(THRICE)?;
-    }
-    let text = read_text(rt.alloc(), source.as_slice(), CharSet::Ascii, Mode::Text)?;
-    let packed = pack(rt.alloc(), &text, None)?;
-    assert_eq!(rt; bytes.len(), 1760);
-    let last = bytes.len() - 2;
-    bytes[last] |= 0x80;
-    assert_eq!(rt; packed.as_slice(), bytes.as_slice());
-    Ok(())
-}
+/// Words of a source, and their bytes in the dictionary.
+const WORDS: [(&[u8], [u8; 6]); 3] = [
+    (b"take", [0x64, 0xd0, 0x28, 0xa5, 0x94, 0xa5]),
+    (b"t", [0x64, 0xa5, 0x14, 0xa5, 0x94, 0xa5]),
+    (b"abcdefg@ss", [0x18, 0xe8, 0x25, 0x4b, 0xb0, 0xa6]),
+];
 
 #[test]
 fn spells_dictionary_words(rt: HostRuntime) -> Result<(), Fail> {
-    let words: [(&[u8], [u8; 6]); 3] = [
-        (b"take", [0x64, 0xd0, 0x28, 0xa5, 0x94, 0xa5]),
-        (b"t", [0x64, 0xa5, 0x14, 0xa5, 0x94, 0xa5]),
-        (b"abcdefg@ss", [0x18, 0xe8, 0x25, 0x4b, 0xb0, 0xa6]),
-    ];
-    for (source, bytes) in words {
+    for (source, bytes) in &WORDS {
         let text = read_text(rt.alloc(), source, CharSet::Ascii, Mode::Quote)?;
-        assert_eq!(rt; dict_word(&text), bytes);
+        assert_eq!(rt; dict_word(&text), *bytes);
     }
     Ok(())
-}
-
-#[test]
-fn takes_the_longest_abbreviation(rt: HostRuntime) -> Result<(), Fail> {
-    let mut abbreviations = Abbreviations::new(rt.alloc());
-    for (source, number) in [(&b"the "[..], 0), (&b"the lamp"[..], 1)] {
-        let text = read_text(rt.alloc(), source, CharSet::Ascii, Mode::Abbreviation)?;
-        assert_eq!(rt; abbreviations.declare(&text)?, number);
-        assert_eq!(rt; abbreviations.declare(&text), Err(AbbrevFault::Repeated));
-    }
-    let text = read_text(rt.alloc(), b"the lamps", CharSet::Ascii, Mode::Text)?;
-    let short = pack(rt.alloc(), &text, Some(&abbreviations))?;
-    assert_eq!(rt; short.as_slice(), [0x88, 0x38].as_slice());
-    assert_eq!(rt; packed_len(&text, Some(&abbreviations)), 2);
-    let plain = pack(rt.alloc(), &text, None)?;
-    assert_eq!(rt;
-        plain.as_slice(),
-        [0x65, 0xaa, 0x02, 0x26, 0xca, 0xb8].as_slice()
-    );
-    Ok(())
-}
-
-#[test]
-fn tells_the_first_fault(rt: HostRuntime) {
-    let texts: [(&[u8], CharSet, TextFault); 7] = [
-        (b"@@154", CharSet::Ascii, TextFault::BadCode),
-        (b"@{20ac}", CharSet::Ascii, TextFault::NoZscii),
-        (b"@q", CharSet::Ascii, TextFault::UnknownEscape),
-        (b"@32", CharSet::Ascii, TextFault::BadCode),
-        (b"a@", CharSet::Ascii, TextFault::UnknownEscape),
-        (
-            b"@@65@@13@@155@@223@{e4}@{20ac",
-            CharSet::Ascii,
-            TextFault::UnknownEscape,
-        ),
-        (b"\xe4\xf6\xfc", CharSet::Ascii, TextFault::NoZscii),
-    ];
-    for (source, set, fault) in texts {
-        match read_text(rt.alloc(), source, set, Mode::Text) {
-            Ok(_) => assert!(rt; false, "read"),
-            Err(told) => assert_eq!(rt; told, fault),
-        }
-    }
 }
 
 /// The code of a character, or 256 and the number of a string variable.
-fn number_of(item: TextItem) -> u16 {
+pub(crate) fn number_of(item: TextItem) -> u16 {
     match item {
         TextItem::Character(character) => u16::from(character.code()),
         TextItem::Variable(number) => 256 + u16::from(number),
@@ -141,30 +121,43 @@ fn keeps_string_variables(rt: HostRuntime) -> Result<(), Fail> {
     Ok(())
 }
 
-/// The code of a byte.
-fn code(byte: u8, set: CharSet) -> Option<u8> {
-    source_char(byte, set).map(Zscii::code)
-}
+/// Bytes, and the codes that they have.
+const BYTES: [(u8, CharSet, Option<u8>); 6] = [
+    (b'\t', CharSet::Ascii, Some(b' ')),
+    (0xa0, CharSet::Latin1, Some(b' ')),
+    (0xa0, CharSet::Ascii, None),
+    (0xe4, CharSet::Latin1, Some(155)),
+    (0xbf, CharSet::Latin1, Some(223)),
+    (0x7f, CharSet::Latin1, None),
+];
 
 #[test]
 fn knows_both_character_sets(rt: HostRuntime) {
-    assert_eq!(rt; code(b'\t', CharSet::Ascii), Some(b' '));
-    assert_eq!(rt; code(0xa0, CharSet::Latin1), Some(b' '));
-    assert_eq!(rt; code(0xa0, CharSet::Ascii), None);
-    assert_eq!(rt; code(0xe4, CharSet::Latin1), Some(155));
-    assert_eq!(rt; code(0xbf, CharSet::Latin1), Some(223));
-    assert_eq!(rt; code(0x7f, CharSet::Latin1), None);
+    for (byte, set, code) in &BYTES {
+        assert_eq!(rt; source_char(*byte, *set).map(Zscii::code), *code, "{byte}");
+    }
 }
+
+/// Numbers, and the codes that they are.
+const CODES: [(u32, Option<u8>); 13] = [
+    (13, Some(13)),
+    (32, Some(32)),
+    (126, Some(126)),
+    (155, Some(155)),
+    (223, Some(223)),
+    (0, None),
+    (12, None),
+    (14, None),
+    (31, None),
+    (127, None),
+    (154, None),
+    (224, None),
+    (256 + 65, None),
+];
 
 #[test]
 fn knows_the_codes(rt: HostRuntime) {
-    for number in [13, 32, 126, 155, 223] {
-        assert_eq!(rt;
-            Zscii::new(number).map(Zscii::code).map(u32::from),
-            Some(number)
-        );
-    }
-    for number in [0, 12, 14, 31, 127, 154, 224, 256 + 65] {
-        assert_eq!(rt; Zscii::new(number).map(Zscii::code), None);
+    for (number, code) in &CODES {
+        assert_eq!(rt; Zscii::new(*number).map(Zscii::code), *code, "{number}");
     }
 }

@@ -1,7 +1,19 @@
-//! Tests of the compiler, over a source and devices in memory.
+//! Tests of the compiler, over sources, files that include one another, and devices in memory.
 #![tactic(auto)]
 
 #[cfg(test)]
 mod compile;
 #[cfg(test)]
+mod conditionals;
+#[cfg(test)]
+mod faults;
+#[cfg(test)]
+mod including;
+#[cfg(test)]
 mod reading;
+#[cfg(test)]
+mod replacing;
+#[cfg(test)]
+mod running;
+#[cfg(test)]
+mod steps;

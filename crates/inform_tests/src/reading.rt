@@ -1,48 +1,42 @@
 //! How a source is read: through a window, to its end or to a fatal error, whatever a read gives.
-use crate::compile::{GREETING, GREETING_CODE, GREETING_SIZES, story_of, story_with};
-use inf_compile::{Fault, Status};
-use inf_symbol::memory_sink::MemorySink;
+use crate::compile::{GREETING, NO_ERRORS, assert_greeting, read};
+use crate::running::Ended;
 use inform_trials::devices::Slow;
-use inform_trials::running::run;
 use std::alloc::Global;
 use std::process::Abort;
 use std::test::Fail;
 
-/// Compiles what a reader gives, and asserts the status and all messages. Gives the story.
-fn assert_read(
+/// Compiles what a reader gives, and asserts all messages.
+fn read_from(
     rt: &impl Abort,
     alloc: Global,
     files: &mut Slow<'_>,
-    status: Status,
-    lines: &[u8],
-) -> Result<MemorySink, Fail> {
-    let mut messages = MemorySink::new(alloc);
-    let mut story = MemorySink::new(alloc);
-    let ended = run(alloc, files, &mut messages, &mut story)??;
-    assert_eq!(rt; messages.bytes(), lines);
-    assert_eq!(rt; ended, status);
+    lines: &str,
+) -> Result<Ended, Fail> {
+    let ended = Ended::of(alloc, files)?;
+    ended.assert_read(rt, lines);
     assert!(rt; !files.is_open);
-    Ok(story)
+    Ok(ended)
 }
 
 /// How many bytes a read gives at most, in turn.
 const READS: [usize; 6] = [1, 2, 3, 7, 4096, usize::MAX];
 
+/// A source with two bad pieces, whose lines end in three ways.
+const BAD: &[u8] = b"[ Main;\r\nprint ;\r\n];\n\r7000;";
+
+/// Its messages.
+const BAD_LINES: &str =
+    "t.inf(2): Error: Syntax error at \";\"\nt.inf(5): Error: Syntax error at \"7000\"\nErrors: 2, warnings: 0 (no output)\n";
+
 #[test]
 fn what_is_read_does_not_depend_on_the_bytes_of_a_read(rt: HostRuntime) -> Result<(), Fail> {
-    let expected = story_with(rt.alloc(), &GREETING_SIZES, GREETING_CODE)?;
     for most in READS {
         let mut files = Slow::new(GREETING, most);
-        let lines = b"Errors: 0, warnings: 0\n".as_slice();
-        let story = assert_read(&rt, rt.alloc(), &mut files, Status::Success, lines)?;
-        assert_eq!(rt; story.bytes(), expected.as_slice(), "{most}");
-        assert_eq!(rt; files.count, GREETING.len());
-        let source = b"[ Main;\r\nprint ;\r\n];\n\r7000;".as_slice();
-        let lines =
-            b"t.inf(2): Error: Syntax error at \";\"\nt.inf(5): Error: Syntax error at \"7000\"\nErrors: 2, warnings: 0 (no output)\n".as_slice();
-        let mut files = Slow::new(source, most);
-        let story = assert_read(&rt, rt.alloc(), &mut files, Status::Errors, lines)?;
-        assert!(rt; story.bytes().is_empty());
+        let ended = read_from(&rt, rt.alloc(), &mut files, NO_ERRORS)?;
+        assert_greeting(&rt, rt.alloc(), ended.story.bytes(), 976)?;
+        assert!(rt; files.count == GREETING.len(), "{most}");
+        let _ = read_from(&rt, rt.alloc(), &mut Slow::new(BAD, most), BAD_LINES)?;
     }
     Ok(())
 }
@@ -55,13 +49,13 @@ fn hundred_errors(alloc: Global) -> Result<Vec<u8>, Fail> {
 }
 
 /// The messages about them.
-fn hundred_messages(alloc: Global) -> Result<Vec<u8>, Fail> {
-    let mut lines = Vec::new(alloc);
+fn hundred_messages(alloc: Global) -> Result<String, Fail> {
+    let mut lines = String::new(alloc);
     for line in 1..=100u32 {
         let told = format!(in alloc; "t.inf({line}): Error: Syntax error at \"5\"\n")?;
-        lines.extend_from_slice(told.as_bytes())?;
+        lines.push_str(told.as_str())?;
     }
-    lines.extend_from_slice(b"t.inf(100): Fatal error: Too many errors\n")?;
+    lines.push_str("t.inf(100): Fatal error: Too many errors\n")?;
     Ok(lines)
 }
 
@@ -71,16 +65,12 @@ fn little_is_read_behind_a_fatal_error(rt: HostRuntime) -> Result<(), Fail> {
     let lines = hundred_messages(rt.alloc())?;
     for most in READS {
         let mut files = Slow::new(source.as_slice(), most);
-        let _ = assert_read(
-            &rt,
-            rt.alloc(),
-            &mut files,
-            Status::Errors,
-            lines.as_slice(),
-        )?;
+        let _ = read_from(&rt, rt.alloc(), &mut files, lines.as_str())?;
         // The last number ends behind 298 bytes, and the byte behind it shows that.
-        assert!(rt; files.count > 298, "{most}");
-        assert!(rt; files.count <= 298 + most.min(4096), "{most}");
+        assert!(rt;
+            files.count > 298 && files.count <= 298 + most.min(4096),
+            "{most}"
+        );
     }
     Ok(())
 }
@@ -88,21 +78,13 @@ fn little_is_read_behind_a_fatal_error(rt: HostRuntime) -> Result<(), Fail> {
 #[test]
 fn nothing_is_read_behind_the_end(rt: HostRuntime) -> Result<(), Fail> {
     let mut files = Slow::resumed(GREETING, b",");
-    let lines = b"Errors: 0, warnings: 0\n".as_slice();
-    let story = assert_read(&rt, rt.alloc(), &mut files, Status::Success, lines)?;
-    let expected = story_with(rt.alloc(), &GREETING_SIZES, GREETING_CODE)?;
-    assert_eq!(rt; story.bytes(), expected.as_slice());
-    Ok(())
+    let ended = read_from(&rt, rt.alloc(), &mut files, NO_ERRORS)?;
+    assert_greeting(&rt, rt.alloc(), ended.story.bytes(), 976)
 }
 
 /// Asserts that a source is told as not read, that nothing was written and that it was closed.
 fn assert_unread(rt: &impl Abort, alloc: Global, files: &mut Slow<'_>) -> Result<(), Fail> {
-    let mut messages = MemorySink::new(alloc);
-    let mut story = MemorySink::new(alloc);
-    let result = run(alloc, files, &mut messages, &mut story)?;
-    assert!(rt; matches!(&result, Err(Fault::Read(name)) if name.as_str() == "t.inf"));
-    assert!(rt; messages.bytes().is_empty());
-    assert!(rt; story.bytes().is_empty());
+    Ended::of(alloc, files)?.assert_unread(rt, "t.inf", "");
     assert!(rt; !files.is_open);
     Ok(())
 }
@@ -116,8 +98,7 @@ fn a_failed_read_is_not_the_end_of_a_source(rt: HostRuntime) -> Result<(), Fail>
         assert_unread(&rt, rt.alloc(), &mut Slow::failing(GREETING, reads))?;
     }
     let mut files = Slow::failing(GREETING, GREETING.len() + 1);
-    let lines = b"Errors: 0, warnings: 0\n".as_slice();
-    let _ = assert_read(&rt, rt.alloc(), &mut files, Status::Success, lines)?;
+    let _ = read_from(&rt, rt.alloc(), &mut files, NO_ERRORS)?;
     Ok(())
 }
 
@@ -127,7 +108,7 @@ fn a_line_end_over_the_edge_of_the_window_is_one(rt: HostRuntime) -> Result<(), 
     source.extend_from_slice(b"\r\n5;")?;
     let lines =
         "t.inf(2): Error: Syntax error at \"5\"\nt.inf(1): Error: No routine \"Main\"\nErrors: 2, warnings: 0 (no output)\n";
-    let _ = story_of(&rt, rt.alloc(), source.as_slice(), Status::Errors, lines)?;
+    let _ = read(&rt, rt.alloc(), source.as_slice(), lines)?;
     Ok(())
 }
 
@@ -143,23 +124,17 @@ fn printing(alloc: Global, count: usize) -> Result<Vec<u8>, Fail> {
 fn a_text_has_at_most_4000_bytes(rt: HostRuntime) -> Result<(), Fail> {
     let source = printing(rt.alloc(), 4000)?;
     let lines = "t.inf(3): Error: Syntax error at \",\"\nErrors: 1, warnings: 0 (no output)\n";
-    let _ = story_of(&rt, rt.alloc(), source.as_slice(), Status::Errors, lines)?;
+    let _ = read(&rt, rt.alloc(), source.as_slice(), lines)?;
     let source = printing(rt.alloc(), 4001)?;
     let lines = "t.inf(2): Fatal error: MAX_QTEXT_SIZE is exceeded\n";
-    let _ = story_of(&rt, rt.alloc(), source.as_slice(), Status::Errors, lines)?;
+    let _ = read(&rt, rt.alloc(), source.as_slice(), lines)?;
     Ok(())
 }
 
 #[test]
 fn a_source_that_is_cut_in_a_text(rt: HostRuntime) -> Result<(), Fail> {
     let lines = "t.inf(1): Error: Unclosed or empty quote\nErrors: 1, warnings: 0 (no output)\n";
-    let _ = story_of(
-        &rt,
-        rt.alloc(),
-        b"[ Main; print \"hel",
-        Status::Errors,
-        lines,
-    )?;
+    let _ = read(&rt, rt.alloc(), b"[ Main; print \"hel", lines)?;
     Ok(())
 }
 
@@ -187,7 +162,7 @@ fn a_bad_token_is_told(rt: HostRuntime) -> Result<(), Fail> {
         let lines = format!(in rt.alloc();
             "t.inf(1): Error: {told}\nt.inf(1): Error: No routine \"Main\"\nErrors: 2, warnings: 0 (no output)\n"
         )?;
-        let _ = story_of(&rt, rt.alloc(), *source, Status::Errors, lines.as_str())?;
+        let _ = read(&rt, rt.alloc(), *source, lines.as_str())?;
     }
     Ok(())
 }

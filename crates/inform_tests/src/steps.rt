@@ -2,6 +2,7 @@
 ghost use Rattle.std.specs.Prelude.{◌≡◌, ◌<◌, IfOk, OnOk, length, false};
 ghost use Rattle.inf_session.specs.Standing.{IsSet};
 
+use crate::running::assert_written;
 use inf_compile::Status;
 use inf_session::compiled::Compiled;
 use inf_session::session::{Session, Step};
@@ -11,7 +12,6 @@ use inf_settings::settings::Settings;
 use inf_sources::open_files::OpenFiles;
 use inf_symbol::memory_sink::MemorySink;
 use inf_text::CharSet;
-use inf_token::files::Files;
 use inf_token::memory_files::MemoryFiles;
 use inform_trials::devices::folder;
 use std::alloc::{AllocError, Global};
@@ -33,19 +33,19 @@ const FIVE: &str = "t.inf(1): Error: Syntax error at \"5\"\n";
 
 /// A session with its devices.
 #[derive(Drop)]
-struct Run<'a, F: Files> {
+struct Run<'a> {
     session: Session<'a>,
-    files: F,
+    files: MemoryFiles,
     messages: MemorySink,
 }
 
-impl<'a, F: Files> Run<'a, F> {
+impl<'a> Run<'a> {
     /// Makes a step, and answers what it comes to.
     fn go_on(&mut self) -> Result<Step, Fail>
-        requires is_open { length self.old.session.open_files.outer < F.depth self.old.files }
+        requires is_open { length self.old.session.open_files.outer < length self.old.files.openings.open_places }
         requires goes { self.old.session.open_files.lexer.has_failed ≡ false }
         requires set { IsSet self.old.session }
-        ensures is_open { length self.new.session.open_files.outer < F.depth self.new.files }
+        ensures is_open { length self.new.session.open_files.outer < length self.new.files.openings.open_places }
         ensures goes { OnOk result (self.new.session.open_files.lexer.has_failed ≡ false) }
         ensures set { IsSet self.new.session }
     {
@@ -53,8 +53,7 @@ impl<'a, F: Files> Run<'a, F> {
         Ok(came)
     }
 
-    /// Makes a step, and asserts what it comes to, the messages behind it, and the longest quoted token, the names, the bytes of
-    /// code, and the references then.
+    /// Makes a step, and asserts what has to stand behind it.
     fn step(
         &mut self,
         rt: &impl Abort,
@@ -62,29 +61,23 @@ impl<'a, F: Files> Run<'a, F> {
         lines: &str,
         counts: [usize; 4],
     ) -> Result<(), Fail>
-        requires is_open { length self.old.session.open_files.outer < F.depth self.old.files }
+        requires is_open { length self.old.session.open_files.outer < length self.old.files.openings.open_places }
         requires goes { self.old.session.open_files.lexer.has_failed ≡ false }
         requires set { IsSet self.old.session }
-        ensures is_open { length self.new.session.open_files.outer < F.depth self.new.files }
+        ensures is_open { length self.new.session.open_files.outer < length self.new.files.openings.open_places }
         ensures goes { OnOk result (self.new.session.open_files.lexer.has_failed ≡ false) }
         ensures set { IsSet self.new.session }
     {
         let came = self.go_on()?;
-        let [quoted, names, code, references] = counts;
-        let held = [
-            quoted, 0, names, 0, 0, 0, 0, 0, 0, 0, 0, 0, code, 0, references,
-        ];
-        assert_eq!(rt; came == wanted, true, "{lines:?}");
-        assert_eq!(rt; self.messages.bytes(), lines.as_bytes());
-        assert_eq!(rt; self.session.held(), held, "{lines:?}");
+        assert!(rt; came == wanted, "{lines:?}");
+        assert_written(rt, self.messages.bytes(), lines.as_bytes());
+        assert_held(rt, self.session.held(), counts);
         Ok(())
     }
-}
 
-impl<'a, F: Files + Drop> Run<'a, F> {
-    /// Ends the session and closes its files. Gives what was compiled, and all messages.
-    fn finish(self) -> Result<(Compiled, MemorySink), Fail>
-        requires is_open { length self.session.open_files.outer < F.depth self.files }
+    /// Ends the session and closes its files. Asserts that there are errors, and these messages.
+    fn finish(self, rt: &impl Abort, lines: &str) -> Result<(), Fail>
+        requires is_open { length self.session.open_files.outer < length self.files.openings.open_places }
     {
         let Run {
             session,
@@ -93,17 +86,25 @@ impl<'a, F: Files + Drop> Run<'a, F> {
         } = self;
         let (open_files, compiled) = session.finish(b"260307", &mut messages);
         open_files.close(&mut files);
-        Ok((compiled?, messages))
+        assert_written(rt, messages.bytes(), lines.as_bytes());
+        assert_refused(rt, compiled?);
+        Ok(())
     }
 }
 
+/// Asserts that there are errors, and so no story.
+fn assert_refused(rt: &impl Abort, compiled: Compiled) {
+    assert!(rt; compiled.status == Status::Errors);
+    assert!(rt; compiled.story.is_none());
+}
+
 /// A session at the front of `t.inf`.
-fn begin<'a, F: Files>(
+fn begin<'a>(
     alloc: Global,
     settings: &'a Settings,
-    files: &mut F,
+    files: &mut MemoryFiles,
 ) -> Result<Session<'a>, Fail>
-    ensures is_open { IfOk result (λ session. length session.open_files.outer < F.depth files.new) }
+    ensures is_open { IfOk result (λ session. length session.open_files.outer < length files.new.openings.open_places) }
     ensures goes { IfOk result (λ session. session.open_files.lexer.has_failed ≡ false) }
     ensures set { IfOk result (λ session. IsSet session) }
 {
@@ -121,13 +122,9 @@ fn begin<'a, F: Files>(
     Ok(session)
 }
 
-impl<'a> Run<'a, MemoryFiles> {
+impl<'a> Run<'a> {
     /// A session at the front of a source.
-    fn begin(
-        alloc: Global,
-        settings: &'a Settings,
-        source: &[u8],
-    ) -> Result<Run<'a, MemoryFiles>, Fail>
+    fn begin(alloc: Global, settings: &'a Settings, source: &[u8]) -> Result<Run<'a>, Fail>
         ensures is_open { IfOk result (λ run. length run.session.open_files.outer < length run.files.openings.open_places) }
         ensures goes { IfOk result (λ run. run.session.open_files.lexer.has_failed ≡ false) }
         ensures set { IfOk result (λ run. IsSet run.session) }
@@ -144,6 +141,15 @@ impl<'a> Run<'a, MemoryFiles> {
 
 /// What a step comes to, the messages behind it, and the longest quoted token, the names, the bytes of code, and the references then.
 type Wanted = (Step, &'static str, [usize; 4]);
+
+/// Asserts the longest quoted token, the names, the bytes of code, and the references. Nothing else is counted yet.
+fn assert_held(rt: &impl Abort, held: [usize; 15], counts: [usize; 4]) {
+    let [quoted, names, code, references] = counts;
+    let wanted = [
+        quoted, 0, names, 0, 0, 0, 0, 0, 0, 0, 0, 0, code, 0, references,
+    ];
+    assert!(rt; held == wanted, "{held:?}");
+}
 
 /// All steps of the source.
 const STEPS: [Wanted; 12] = [
@@ -187,15 +193,11 @@ const BAD_STEPS: [Wanted; 3] = [
 ];
 
 /// Makes these steps, one after the other.
-fn make_steps<F: Files>(
-    rt: &impl Abort,
-    run: &mut Run<'_, F>,
-    wanted: &[Wanted],
-) -> Result<(), Fail>
-    requires is_open { length run.old.session.open_files.outer < F.depth run.old.files }
+fn make_steps(rt: &impl Abort, run: &mut Run<'_>, wanted: &[Wanted]) -> Result<(), Fail>
+    requires is_open { length run.old.session.open_files.outer < length run.old.files.openings.open_places }
     requires goes { run.old.session.open_files.lexer.has_failed ≡ false }
     requires set { IsSet run.old.session }
-    ensures is_open { length run.new.session.open_files.outer < F.depth run.new.files }
+    ensures is_open { length run.new.session.open_files.outer < length run.new.files.openings.open_places }
 {
     for (step, lines, counts) in wanted {
         run.step(rt, *step, *lines, *counts)?;
@@ -203,48 +205,53 @@ fn make_steps<F: Files>(
     Ok(())
 }
 
+/// Reads a source in these steps, and ends the session behind them with these messages, where they are given.
+fn play(
+    rt: &impl Abort,
+    alloc: Global,
+    source: &[u8],
+    wanted: &[Wanted],
+    last: Option<&str>,
+) -> Result<(), Fail> {
+    let settings = Settings::new();
+    let mut run = Run::begin(alloc, &settings, source)?;
+    make_steps(rt, &mut run, wanted)?;
+    match last {
+        Some(lines) => run.finish(rt, lines),
+        None => Ok(()),
+    }
+}
+
+#[test]
+fn a_step_reads_one_part(rt: HostRuntime) -> Result<(), Fail> {
+    play(&rt, rt.alloc(), SOURCE, &STEPS, None)
+}
+
 #[test]
 fn a_side_that_is_left_out_is_part_of_its_directive(rt: HostRuntime) -> Result<(), Fail> {
-    let settings = Settings::new();
-    let mut run = Run::begin(rt.alloc(), &settings, SIDES)?;
-    make_steps(&rt, &mut run, &CHOICES)
+    play(&rt, rt.alloc(), SIDES, &CHOICES, None)
+}
+
+/// Behind the last step a session ends with the last line.
+#[test]
+fn a_session_is_finished(rt: HostRuntime) -> Result<(), Fail> {
+    let lines =
+        "t.inf(1): Error: Syntax error at \"5\"\nt.inf(1): Error: No routine \"Main\"\nErrors: 2, warnings: 0 (no output)\n";
+    play(&rt, rt.alloc(), b"5;", &BAD_STEPS, Some(lines))
+}
+
+/// Gives the setting of this name another number.
+fn set(rt: &impl Abort, settings: &mut Settings, name: &[u8], number: u32) {
+    assert!(rt; settings.set(name, number).is_ok());
 }
 
 /// Where the references in tables alone would pass their setting, nothing is read.
 #[test]
 fn references_in_tables_are_told_first(rt: HostRuntime) -> Result<(), Fail> {
     let mut settings = Settings::new();
-    settings.set(b"MAX_REFS", 3)?;
+    set(&rt, &mut settings, b"MAX_REFS", 3);
     let mut run = Run::begin(rt.alloc(), &settings, b"\n\n5;")?;
     let step = run.go_on()?;
-    assert_eq!(rt; step == Step::Fatal, true);
-    let (compiled, messages) = run.finish()?;
-    assert_eq!(rt; compiled.status == Status::Errors, true);
-    assert_eq!(rt;
-        messages.bytes(),
-        "t.inf(1): Fatal error: MAX_REFS is exceeded\n".as_bytes()
-    );
-    Ok(())
-}
-
-#[test]
-fn a_step_reads_one_part(rt: HostRuntime) -> Result<(), Fail> {
-    let settings = Settings::new();
-    let mut run = Run::begin(rt.alloc(), &settings, SOURCE)?;
-    make_steps(&rt, &mut run, &STEPS)
-}
-
-/// Behind the last step a session ends with the last line.
-#[test]
-fn a_session_is_finished(rt: HostRuntime) -> Result<(), Fail> {
-    let settings = Settings::new();
-    let mut run = Run::begin(rt.alloc(), &settings, b"5;")?;
-    make_steps(&rt, &mut run, &BAD_STEPS)?;
-    let (compiled, messages) = run.finish()?;
-    assert_eq!(rt; compiled.status == Status::Errors, true);
-    assert_eq!(rt; compiled.story.is_none(), true);
-    let lines =
-        "t.inf(1): Error: Syntax error at \"5\"\nt.inf(1): Error: No routine \"Main\"\nErrors: 2, warnings: 0 (no output)\n";
-    assert_eq!(rt; messages.bytes(), lines.as_bytes());
-    Ok(())
+    assert!(rt; step == Step::Fatal);
+    run.finish(&rt, "t.inf(1): Fatal error: MAX_REFS is exceeded\n")
 }

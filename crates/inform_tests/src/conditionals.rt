@@ -1,8 +1,5 @@
 //! Conditionals: which tokens of a source are read, and what is told of one without its other end.
-use inf_compile::Status;
-use inf_symbol::memory_sink::MemorySink;
-use inform_trials::devices::folder_of;
-use inform_trials::running::run;
+use crate::running::assert_folders;
 use std::test::Fail;
 
 /// Files of a folder, with all messages of `t.inf` among them.
@@ -160,15 +157,5 @@ const FOLDERS: [(&[(&str, &[u8])], &str); 20] = [
 
 #[test]
 fn conditionals_choose_what_is_read(rt: HostRuntime) -> Result<(), Fail> {
-    for (files, lines) in &FOLDERS {
-        let mut files = folder_of(rt.alloc(), *files)?;
-        let mut messages = MemorySink::new(rt.alloc());
-        let mut story = MemorySink::new(rt.alloc());
-        let status = run(rt.alloc(), &mut files, &mut messages, &mut story)??;
-        assert_eq!(rt; messages.bytes(), lines.as_bytes(), "{lines:?}");
-        let is_clean = lines.ends_with("Errors: 0, warnings: 0\n");
-        assert_eq!(rt; status == Status::Success, is_clean, "{lines:?}");
-        assert_eq!(rt; story.bytes().is_empty(), !is_clean, "{lines:?}");
-    }
-    Ok(())
+    assert_folders(&rt, rt.alloc(), &FOLDERS)
 }

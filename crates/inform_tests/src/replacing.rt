@@ -1,10 +1,6 @@
 //! Routines that are replaced, and warnings that are not told.
-use inf_compile::Status;
-use inf_compile::compile::compile;
-use inf_symbol::memory_sink::MemorySink;
-use inf_words::command_line::CommandLine;
+use crate::running::{Ended, assert_folders};
 use inform_trials::devices::folder_of;
-use inform_trials::running::run;
 use std::test::Fail;
 
 /// Files of a folder, with all messages of `t.inf` among them.
@@ -82,45 +78,30 @@ const FOLDERS: [(&[(&str, &[u8])], &str); 8] = [
 
 #[test]
 fn routines_are_replaced(rt: HostRuntime) -> Result<(), Fail> {
-    for (files, lines) in &FOLDERS {
-        let mut files = folder_of(rt.alloc(), *files)?;
-        let mut messages = MemorySink::new(rt.alloc());
-        let mut story = MemorySink::new(rt.alloc());
-        let status = run(rt.alloc(), &mut files, &mut messages, &mut story)??;
-        assert_eq!(rt; messages.bytes(), lines.as_bytes(), "{lines:?}");
-        let is_clean = lines.ends_with("Errors: 0, warnings: 0\n");
-        assert_eq!(rt; status == Status::Success, is_clean, "{lines:?}");
-    }
-    Ok(())
+    assert_folders(&rt, rt.alloc(), &FOLDERS)
 }
+
+/// A source with two warnings.
+const WARNED: [(&str, &[u8]); 1] = [(
+    "t.inf",
+    b"[ Main x; ]; Message warning \"a\"; Message \"b\";",
+)];
+
+/// The words before its name, and its messages then.
+const WORDS: [(&str, &str); 2] = [
+    ("-w", "b\nErrors: 0, warnings: 0\n"),
+    (
+        "-w~w",
+        "t.inf(1): Warning: Local \"x\" is unused\nt.inf(1): Warning: a\nb\nErrors: 0, warnings: 2\n",
+    ),
+];
 
 #[test]
 fn warnings_are_not_told_where_a_word_says_so(rt: HostRuntime) -> Result<(), Fail> {
-    let source: [(&str, &[u8]); 1] = [(
-        "t.inf",
-        b"[ Main x; ]; Message warning \"a\"; Message \"b\";",
-    )];
-    for (words, lines) in [
-        (["-w", "t.inf"], "b\nErrors: 0, warnings: 0\n"),
-        (
-            ["-w~w", "t.inf"],
-            "t.inf(1): Warning: Local \"x\" is unused\nt.inf(1): Warning: a\nb\nErrors: 0, warnings: 2\n",
-        ),
-    ] {
-        let options = CommandLine::read(&words)?;
-        let mut files = folder_of(rt.alloc(), &source)?;
-        let mut messages = MemorySink::new(rt.alloc());
-        let mut story = MemorySink::new(rt.alloc());
-        let status = compile(
-            rt.alloc(),
-            &options,
-            *b"260307",
-            &mut files,
-            &mut messages,
-            &mut story,
-        )?;
-        assert_eq!(rt; messages.bytes(), lines.as_bytes(), "{lines:?}");
-        assert_eq!(rt; status == Status::Success, true);
+    for (word, lines) in &WORDS {
+        let mut files = folder_of(rt.alloc(), &WARNED)?;
+        let ended = Ended::by_words(rt.alloc(), &[*word, "t.inf"], &mut files)?;
+        ended.assert_read(&rt, *lines);
     }
     Ok(())
 }

@@ -1,8 +1,6 @@
 //! Files that include one another, and messages that are written as they are found.
-use inf_compile::{Fault, Status};
-use inf_symbol::memory_sink::MemorySink;
+use crate::running::{Ended, assert_folders};
 use inform_trials::devices::{Locked, Slow, folder_of};
-use inform_trials::running::run;
 use std::test::Fail;
 
 /// Files of a folder, with all messages of `t.inf` among them.
@@ -56,36 +54,17 @@ const FOLDERS: [(&[(&str, &[u8])], &str); 6] = [
 
 #[test]
 fn files_include_one_another(rt: HostRuntime) -> Result<(), Fail> {
-    for (files, lines) in &FOLDERS {
-        let mut files = folder_of(rt.alloc(), *files)?;
-        let mut messages = MemorySink::new(rt.alloc());
-        let mut story = MemorySink::new(rt.alloc());
-        let status = run(rt.alloc(), &mut files, &mut messages, &mut story)??;
-        assert_eq!(rt; messages.bytes(), lines.as_bytes(), "{lines:?}");
-        let is_clean = lines.ends_with("Errors: 0, warnings: 0\n");
-        assert_eq!(rt; status == Status::Success, is_clean, "{lines:?}");
-        assert_eq!(rt; story.bytes().is_empty(), !is_clean, "{lines:?}");
-    }
-    Ok(())
+    assert_folders(&rt, rt.alloc(), &FOLDERS)
 }
+
+/// A file that includes itself.
+const ITSELF: [(&str, &[u8]); 1] = [("t.inf", b"Message \"x\";\nInclude \"t.inf\";\n")];
 
 #[test]
 fn sixteen_files_may_be_open(rt: HostRuntime) -> Result<(), Fail> {
-    let mut files = folder_of(
-        rt.alloc(),
-        &[("t.inf", b"Message \"x\";\nInclude \"t.inf\";\n")],
-    )?;
-    let mut messages = MemorySink::new(rt.alloc());
-    let mut story = MemorySink::new(rt.alloc());
-    let status = run(rt.alloc(), &mut files, &mut messages, &mut story)??;
-    let mut lines = Vec::from_slice(
-        rt.alloc(),
-        b"x\n".as_slice().repeat(rt.alloc(), 16)?.as_slice(),
-    )?;
-    lines.extend_from_slice(b"t.inf(2): Fatal error: More than 16 files open\n")?;
-    assert_eq!(rt; messages.bytes(), lines.as_slice());
-    assert_eq!(rt; status, Status::Errors);
-    Ok(())
+    let lines =
+        "x\nx\nx\nx\nx\nx\nx\nx\nx\nx\nx\nx\nx\nx\nx\nx\nt.inf(2): Fatal error: More than 16 files open\n";
+    assert_folders(&rt, rt.alloc(), &[(&ITSELF, lines)])
 }
 
 /// Messages stand where a read failed behind them.
@@ -93,30 +72,20 @@ fn sixteen_files_may_be_open(rt: HostRuntime) -> Result<(), Fail> {
 fn messages_are_written_as_they_are_found(rt: HostRuntime) -> Result<(), Fail> {
     let source = b"Message \"a\"; Message \"b\"; Mess".as_slice();
     let mut files = Slow::failing(source, source.len());
-    let mut messages = MemorySink::new(rt.alloc());
-    let mut story = MemorySink::new(rt.alloc());
-    let result = run(rt.alloc(), &mut files, &mut messages, &mut story)?;
-    assert!(rt; matches!(&result, Err(Fault::Read(name)) if name.as_str() == "t.inf"));
-    assert_eq!(rt; messages.bytes(), b"a\nb\n".as_slice());
-    assert!(rt; story.bytes().is_empty());
+    Ended::of(rt.alloc(), &mut files)?.assert_unread(&rt, "t.inf", "a\nb\n");
     assert!(rt; !files.is_open);
     Ok(())
 }
 
+/// A file that includes another one.
+const LOCKED: [(&str, &[u8]); 2] = [
+    ("t.inf", b"Message \"a\"; Include \"c.h\"; Message \"b\";"),
+    ("c.h", b""),
+];
+
 #[test]
 fn a_file_that_cannot_be_opened_is_named(rt: HostRuntime) -> Result<(), Fail> {
-    let files = folder_of(
-        rt.alloc(),
-        &[
-            ("t.inf", b"Message \"a\"; Include \"c.h\"; Message \"b\";"),
-            ("c.h", b""),
-        ],
-    )?;
-    let mut files = Locked::new(files, "c.h");
-    let mut messages = MemorySink::new(rt.alloc());
-    let mut story = MemorySink::new(rt.alloc());
-    let result = run(rt.alloc(), &mut files, &mut messages, &mut story)?;
-    assert!(rt; matches!(&result, Err(Fault::Read(name)) if name.as_str() == "c.h"));
-    assert_eq!(rt; messages.bytes(), b"a\n".as_slice());
+    let mut files = Locked::new(folder_of(rt.alloc(), &LOCKED)?, "c.h");
+    Ended::of(rt.alloc(), &mut files)?.assert_unread(&rt, "c.h", "a\n");
     Ok(())
 }

@@ -1,5 +1,0 @@
-//! Tests of a compilation in steps.
-#![tactic(auto)]
-
-#[cfg(test)]
-mod steps;
