@@ -3,26 +3,59 @@
 //!
 //! `stdin` has pieces of each kind of directive and statement, with and without a bad token, and the pieces of whole sources; what
 //! `stdout` says of them comes from a recognizer that was written apart.
+//!
+//! Other lines begin with `!` and what is asked:
+//!
+//! - `!actions PIECE` tells whether all tokens of a piece fit, and their actions, in order;
+//! - `!source TOKENS` tells whether all tokens fit, whether a source may end behind them, and whether a routine is open there;
+//! - `!same WORD WORD` tells whether two words are the same to the grammar;
+//! - `!begin TOKENS` tells of each token whether a piece may begin with it;
+//! - `!bad PIECE` tries bad tokens before each token of a piece, and tells whether they changed anything, or whether what `read` does is
+//!   not what `take` does;
+//! - `!give_up TOKEN` takes a token, gives the piece up, and begins another one.
 #![tactic(auto)]
 
+mod asked;
 mod pieces;
-#[cfg(test)]
-mod tests;
+mod reader;
+mod tried;
 
-use crate::pieces::read;
+use std::alloc::{AllocError, Global};
 use std::io::{self, BufRead, BufReader};
+
+/// What comes of a question, and of a title.
+fn answer_of(alloc: Global, question: &str) -> Result<String, AllocError> {
+    let (name, tokens) = question.split_once(' ').unwrap_or((question, ""));
+    match name {
+        "" => String::from_str(alloc, tokens),
+        "actions" => asked::actions(alloc, tokens),
+        "source" => asked::source(alloc, tokens),
+        "same" => asked::same(alloc, tokens),
+        "begin" => asked::begin(alloc, tokens),
+        "bad" => tried::tried(alloc, tokens),
+        "give_up" => asked::give_up(alloc, tokens),
+        _ => String::from_str(alloc, "no question"),
+    }
+}
+
+/// What comes of a line.
+fn answer(alloc: Global, line: &str) -> Result<String, AllocError> {
+    match line.strip_prefix('!') {
+        Some(question) => answer_of(alloc, question),
+        None => pieces::told(alloc, line),
+    }
+}
+
+/// Answers a line.
+fn write_answer(rt: &HostRuntime, line: &str) -> io::Result<()> {
+    let answer = answer(rt.alloc(), line)?;
+    println!(rt; "{answer}")
+}
 
 fn main(rt: HostRuntime) -> io::Result<()> {
     let alloc = rt.alloc();
     for line in BufReader::new(alloc, rt.reader())?.lines(alloc) {
-        let line = line?;
-        match line.as_str().strip_prefix("! ") {
-            Some(title) => println!(rt; "{title}")?,
-            None => {
-                let answer = read(alloc, line.as_str())?;
-                println!(rt; "{answer}")?;
-            }
-        }
+        write_answer(&rt, line?.as_str())?;
     }
     Ok(())
 }

@@ -1,11 +1,12 @@
-//! Pieces of source, and what the machine says of them.
-use inf_grammar::{Machine, Mark, PIECE, Token, atom_of};
+//! The tokens of pieces, and what the machine says of a piece.
+use crate::reader::Reader;
+use inf_grammar::{Mark, PIECE, Token};
 use std::alloc::{AllocError, Global};
 use std::fmt;
 
 /// What the machine says of a piece.
 #[derive(Clone, Copy)]
-pub(crate) enum Answer {
+enum Answer {
     /// It ended with the last token, after so many actions.
     Whole(usize),
     /// It took all tokens, and waits for more.
@@ -25,23 +26,21 @@ impl fmt::Display for Answer {
 }
 
 /// Reads a piece with spaces between its tokens.
-pub(crate) fn read(alloc: Global, piece: &str) -> Result<Answer, AllocError> {
-    let mut machine = Machine::new(alloc);
-    let mut actions = Vec::new(alloc);
-    machine.start(PIECE)?;
-    let mut taken: usize = 0;
-    for spelling in piece.as_bytes().split(|byte| *byte == b' ') {
-        let atom = atom_of(token(spelling));
-        if !machine.read(atom, &mut actions)? {
-            return Ok(Answer::Bad(taken));
-        }
-        taken = taken.saturating_add(1);
-    }
-    Ok(if machine.is_done() {
-        Answer::Whole(actions.len())
+fn read(alloc: Global, piece: &str) -> Result<Answer, AllocError> {
+    let mut reader = Reader::new(alloc, PIECE)?;
+    Ok(if !reader.read_all(piece)? {
+        Answer::Bad(reader.taken)
+    } else if reader.machine.is_done() {
+        Answer::Whole(reader.actions.len())
     } else {
         Answer::More
     })
+}
+
+/// What is told of a piece.
+pub(crate) fn told(alloc: Global, piece: &str) -> Result<String, AllocError> {
+    let answer = read(alloc, piece)?;
+    format!(in alloc; "{answer}")
 }
 
 /// The token that is spelled so. A `^` stands before the name of a class, `!` is the end, and what is spelled otherwise is bad.
@@ -72,7 +71,7 @@ fn mark(spelling: &[u8]) -> Option<Mark> {
 }
 
 /// The marks by their spelling.
-const MARKS: [(&[u8], Mark); 40] = [
+static MARKS: [(&[u8], Mark); 40] = [
     (b"->", Mark::Arrow),
     (b"-->", Mark::LongArrow),
     (b"-", Mark::Minus),

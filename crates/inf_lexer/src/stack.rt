@@ -1,5 +1,5 @@
 //! The files that are open, one inside the other.
-ghost use Rattle.std.specs.Prelude.{◌≡◌, ◌+◌, ◌<◌, ◌≤◌, ◌⊎◌, ◌∷◌, [], true, false, length, map, if◌then◌else◌, slice_get, is_ok, IsTrue, IsErrOf, IfOk, OnErr, Err};
+ghost use Rattle.std.specs.Prelude.{◌≡◌, ◌+◌, ◌<◌, ◌≤◌, ◌⊎◌, ◌∷◌, [], true, false, length, map, if◌then◌else◌, slice_get, nat_le, is_ok, IsTrue, IsErrOf, IfOk, OnErr, Err};
 ghost use Rattle.std.specs.Option.{option_copied};
 ghost use Rattle.std.specs.String.{string_bytes};
 ghost use Rattle.inf_token.specs.Files.{Rose, Closes};
@@ -96,7 +96,7 @@ impl Stack {
         if name.is_empty() {
             return Err(EnterFault::BadName);
         }
-        if self.open_files.len() >= MOST_OPEN {
+        if self.is_full() {
             return Err(EnterFault::TooDeep);
         }
         let name = String::from_str(self.alloc, name)?;
@@ -144,7 +144,7 @@ impl Stack {
         let Some(file) = fit_name(file) else {
             return Err(EnterFault::BadName);
         };
-        if self.open_files.len() >= MOST_OPEN {
+        if self.is_full() {
             return Err(EnterFault::TooDeep);
         }
         if is_beside {
@@ -156,6 +156,13 @@ impl Stack {
             return self.open_named(files, name);
         }
         self.open_first(files, directories, file)
+    }
+
+    /// Whether as many files are open as may be.
+    fn is_full(&self) -> bool
+        ensures { result ≡ nat_le 16 (length self.now.open_files) }
+    {
+        self.open_files.len() >= MOST_OPEN
     }
 
     /// Opens the file in the first of these directories that has it.

@@ -25,12 +25,22 @@ mod words;
 use crate::session::Session;
 use std::io::{self, BufRead, BufReader};
 
-fn main(rt: HostRuntime) -> io::Result<()> {
+/// Answers a line.
+fn answer(rt: &HostRuntime, session: &mut Session, line: &str) -> io::Result<()> {
+    let answer = session.answer(line)?;
+    println!(rt; "{answer}")
+}
+
+/// Answers each line.
+fn answer_all(rt: &HostRuntime, session: &mut Session) -> io::Result<()> {
     let alloc = rt.alloc();
-    let mut session = Session::new(alloc);
     for line in BufReader::new(alloc, rt.reader())?.lines(alloc) {
-        let answer = session.answer(line?.as_str())?;
-        println!(rt; "{answer}")?;
+        answer(rt, session, line?.as_str())?;
     }
     Ok(())
+}
+
+fn main(rt: HostRuntime) -> io::Result<()> {
+    let mut session = Session::new(rt.alloc());
+    answer_all(&rt, &mut session)
 }

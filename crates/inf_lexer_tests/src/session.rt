@@ -34,6 +34,28 @@ fn pace_of(command: &str) -> Pace {
     }
 }
 
+/// A piece so many times, and a text behind them.
+fn source_of(alloc: Global, count: usize, piece: &str, text: &str) -> Result<Vec<u8>, AllocError> {
+    let piece = bytes_of(alloc, piece)?;
+    let mut source = Vec::new(alloc);
+    for _ in 0..count {
+        source.extend_from_slice(piece.as_slice())?;
+    }
+    source.extend_from_slice(bytes_of(alloc, text)?.as_slice())?;
+    Ok(source)
+}
+
+/// The directories that stand in a word with commas between them, or none.
+fn directories_of(alloc: Global, word: Option<&str>) -> Result<Vec<&str>, AllocError> {
+    let mut directories = Vec::new(alloc);
+    if let Some(word) = word {
+        for directory in word.split(',') {
+            directories.push(directory)?;
+        }
+    }
+    Ok(directories)
+}
+
 impl Session {
     /// With an empty folder.
     pub(crate) fn new(alloc: Global) -> Session {
@@ -91,11 +113,16 @@ impl Session {
             "ahead" => self.ahead(command),
             "many" => self.enter_many(number(command, 1)),
             "name" => self.name(word(command, 1)),
-            "opened" => format!(in self.alloc; "{}", self.files.opened),
-            "reads" => format!(in self.alloc; "{}", self.files.reads),
-            "given" => format!(in self.alloc; "{}", self.files.given),
+            "opened" => self.number(self.files.opened),
+            "reads" => self.number(self.files.reads),
+            "given" => self.number(self.files.given),
             _ => format!(in self.alloc; "no command: {name}"),
         }
+    }
+
+    /// A number as it is told.
+    fn number(&self, number: usize) -> Result<String, AllocError> {
+        format!(in self.alloc; "{number}")
     }
 
     /// Puts a source into the folder: a piece so many times, and a text behind them.
@@ -106,14 +133,9 @@ impl Session {
         piece: &str,
         text: &str,
     ) -> Result<(), AllocError> {
-        let piece = bytes_of(self.alloc, piece)?;
-        let mut source = Vec::new(self.alloc);
-        for _ in 0..count {
-            source.extend_from_slice(piece.as_slice())?;
-        }
-        source.extend_from_slice(bytes_of(self.alloc, text)?.as_slice())?;
-        self.folder
-            .insert(String::from_str(self.alloc, name)?, source)?;
+        let source = source_of(self.alloc, count, piece, text)?;
+        let name = String::from_str(self.alloc, name)?;
+        self.folder.insert(name, source)?;
         Ok(())
     }
 
@@ -128,15 +150,20 @@ impl Session {
 
     /// Begins anew with the sources of the folder.
     fn begin(&mut self, set: &str, limit: &str, pace: Pace) -> Result<(), AllocError> {
+        let whole = MemoryFiles::new(self.alloc, self.folder.clone()?);
+        self.files = Metered::new(whole, pace);
+        self.restart(set, limit.parse().unwrap_or(0));
+        Ok(())
+    }
+
+    /// Begins anew with no file entered.
+    fn restart(&mut self, set: &str, limit: u32) {
         let set = match set {
             "ascii" => CharSet::Ascii,
             _ => CharSet::Latin1,
         };
-        let whole = MemoryFiles::new(self.alloc, self.folder.clone()?);
-        self.files = Metered::new(whole, pace);
-        self.stack = Stack::new(self.alloc, set, limit.parse().unwrap_or(0));
+        self.stack = Stack::new(self.alloc, set, limit);
         self.lexers = Vec::new(self.alloc);
-        Ok(())
     }
 
     /// Keeps the lexer of a file that was entered.
@@ -159,15 +186,10 @@ impl Session {
     /// Enters the file that a text names in directories with commas between them, or in none.
     fn enter(&mut self, text: &str, directories: Option<&str>) -> Result<String, AllocError> {
         let text = bytes_of(self.alloc, text)?;
-        let mut found = Vec::new(self.alloc);
-        if let Some(directories) = directories {
-            for directory in directories.split(',') {
-                found.push(directory)?;
-            }
-        }
+        let directories = directories_of(self.alloc, directories)?;
         let answer = self
             .stack
-            .enter(&mut self.files, found.as_slice(), text.as_slice());
+            .enter(&mut self.files, directories.as_slice(), text.as_slice());
         self.entered(answer)
     }
 
@@ -190,37 +212,53 @@ impl Session {
         }
     }
 
+    /// The spelling of the token that was read last.
+    fn spelling(&self) -> &str {
+        match self.lexers.last() {
+            Some(lexer) => str::from_utf8(lexer.spelling()).unwrap_or("not ASCII"),
+            None => "no file",
+        }
+    }
+
     /// Reads a token, and tells its place and its spelling.
     fn next(&mut self) -> Result<String, AllocError> {
-        let (kind, place) = match self.token() {
-            Ok(token) => (token.kind, token.place),
-            Err(fault) => return format!(in self.alloc; "{fault:?}"),
-        };
-        let Some(lexer) = self.lexers.last() else {
-            return String::from_str(self.alloc, "no file");
-        };
-        let spelling = str::from_utf8(lexer.spelling()).unwrap_or("not ASCII");
-        format!(in self.alloc; "{kind:?} {}:{} {spelling:?}", place.file, place.line)
+        match self.token() {
+            Ok(Token { kind, place }) => {
+                format!(in self.alloc;
+                    "{kind:?} {}:{} {:?}",
+                    place.file,
+                    place.line,
+                    self.spelling()
+                )
+            }
+            Err(fault) => format!(in self.alloc; "{fault:?}"),
+        }
+    }
+
+    /// Reads a token, and tells its line. The end is the last of them, and so is a fault.
+    fn line_of_next(&mut self) -> Result<(String, bool), AllocError> {
+        match self.token() {
+            Ok(token) => {
+                let is_last = token.kind == TokenKind::End;
+                let told = format!(in self.alloc; "{:?} {}", token.kind, token.place.line)?;
+                Ok((told, is_last))
+            }
+            Err(fault) => Ok((format!(in self.alloc; "{fault:?}")?, true)),
+        }
     }
 
     /// Reads all tokens that are left of the innermost file, and tells their lines.
     fn rest(&mut self) -> Result<String, AllocError> {
-        let mut told = String::new(self.alloc);
+        let mut all = String::new(self.alloc);
         for _ in 0..u64::MAX {
-            let (kind, line) = match self.token() {
-                Ok(token) => (token.kind, token.place.line),
-                Err(fault) => {
-                    told.push_str(format!(in self.alloc; "{fault:?}")?.as_str())?;
-                    break;
-                }
-            };
-            told.push_str(format!(in self.alloc; "{kind:?} {line}")?.as_str())?;
-            if kind == TokenKind::End {
+            let (told, is_last) = self.line_of_next()?;
+            all.push_str(told.as_str())?;
+            if is_last {
                 break;
             }
-            told.push_str(", ")?;
+            all.push_str(", ")?;
         }
-        Ok(told)
+        Ok(all)
     }
 
     /// Reads all tokens of a text.

@@ -175,10 +175,12 @@ fn act<A: Copy>(row: &[Symbol<A>], actions: &mut Vec<A>) -> Result<(), AllocErro
     ensures actions { OnOk result (actions.new.items ≡ actions.old.items ++ acts_of (reverse row.now)) }
     ensures before { take (vec_len actions.old) actions.new.items ≡ actions.old.items }
 {
-    for part in row.iter().rev() {
+    let mut left = row;
+    while let Some((part, before)) = left.split_last() {
         if let Symbol::Act(action) = *part {
             actions.push(action)?;
         }
+        left = before;
     }
     Ok(())
 }

@@ -2,6 +2,8 @@
 #![tactic(auto)]
 
 #[cfg(test)]
+mod expecting;
+#[cfg(test)]
 mod lines;
 #[cfg(test)]
 mod settings;

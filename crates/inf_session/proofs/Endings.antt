@@ -1,19 +1,13 @@
 -- What the ends of compilations come to: one with an error has no story.
-use Rattle.std.proofs.Common.{◌≡◌, ℕ, List, true, Option, Some, None, refl}
-use Rattle.inf_report.specs.Messages.{StoryTooLong}
-use Rattle.inf_layout.specs.Story.{is_too_long, most_bytes}
+use Rattle.std.proofs.Common.{◌≡◌, ℕ, List, Option, Some, None, refl}
+use Rattle.inf_layout.specs.Story.{is_too_long}
 use Rattle.inf_work.specs.Actions.{Work, begun_at}
 use Rattle.inf_unit.proofs.Cases.{of_both}
-use Rattle.inf_unit.specs.Messages.{FileNames, Reported, with_fatal}
+use Rattle.inf_unit.specs.Messages.{FileNames, Reported}
 use Rattle.inf_unit.specs.Names.{main_of, values, with_all_undeclared}
-use Rattle.inf_session.specs.Ending.{Ending, begun, finished, first_line, is_clean, laid, refused}
+use Rattle.inf_session.specs.Ending.{Ending, begun, finished, is_clean, laid, refused}
 use Rattle.inf_session.specs.Session.{first_place}
 use Rattle.inf_session.specs.declared.compiled.Status.TheVariants as status
-
--- a story that is too long is told
-pub laid_too_long : (serial : List ℕ) (files : FileNames) (main : ℕ) (w : Work) (r : Reported) → is_too_long main (values w.names.names) w.output.code.finished ≡ true
-    → laid serial files main w r ≡ refused (with_fatal (first_line files) (StoryTooLong most_bytes) r)
-laid_too_long serial files main w r long = rw long refl
 
 abbrev HasNone : Ending → Type 0
 HasNone e = e.status ≡ status.Errors → e.story ≡ None

@@ -1,9 +1,13 @@
 //! What comes at the end of a compilation.
-ghost use Rattle.std.specs.Prelude.{◌≡◌, IfOk, IfSome, is_none};
-ghost use Rattle.inf_layout.specs.Story.{story, is_too_long};
-ghost use Rattle.inf_unit.specs.Names.{values};
+ghost use Rattle.std.specs.Prelude.{◌≡◌, IfOk, IfSome, OnOk, Some, is_none};
+ghost use Rattle.inf_layout.specs.Story.{story, is_too_long, most_bytes};
+ghost use Rattle.inf_report.specs.Messages.{NoMain, StoryTooLong};
+ghost use Rattle.inf_unit.specs.Messages.{with_closing, with_error, with_fatal};
+ghost use Rattle.inf_unit.specs.Names.{main_of, values, with_all_undeclared};
+ghost use Rattle.inf_work.specs.Actions.{begun_at};
 ghost use Rattle.inf_work.specs.Works.{work as work_of};
-ghost use Rattle.inf_session.specs.Ending.{finished, finished_with, laid, missing, refused, seen};
+ghost use Rattle.inf_session.specs.Ending.{begun, finished, first_line, is_clean, laid, missing, refused, seen};
+ghost use Rattle.inf_session.specs.Session.{first_place};
 
 use crate::compiled::Status;
 use inf_layout::code::Code;
@@ -38,29 +42,66 @@ pub(crate) fn finish(
 ) -> Result<Ending, AllocError>
     ensures { IfOk result (λ t. seen t ≡ finished serial.now files.now.names (work_of work)) }
 {
-    work.begin(files, FIRST_LINE)?;
-    finish_begun(alloc, files, serial, work)
+    tell_last(files, &mut work)?;
+    finish_told(alloc, files, serial, work)
 }
 
-/// Ends a compilation whose code has begun.
-fn finish_begun(
+/// Begins code, unless it has begun, and tells each name that was used and never declared.
+fn tell_last(files: &Stack, work: &mut Work) -> Result<(), AllocError>
+    ensures { let begun = begun_at files.now.names first_place (work_of work.old) in
+        OnOk result (work_of work.new ≡ record begun { report = with_all_undeclared files.now.names begun.names.names begun.report }) }
+{
+    work.begin(files, FIRST_LINE)?;
+    tell_undeclared(&work.names, files, &mut work.report)
+}
+
+/// Ends a compilation of which all is told but that there is no routine `Main`.
+fn finish_told(
     alloc: Global,
     files: &Stack,
     serial: &[u8],
-    mut work: Work,
+    work: Work,
 ) -> Result<Ending, AllocError>
-    ensures { IfOk result (λ t. seen t ≡ finished_with serial.now files.now.names (work_of work)) }
+    ensures { IfOk result (λ t. seen t ≡ begun serial.now files.now.names (work_of work) work.report (main_of work.names)) }
 {
-    tell_undeclared(&work.names, files, &mut work.report)?;
     let Some(main) = main_of(&work.names) else {
-        let at = location(files, FIRST_LINE);
-        work.report.error(at, at, &Message::NoMain)?;
-        return refused(work.report);
+        return without_main(files, report_of(work));
     };
-    if work.report.is_over() || work.report.errors() != 0 {
-        return refused(work.report);
+    if !is_clean(&work.report) {
+        return refused(report_of(work));
     }
     laid(alloc, files, serial, main, work)
+}
+
+/// Whether no error and no fatal message was told.
+fn is_clean(report: &Messages) -> bool
+    ensures { result ≡ is_clean report.now }
+{
+    !report.is_over() && report.errors() == 0
+}
+
+/// The outcome of a compilation without a routine `Main`.
+fn without_main(files: &Stack, mut report: Messages) -> Result<Ending, AllocError>
+    ensures { let line = first_line files.now.names in
+        IfOk result (λ t. seen t ≡ refused (with_error line line NoMain report)) }
+{
+    let at = location(files, FIRST_LINE);
+    report.error(at, at, &Message::NoMain)?;
+    refused(report)
+}
+
+/// What was told in some work.
+fn report_of(work: Work) -> Messages
+    ensures { result ≡ work.report }
+{
+    work.report
+}
+
+/// The names of some work, its code, and what was told in it.
+fn parts_of(work: Work) -> (Symbols<Place>, Code, Messages)
+    ensures { (result.0 ≡ work.names) × (result.1 ≡ work.output.code) × (result.2 ≡ work.report) }
+{
+    (work.names, work.output.code, work.report)
 }
 
 /// Ends the compilation of a source without an error, in which the routine at a place is called
@@ -74,14 +115,26 @@ fn laid(
 ) -> Result<Ending, AllocError>
     ensures { IfOk result (λ t. seen t ≡ laid serial.now files.now.names main (work_of work) work.report) }
 {
-    let mut report = work.report;
-    let names = work.names;
-    let output = work.output;
-    let Some(story) = story_of(alloc, serial, main, &names, output.code)? else {
-        let at = location(files, FIRST_LINE);
-        report.fatal(at, &Message::StoryTooLong(MOST_BYTES as u32))?;
-        return refused(report);
-    };
+    let (names, code, report) = parts_of(work);
+    match story_of(alloc, serial, main, &names, code)? {
+        Some(story) => compiled(story, report),
+        None => too_long(files, report),
+    }
+}
+
+/// The outcome of a compilation whose story would be too long.
+fn too_long(files: &Stack, mut report: Messages) -> Result<Ending, AllocError>
+    ensures { IfOk result (λ t. seen t ≡ refused (with_fatal (first_line files.now.names) (StoryTooLong most_bytes) report)) }
+{
+    let at = location(files, FIRST_LINE);
+    report.fatal(at, &Message::StoryTooLong(MOST_BYTES as u32))?;
+    refused(report)
+}
+
+/// The outcome of a compilation without an error.
+fn compiled(story: Vec<u8>, mut report: Messages) -> Result<Ending, AllocError>
+    ensures { IfOk result (λ t. seen t ≡ record { messages = (with_closing report).lines; story = Some story.items; status = Status.Success }) }
+{
     report.close()?;
     Ok(Ending {
         messages: report.into_lines(),

@@ -34,12 +34,10 @@ impl Setup<'_> {
     pub(crate) fn begin(&self, alloc: Global, files: &Stack) -> Result<Progress, AllocError>
         ensures { IfOk result (λ progress. standing progress ≡ begun_with (chosen self.now) files.now.names) }
     {
+        let mut report = Messages::new(alloc, self.has_warnings);
+        report.full(files, FIRST_LINE, self.tables_full())?;
         let mut progress = Progress::new(alloc, self.set, self.settings);
-        progress.work.report = Messages::new(alloc, self.has_warnings);
-        progress
-            .work
-            .report
-            .full(files, FIRST_LINE, self.tables_full())?;
+        progress.work.report = report;
         Ok(progress)
     }
 

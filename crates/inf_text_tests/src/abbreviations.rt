@@ -1,4 +1,5 @@
 //! Abbreviations at their limits, and which one is taken.
+use crate::expecting::expect;
 use crate::sources::assert_packs;
 use inf_text::{AbbrevFault, Abbreviations, CharSet, Mode, Text, read_text};
 use std::alloc::Global;
@@ -30,25 +31,23 @@ fn ask(
     match asked {
         Declare(bytes, mode, wanted) => {
             let text = read_text(alloc, bytes, CharSet::Ascii, *mode)?;
-            assert_eq!(rt; abbreviations.declare(&text), *wanted, "{bytes:?}");
+            expect(rt, bytes, &abbreviations.declare(&text), wanted);
+            Ok(())
         }
         Count(wanted) => {
-            assert_eq!(rt; abbreviations.len(), *wanted);
-            assert_eq!(rt; abbreviations.is_empty(), *wanted == 0);
+            assert_count(rt, abbreviations, *wanted);
+            Ok(())
         }
-        Last(bytes) => assert_last(rt, alloc, abbreviations, bytes)?,
-        Pack(bytes, wanted) => {
-            assert_packs(
-                rt,
-                alloc,
-                bytes,
-                CharSet::Ascii,
-                Some(abbreviations),
-                wanted,
-            )?;
-        }
+        Last(bytes) => assert_last(rt, alloc, abbreviations, bytes),
+        Pack(bytes, wanted) => assert_packs(
+            rt,
+            alloc,
+            bytes,
+            CharSet::Ascii,
+            Some(abbreviations),
+            wanted,
+        ),
     }
-    Ok(())
 }
 
 /// Asks these in turn.
@@ -64,6 +63,12 @@ fn ask_all(
     Ok(())
 }
 
+/// Asserts how many there are.
+fn assert_count(rt: &impl Abort, abbreviations: &Abbreviations, wanted: usize) {
+    expect(rt, &"count", &abbreviations.len(), &wanted);
+    expect(rt, &"empty", &abbreviations.is_empty(), &(wanted == 0));
+}
+
 /// Asserts that the last is the text of these bytes.
 fn assert_last(
     rt: &impl Abort,
@@ -73,7 +78,7 @@ fn assert_last(
 ) -> Result<(), Fail> {
     let wanted = read_text(alloc, bytes, CharSet::Ascii, Mode::Text)?;
     let last = abbreviations.as_slice().last().map(Text::as_slice);
-    assert_eq!(rt; last, Some(wanted.as_slice()));
+    expect(rt, &bytes, &last, &Some(wanted.as_slice()));
     Ok(())
 }
 
@@ -89,7 +94,7 @@ fn declared(rt: &impl Abort, alloc: Global, count: u8) -> Result<Abbreviations, 
 }
 
 /// Where 64 are declared.
-const OF_64: [Asked<'static>; 6] = [
+static OF_64: [Asked<'static>; 6] = [
     Count(64),
     Declare(b"zz", Mode::Text, Err(AbbrevFault::Full)),
     Declare(b"aa", Mode::Text, Err(AbbrevFault::Full)),
@@ -106,7 +111,7 @@ fn declares_64_and_no_more(rt: HostRuntime) -> Result<(), Fail> {
 }
 
 /// Where 50 are declared.
-const OF_50: [Asked<'static>; 5] = [
+static OF_50: [Asked<'static>; 5] = [
     Declare(b"the ", Mode::Text, Ok(50)),
     Last(b"the "),
     Declare(b"the ", Mode::Text, Err(AbbrevFault::Repeated)),
@@ -121,7 +126,7 @@ fn numbers_the_51st(rt: HostRuntime) -> Result<(), Fail> {
 }
 
 /// Where none is declared.
-const OF_NONE: [Asked<'static>; 6] = [
+static OF_NONE: [Asked<'static>; 6] = [
     Count(0),
     Declare(b"the ", Mode::Abbreviation, Ok(0)),
     Declare(b"the ", Mode::Abbreviation, Err(AbbrevFault::Repeated)),
@@ -132,13 +137,12 @@ const OF_NONE: [Asked<'static>; 6] = [
 
 #[test]
 fn takes_the_longest_abbreviation(rt: HostRuntime) -> Result<(), Fail> {
-    let mut abbreviations = Abbreviations::new(rt.alloc());
-    ask_all(&rt, rt.alloc(), &mut abbreviations, &OF_NONE)
+    ask_anew(&rt, rt.alloc(), &OF_NONE)
 }
 
 /// Four abbreviations in some orders, what they are packed as in each, and what "abd" is: bank 2, the
 /// number of the abbreviation, and a filler or "d".
-const ORDERS: [[Asked<'static>; 9]; 4] = [
+static ORDERS: [[Asked<'static>; 9]; 4] = [
     [
         Declare(b"ab", Mode::Text, Ok(0)),
         Declare(b"abab", Mode::Text, Ok(1)),
@@ -185,11 +189,21 @@ const ORDERS: [[Asked<'static>; 9]; 4] = [
     ],
 ];
 
-#[test]
-fn takes_the_longest_whatever_the_order(rt: HostRuntime) -> Result<(), Fail> {
-    for rows in &ORDERS {
-        let mut abbreviations = Abbreviations::new(rt.alloc());
-        ask_all(&rt, rt.alloc(), &mut abbreviations, rows)?;
+/// Asks these in turn where none is declared.
+fn ask_anew(rt: &impl Abort, alloc: Global, rows: &[Asked<'_>]) -> Result<(), Fail> {
+    let mut abbreviations = Abbreviations::new(alloc);
+    ask_all(rt, alloc, &mut abbreviations, rows)
+}
+
+/// Asks the rows of each order where none is declared.
+fn ask_orders(rt: &impl Abort, alloc: Global, orders: &[[Asked<'_>; 9]]) -> Result<(), Fail> {
+    for rows in orders {
+        ask_anew(rt, alloc, rows)?;
     }
     Ok(())
+}
+
+#[test]
+fn takes_the_longest_whatever_the_order(rt: HostRuntime) -> Result<(), Fail> {
+    ask_orders(&rt, rt.alloc(), &ORDERS)
 }

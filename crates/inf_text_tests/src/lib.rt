@@ -5,6 +5,8 @@
 #[cfg(test)]
 mod abbreviations;
 #[cfg(test)]
+mod expecting;
+#[cfg(test)]
 mod limits;
 #[cfg(test)]
 mod sources;

@@ -1,4 +1,5 @@
 //! The limits of escapes, of the modes and of long texts.
+use crate::expecting::expect;
 use crate::sources::{assert_packs, number_of, repeated};
 use inf_text::{CharSet, Mode, TextFault, read_text};
 use std::alloc::Global;
@@ -12,7 +13,7 @@ type Only = Result<Option<u16>, TextFault>;
 /// Asserts what comes of the bytes of each row.
 fn assert_all(rt: &impl Abort, alloc: Global, set: CharSet, mode: Mode, rows: &[(&[u8], Only)]) {
     for (bytes, wanted) in rows {
-        assert_eq!(rt; only(alloc, bytes, set, mode), *wanted, "{bytes:?}");
+        expect(rt, bytes, &only(alloc, bytes, set, mode), wanted);
     }
 }
 
@@ -26,7 +27,7 @@ fn only(alloc: Global, bytes: &[u8], set: CharSet, mode: Mode) -> Only {
 }
 
 /// Escapes at the ends of their ranges.
-const ESCAPES: [(&[u8], Only); 15] = [
+static ESCAPES: [(&[u8], Only); 15] = [
     (b"@31", Ok(Some(256 + 31))),
     (b"@32", Err(TextFault::BadCode)),
     (b"@00", Ok(Some(256))),
@@ -52,21 +53,21 @@ fn takes_codes_within_their_ranges(rt: HostRuntime) {
 }
 
 /// Marks in a text.
-const TEXT_MARKS: [(&[u8], Only); 3] = [
+static TEXT_MARKS: [(&[u8], Only); 3] = [
     (b"^", Ok(Some(13))),
     (b"~", Ok(Some(34))),
     (b"@05", Ok(Some(256 + 5))),
 ];
 
 /// Marks in an abbreviation.
-const ABBREVIATION_MARKS: [(&[u8], Only); 3] = [
+static ABBREVIATION_MARKS: [(&[u8], Only); 3] = [
     (b"^", Ok(Some(13))),
     (b"~", Ok(Some(34))),
     (b"@05", Err(TextFault::UnknownEscape)),
 ];
 
 /// Marks between quotes.
-const QUOTE_MARKS: [(&[u8], Only); 3] = [
+static QUOTE_MARKS: [(&[u8], Only); 3] = [
     (b"^", Ok(Some(39))),
     (b"~", Ok(Some(126))),
     (b"@05", Err(TextFault::UnknownEscape)),
@@ -91,7 +92,7 @@ fn reads_the_space_that_does_not_break(rt: HostRuntime) {
 }
 
 /// Bytes that are no text, and their first fault.
-const FAULTS: [(&[u8], Only); 11] = [
+static FAULTS: [(&[u8], Only); 11] = [
     (b"@@154", Err(TextFault::BadCode)),
     (b"@{20ac}", Err(TextFault::NoZscii)),
     (b"@q", Err(TextFault::UnknownEscape)),
@@ -118,10 +119,10 @@ fn keeps_a_text_of_100_000_items(rt: HostRuntime) -> Result<(), Fail> {
     let alloc = rt.alloc();
     let source = repeated(alloc, b"e", 100_000)?;
     let text = read_text(alloc, source.as_slice(), CharSet::Ascii, Mode::Text)?;
-    assert_eq!(rt; text.len(), 100_000);
+    expect(&rt, &"items", &text.len(), &100_000);
     // They are 33,333 words and one Z-character of the last word.
     let mut bytes = repeated(alloc, &[0x29, 0x4a], 33_333)?;
     bytes.extend_from_slice(&[0xa8, 0xa5])?;
-    assert_eq!(rt; bytes.len(), 66_668);
+    expect(&rt, &"bytes", &bytes.len(), &66_668);
     assert_packs(&rt, alloc, &source, CharSet::Ascii, None, &bytes)
 }

@@ -1,4 +1,5 @@
 //! The texts of worked sources, and a call of each public function that takes memory.
+use crate::expecting::expect;
 use inf_text::{
     Abbreviations, CharSet, Mode, TextItem, Zscii, dict_word, pack, packed_len, read_text,
     source_char,
@@ -8,7 +9,7 @@ use std::process::Abort;
 use std::test::Fail;
 
 /// Texts of printed strings, and their bytes in a story that an interpreter prints.
-const PRINTED: [(&[u8], CharSet, &[u8]); 7] = [
+static PRINTED: [(&[u8], CharSet, &[u8]); 7] = [
     (b"", CharSet::Ascii, b"\x94\xa5"),
     (b"hello", CharSet::Ascii, b"\x35\x51\xc6\x85"),
     (b"the lamps", CharSet::Ascii, b"\x65\xaa\x02\x26\xca\xb8"),
@@ -45,17 +46,26 @@ pub(crate) fn assert_packs(
 ) -> Result<(), Fail> {
     let text = read_text(alloc, source, set, Mode::Text)?;
     let packed = pack(alloc, &text, abbreviations)?;
-    assert_eq!(rt; packed.as_slice(), bytes);
-    assert_eq!(rt; packed_len(&text, abbreviations), bytes.len());
+    expect(rt, &source, &packed.as_slice(), &bytes);
+    expect(rt, &source, &packed_len(&text, abbreviations), &bytes.len());
+    Ok(())
+}
+
+/// Asserts the bytes that the text of each row is packed as.
+fn assert_all_pack(
+    rt: &impl Abort,
+    alloc: Global,
+    rows: &[(&[u8], CharSet, &[u8])],
+) -> Result<(), Fail> {
+    for (source, set, bytes) in rows {
+        assert_packs(rt, alloc, source, *set, None, bytes)?;
+    }
     Ok(())
 }
 
 #[test]
 fn packs_printed_texts(rt: HostRuntime) -> Result<(), Fail> {
-    for (source, set, bytes) in &PRINTED {
-        assert_packs(&rt, rt.alloc(), source, *set, None, bytes)?;
-    }
-    Ok(())
+    assert_all_pack(&rt, rt.alloc(), &PRINTED)
 }
 
 /// So many times some bytes.
@@ -82,24 +92,29 @@ fn packs_a_long_text(rt: HostRuntime) -> Result<(), Fail> {
     // The last word is marked as the end.
     bytes.truncate(1758);
     bytes.extend_from_slice(&[0x51 | 0x80, 0x80])?;
-    assert_eq!(rt; bytes.len(), 1760);
+    expect(&rt, &"bytes", &bytes.len(), &1760);
     assert_packs(&rt, alloc, &source, CharSet::Ascii, None, &bytes)
 }
 
 /// Words of a source, and their bytes in the dictionary.
-const WORDS: [(&[u8], [u8; 6]); 3] = [
+static WORDS: [(&[u8], [u8; 6]); 3] = [
     (b"take", [0x64, 0xd0, 0x28, 0xa5, 0x94, 0xa5]),
     (b"t", [0x64, 0xa5, 0x14, 0xa5, 0x94, 0xa5]),
     (b"abcdefg@ss", [0x18, 0xe8, 0x25, 0x4b, 0xb0, 0xa6]),
 ];
 
-#[test]
-fn spells_dictionary_words(rt: HostRuntime) -> Result<(), Fail> {
-    for (source, bytes) in &WORDS {
-        let text = read_text(rt.alloc(), source, CharSet::Ascii, Mode::Quote)?;
-        assert_eq!(rt; dict_word(&text), *bytes);
+/// Asserts the bytes that the word of each row has.
+fn assert_words(rt: &impl Abort, alloc: Global, rows: &[(&[u8], [u8; 6])]) -> Result<(), Fail> {
+    for (source, bytes) in rows {
+        let text = read_text(alloc, source, CharSet::Ascii, Mode::Quote)?;
+        expect(rt, source, &dict_word(&text), bytes);
     }
     Ok(())
+}
+
+#[test]
+fn spells_dictionary_words(rt: HostRuntime) -> Result<(), Fail> {
+    assert_words(&rt, rt.alloc(), &WORDS)
 }
 
 /// The code of a character, or 256 and the number of a string variable.
@@ -110,19 +125,26 @@ pub(crate) fn number_of(item: TextItem) -> u16 {
     }
 }
 
-#[test]
-fn keeps_string_variables(rt: HostRuntime) -> Result<(), Fail> {
-    let text = read_text(rt.alloc(), b"a@31~^", CharSet::Ascii, Mode::Text)?;
-    let mut numbers = Vec::new(rt.alloc());
+/// The numbers of the items of a text.
+fn numbers_of(alloc: Global, source: &[u8]) -> Result<Vec<u16>, Fail> {
+    let text = read_text(alloc, source, CharSet::Ascii, Mode::Text)?;
+    let mut numbers = Vec::new(alloc);
     for item in text.as_slice() {
         numbers.push(number_of(*item))?;
     }
-    assert_eq!(rt; numbers.as_slice(), [97, 256 + 31, 34, 13].as_slice());
+    Ok(numbers)
+}
+
+#[test]
+fn keeps_string_variables(rt: HostRuntime) -> Result<(), Fail> {
+    let numbers = numbers_of(rt.alloc(), b"a@31~^")?;
+    let wanted = [97, 256 + 31, 34, 13].as_slice();
+    expect(&rt, &"numbers", &numbers.as_slice(), &wanted);
     Ok(())
 }
 
 /// Bytes, and the codes that they have.
-const BYTES: [(u8, CharSet, Option<u8>); 6] = [
+static BYTES: [(u8, CharSet, Option<u8>); 6] = [
     (b'\t', CharSet::Ascii, Some(b' ')),
     (0xa0, CharSet::Latin1, Some(b' ')),
     (0xa0, CharSet::Ascii, None),
@@ -131,15 +153,20 @@ const BYTES: [(u8, CharSet, Option<u8>); 6] = [
     (0x7f, CharSet::Latin1, None),
 ];
 
-#[test]
-fn knows_both_character_sets(rt: HostRuntime) {
-    for (byte, set, code) in &BYTES {
-        assert_eq!(rt; source_char(*byte, *set).map(Zscii::code), *code, "{byte}");
+/// Asserts the code that the byte of each row has.
+fn assert_bytes(rt: &impl Abort, rows: &[(u8, CharSet, Option<u8>)]) {
+    for (byte, set, code) in rows {
+        expect(rt, byte, &source_char(*byte, *set).map(Zscii::code), code);
     }
 }
 
+#[test]
+fn knows_both_character_sets(rt: HostRuntime) {
+    assert_bytes(&rt, &BYTES);
+}
+
 /// Numbers, and the codes that they are.
-const CODES: [(u32, Option<u8>); 13] = [
+static CODES: [(u32, Option<u8>); 13] = [
     (13, Some(13)),
     (32, Some(32)),
     (126, Some(126)),
@@ -155,9 +182,14 @@ const CODES: [(u32, Option<u8>); 13] = [
     (256 + 65, None),
 ];
 
+/// Asserts the code that the number of each row is.
+fn assert_codes(rt: &impl Abort, rows: &[(u32, Option<u8>)]) {
+    for (number, code) in rows {
+        expect(rt, number, &Zscii::new(*number).map(Zscii::code), code);
+    }
+}
+
 #[test]
 fn knows_the_codes(rt: HostRuntime) {
-    for (number, code) in &CODES {
-        assert_eq!(rt; Zscii::new(*number).map(Zscii::code), *code, "{number}");
-    }
+    assert_codes(&rt, &CODES);
 }

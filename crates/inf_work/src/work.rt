@@ -1,15 +1,16 @@
 //! What the actions of the grammar do: they gather the parts of a unit, which acts at its end.
-ghost use Rattle.std.specs.Prelude.{◌≡◌, ◌≤◌, [], IfOk, OnOk, None, is_some, map, option_map};
+ghost use Rattle.std.specs.Prelude.{◌≡◌, ◌≤◌, [], IfOk, IsTrue, OnOk, None, is_some, length, map, option_map};
 ghost use Rattle.inf_symbol.specs.Spellings.{as_name};
 ghost use Rattle.inf_symbol.specs.LocalList.{headed as as_headed, listed, repeated as repeated_of};
 ghost use Rattle.inf_symbol.specs.Locals.{no_locals, with_all_named, with_locals};
 ghost use Rattle.inf_opcode.specs.Cells.{label_count};
-ghost use Rattle.inf_opcode.specs.Instructions.{IsProper, bare, instruction_cells};
+ghost use Rattle.inf_opcode.specs.Instructions.{IsProper, bare, has_no_offset, instruction_cells};
+ghost use Rattle.inf_opcode.specs.PartsOf.{parts_of};
 ghost use Rattle.inf_names.specs.Symbols.{declare_fault, refer_fault};
 ghost use Rattle.inf_work.specs.Actions.{first_full, referred, with_all_unused};
 ghost use Rattle.inf_unit.specs.Blames.{blamed};
 ghost use Rattle.inf_unit.specs.Messages.{location, setting_of, with_full, with_words};
-ghost use Rattle.inf_work.specs.Units.{again, header_fault, local_fault, name_fault, name_full, with_name};
+ghost use Rattle.inf_work.specs.Units.{Operands, again, header_fault, local_fault, name_fault, name_full, with_name, with_operands};
 
 use crate::instructions::{calling, returning};
 use crate::operands::{add_operands, call_fault, operand_fault};
@@ -19,7 +20,7 @@ use inf_assembler::Setting as CodeSetting;
 use inf_lexer::{Place, Stack};
 use inf_names::meanings::Meaning;
 use inf_names::symbols::{DeclareFault, Found, ReferFault, Symbols};
-use inf_opcode::Opcode;
+use inf_opcode::{Instruction, MOST_OPERANDS, Opcode, Operand};
 use inf_report::messages::{Countable, Message};
 use inf_report::own_words::OwnWords;
 use inf_settings::setting::Setting;
@@ -500,6 +501,21 @@ impl Work {
         self.check(files, unit, full)
     }
 
+    /// An instruction without a branch or jump.
+    fn emit(
+        &mut self,
+        files: &Stack,
+        unit: Place,
+        instruction: &Instruction<'_>,
+    ) -> Result<(), AllocError>
+        requires proper { IsProper (parts_of instruction.now) }
+        requires straight { label_count (instruction_cells (parts_of instruction.now)) ≡ 0 }
+        ensures { OnOk result (work self.new ≡ with_instruction files.now.names unit (parts_of instruction.now) (work self.old)) }
+    {
+        let full = self.output.emit(instruction)?;
+        self.check(files, unit, full)
+    }
+
     /// Prints the texts of the unit.
     fn print(&mut self, files: &Stack, unit: Place) -> Result<(), AllocError>
         ensures { let before = work self.old in OnOk result (work self.new
@@ -524,13 +540,11 @@ impl Work {
             return self.report.fault(files, unit, Some(blame));
         }
         let mut operands = ArrayVec::new();
-        let full = add_operands(&self.locals, &mut self.names, names, &mut operands)?;
-        name_all(&mut self.locals, names);
+        let full = take_operands(&mut self.locals, &mut self.names, names, &mut operands)?;
         if full.is_some() {
             return self.report.full(files, unit, full);
         }
-        let full = self.output.emit(&calling(operands.as_slice()))?;
-        self.check(files, unit, full)
+        self.emit(files, unit, &calling(operands.as_slice()))
     }
 
     /// Returns true, or the operand of the unit.
@@ -548,13 +562,11 @@ impl Work {
             return self.report.fault(files, unit, Some(blame));
         }
         let mut operands = ArrayVec::new();
-        let full = add_operands(&self.locals, &mut self.names, names, &mut operands)?;
-        name_all(&mut self.locals, names);
+        let full = take_operands(&mut self.locals, &mut self.names, names, &mut operands)?;
         if full.is_some() {
             return self.report.full(files, unit, full);
         }
-        let full = self.output.emit(&returning(operands.as_slice()))?;
-        self.check(files, unit, full)
+        self.emit(files, unit, &returning(operands.as_slice()))
     }
 }
 
@@ -567,6 +579,28 @@ fn headed_of(names: &[Name]) -> Headed<'_>
         headed.add(name);
     }
     headed
+}
+
+/// Puts the operands that at most eight names are behind none: a local is named, and every other name used that is no constant. It
+/// ends before a name that is one too many, and answers the setting that this would pass.
+fn take_operands(
+    locals: &mut Locals,
+    known: &mut Symbols<Place>,
+    names: &[Name],
+    operands: &mut ArrayVec<Operand, MOST_OPERANDS>,
+) -> Result<Option<Setting>, AllocError>
+    requires few { length names.now ≤ 8 }
+    requires none { operands.old.items ≡ [] }
+    ensures value { let before : Operands = record { names = known.old; operands = []; full = None } in
+        IfOk result (λ full. record { names = known.new; operands = operands.new.items; full = full }
+        ≡ with_operands (listed locals.old) (map as_name names.now) before) }
+    ensures named { OnOk result (listed locals.new ≡ with_all_named (map as_name names.now) (listed locals.old)) }
+    ensures count { IfOk result (λ full. full ≡ None → length operands.new.items ≡ length names.now) }
+    ensures plain { IfOk result (λ _. IsTrue (has_no_offset operands.new.items)) }
+{
+    let full = add_operands(locals, known, names, operands)?;
+    name_all(locals, names);
+    Ok(full)
 }
 
 /// A statement names these, of which some may be locals.

@@ -1,12 +1,13 @@
 //! What a compilation writes, and how it ends where a device fails.
-use crate::running::{Ended, assert_written};
+use crate::running::{Ended, assert_holds, assert_written, read, read_folder};
 use inf_compile::{Fault, Status};
 use inf_symbol::memory_sink::MemorySink;
+use inf_symbol::sinks::Sink;
+use inf_token::files::Files;
 use inf_token::memory_files::MemoryFiles;
 use inform_trials::devices::{Narrow, folder};
 use inform_trials::running::run;
 use std::alloc::Global;
-use std::collections::BTreeMap;
 use std::process::Abort;
 use std::test::Fail;
 
@@ -16,7 +17,7 @@ pub const GREETING: &[u8] = b"[ Main; print \"hello\"; ];";
 pub const NO_ERRORS: &str = "Errors: 0, warnings: 0\n";
 
 /// Pieces of the greeting's story, with how often each is there.
-const PIECES: [(&[u8], usize); 20] = [
+static PIECES: [(&[u8], usize); 20] = [
     (b"\x05\x00\x00\x01\x03\xC0\x03\xC1\x03\xB8", 1),
     (b"\x01\x02\x01\xD8\x03\xB8\x00\x00260307\x00\x42", 1),
     // its length and its checksum
@@ -44,11 +45,11 @@ const PIECES: [(&[u8], usize); 20] = [
     ),
 ];
 
-/// The story of the greeting.
-fn greeting_story(alloc: Global) -> Result<Vec<u8>, Fail> {
+/// A story of these pieces.
+fn joined(alloc: Global, pieces: &[(&[u8], usize)]) -> Result<Vec<u8>, Fail> {
     let mut story = Vec::new(alloc);
-    for (bytes, count) in PIECES {
-        story.extend_from_slice(bytes.repeat(alloc, count)?.as_slice())?;
+    for (bytes, count) in pieces {
+        story.extend_from_slice(bytes.repeat(alloc, *count)?.as_slice())?;
     }
     Ok(story)
 }
@@ -60,70 +61,104 @@ pub fn assert_greeting(
     story: &[u8],
     most: usize,
 ) -> Result<(), Fail> {
-    let mut expected = greeting_story(alloc)?;
+    let mut expected = joined(alloc, &PIECES)?;
     assert!(rt; expected.len() == 976);
     expected.truncate(most);
     assert_written(rt, story, expected.as_slice());
     Ok(())
 }
 
+/// Compiles the greeting that is read from these files, and asserts its messages and its story.
+pub fn greet<F: Files>(rt: &impl Abort, alloc: Global, files: &mut F) -> Result<(), Fail> {
+    let ended = Ended::of(alloc, files)?;
+    ended.assert_read(rt, NO_ERRORS);
+    assert_greeting(rt, alloc, ended.story.bytes(), 976)
+}
+
 /// Compiles a source, and asserts its messages.
-pub fn read(rt: &impl Abort, alloc: Global, source: &[u8], lines: &str) -> Result<Ended, Fail> {
+pub fn read_source(rt: &impl Abort, alloc: Global, source: &[u8], lines: &str) -> Result<(), Fail> {
     let mut files = folder(alloc, source)?;
-    let ended = Ended::of(alloc, &mut files)?;
-    ended.assert_read(rt, lines);
-    Ok(ended)
+    read(rt, alloc, &mut files, lines)
+}
+
+/// Compiles a source by these devices.
+fn write_to<M: Sink, S: Sink>(
+    alloc: Global,
+    source: &[u8],
+    messages: &mut M,
+    story: &mut S,
+) -> Result<Result<Status, Fault>, Fail> {
+    let mut files = folder(alloc, source)?;
+    run(alloc, &mut files, messages, story)
 }
 
 #[test]
 fn a_story_is_given_byte_for_byte(rt: HostRuntime) -> Result<(), Fail> {
-    let ended = read(&rt, rt.alloc(), GREETING, NO_ERRORS)?;
-    assert_greeting(&rt, rt.alloc(), ended.story.bytes(), 976)
+    let mut files = folder(rt.alloc(), GREETING)?;
+    greet(&rt, rt.alloc(), &mut files)
 }
 
 #[test]
 fn a_source_that_is_not_there_is_a_fatal_error(rt: HostRuntime) -> Result<(), Fail> {
-    let mut files = MemoryFiles::new(rt.alloc(), BTreeMap::new(rt.alloc()));
-    let ended = Ended::of(rt.alloc(), &mut files)?;
-    ended.assert_read(&rt, "t.inf(1): Fatal error: No file \"t.inf\"\n");
-    Ok(())
+    let lines = "t.inf(1): Fatal error: No file \"t.inf\"\n";
+    read_folder(&rt, rt.alloc(), &[], lines)
 }
 
 #[test]
 fn a_story_is_whole_where_its_sink_takes_one_byte_a_write(rt: HostRuntime) -> Result<(), Fail> {
-    let mut files = folder(rt.alloc(), GREETING)?;
     let mut messages = MemorySink::new(rt.alloc());
     let mut story = Narrow::new(rt.alloc(), 1, usize::MAX);
-    let status = run(rt.alloc(), &mut files, &mut messages, &mut story)??;
+    let status = write_to(rt.alloc(), GREETING, &mut messages, &mut story)??;
     assert!(rt; status == Status::Success);
     assert_greeting(&rt, rt.alloc(), story.whole.bytes(), 976)
 }
 
+/// Compiles a source by these devices, and asserts that its messages cannot be written.
+fn fail_to_tell(
+    rt: &impl Abort,
+    alloc: Global,
+    source: &[u8],
+    messages: &mut Narrow,
+    story: &mut MemorySink,
+) -> Result<(), Fail> {
+    let result = write_to(alloc, source, messages, story)?;
+    assert!(rt; matches!(&result, Err(Fault::Messages)));
+    Ok(())
+}
+
 #[test]
 fn a_failed_write_of_a_message_ends_a_compilation(rt: HostRuntime) -> Result<(), Fail> {
-    let mut files = folder(rt.alloc(), b"")?;
     let mut messages = Narrow::new(rt.alloc(), 4096, 10);
     let mut story = MemorySink::new(rt.alloc());
-    let result = run(rt.alloc(), &mut files, &mut messages, &mut story)?;
-    assert!(rt; matches!(&result, Err(Fault::Messages)));
+    fail_to_tell(&rt, rt.alloc(), b"", &mut messages, &mut story)?;
     assert_written(&rt, messages.whole.bytes(), b"t.inf(1): ");
     assert!(rt; story.bytes().is_empty());
     Ok(())
 }
 
+/// Compiles the greeting by these devices, and asserts that only a hundred bytes of its story can be written.
+fn fail_to_deliver(
+    rt: &impl Abort,
+    alloc: Global,
+    messages: &mut MemorySink,
+    story: &mut Narrow,
+) -> Result<(), Fail> {
+    let result = write_to(alloc, GREETING, messages, story)?;
+    assert!(rt; matches!(&result, Err(Fault::Story(100))));
+    Ok(())
+}
+
 #[test]
 fn a_failed_write_of_the_story_is_told(rt: HostRuntime) -> Result<(), Fail> {
-    let mut files = folder(rt.alloc(), GREETING)?;
     let mut messages = MemorySink::new(rt.alloc());
     let mut story = Narrow::new(rt.alloc(), 64, 100);
-    let result = run(rt.alloc(), &mut files, &mut messages, &mut story)?;
-    assert!(rt; matches!(&result, Err(Fault::Story(100))));
+    fail_to_deliver(&rt, rt.alloc(), &mut messages, &mut story)?;
     assert_written(&rt, messages.bytes(), NO_ERRORS.as_bytes());
     assert_greeting(&rt, rt.alloc(), story.whole.bytes(), 100)
 }
 
 /// Sources in which words of statements stand as names.
-const WORDS: [(&[u8], &str); 3] = [
+static WORDS: [(&[u8], &str); 3] = [
     (
         b"[ while; ];\n[ Main x;\nprint \"a\";\nwhile (x); ];\n",
         "t.inf(4): Error: Syntax error at \"while\"\nErrors: 1, warnings: 0 (no output)\n",
@@ -140,13 +175,13 @@ const WORDS: [(&[u8], &str); 3] = [
 #[test]
 fn words_of_statements_begin_no_calls(rt: HostRuntime) -> Result<(), Fail> {
     for (source, lines) in &WORDS {
-        let _ = read(&rt, rt.alloc(), *source, *lines)?;
+        read_source(&rt, rt.alloc(), *source, *lines)?;
     }
     Ok(())
 }
 
 /// Sources whose bad token the grammar has, with what is told of it.
-const ROWS: [(&[u8], &str); 7] = [
+static ROWS: [(&[u8], &str); 7] = [
     (b"[ Main; F; ];", "\";\""),
     (b"[ Main; (F)(); ];", "\"(\""),
     (b"[ Main; F(G()); ];", "\"(\""),
@@ -156,15 +191,36 @@ const ROWS: [(&[u8], &str); 7] = [
     (b"[ Main; print , \"a\"; ];", "\",\""),
 ];
 
+/// Compiles `t.inf` of these files, and asserts the beginning of its messages.
+fn assert_first(
+    rt: &impl Abort,
+    alloc: Global,
+    files: &mut MemoryFiles,
+    first: &str,
+) -> Result<(), Fail> {
+    let ended = Ended::of(alloc, files)?;
+    let messages = ended.messages.bytes();
+    assert_holds(rt, &first, messages.starts_with(first.as_bytes()));
+    Ok(())
+}
+
+/// Compiles a source, and asserts the beginning of its messages.
+fn read_first(rt: &impl Abort, alloc: Global, source: &[u8], first: &str) -> Result<(), Fail> {
+    let mut files = folder(alloc, source)?;
+    assert_first(rt, alloc, &mut files, first)
+}
+
+/// Compiles a source whose first line has a bad token, and asserts that this is told of it first.
+fn tell_first(rt: &impl Abort, alloc: Global, source: &[u8], told: &str) -> Result<(), Fail> {
+    let first = format!(in alloc; "t.inf(1): Error: Syntax error at {told}")?;
+    read_first(rt, alloc, source, first.as_str())
+}
+
 /// What a row of the grammar begins that has not come is bad at its first token, not where the grammar itself would end.
 #[test]
 fn rows_that_have_not_come_are_never_chosen(rt: HostRuntime) -> Result<(), Fail> {
     for (source, told) in &ROWS {
-        let mut files = folder(rt.alloc(), *source)?;
-        let ended = Ended::of(rt.alloc(), &mut files)?;
-        let first = format!(in rt.alloc(); "t.inf(1): Error: Syntax error at {told}")?;
-        let messages = ended.messages.bytes();
-        assert!(rt; messages.starts_with(first.as_bytes()), "{told}");
+        tell_first(&rt, rt.alloc(), *source, *told)?;
     }
     Ok(())
 }

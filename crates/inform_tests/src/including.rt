@@ -1,10 +1,10 @@
 //! Files that include one another, and messages that are written as they are found.
-use crate::running::{Ended, assert_folders};
+use crate::running::{fail_to_read, read_folders};
 use inform_trials::devices::{Locked, Slow, folder_of};
 use std::test::Fail;
 
 /// Files of a folder, with all messages of `t.inf` among them.
-const FOLDERS: [(&[(&str, &[u8])], &str); 6] = [
+static FOLDERS: [(&[(&str, &[u8])], &str); 6] = [
     (
         &[
             ("t.inf", b"Include \"c.h\"; [ Main; F(); ];"),
@@ -54,17 +54,17 @@ const FOLDERS: [(&[(&str, &[u8])], &str); 6] = [
 
 #[test]
 fn files_include_one_another(rt: HostRuntime) -> Result<(), Fail> {
-    assert_folders(&rt, rt.alloc(), &FOLDERS)
+    read_folders(&rt, rt.alloc(), &FOLDERS)
 }
 
 /// A file that includes itself.
-const ITSELF: [(&str, &[u8]); 1] = [("t.inf", b"Message \"x\";\nInclude \"t.inf\";\n")];
+static ITSELF: [(&str, &[u8]); 1] = [("t.inf", b"Message \"x\";\nInclude \"t.inf\";\n")];
 
 #[test]
 fn sixteen_files_may_be_open(rt: HostRuntime) -> Result<(), Fail> {
     let lines =
         "x\nx\nx\nx\nx\nx\nx\nx\nx\nx\nx\nx\nx\nx\nx\nx\nt.inf(2): Fatal error: More than 16 files open\n";
-    assert_folders(&rt, rt.alloc(), &[(&ITSELF, lines)])
+    read_folders(&rt, rt.alloc(), &[(&ITSELF, lines)])
 }
 
 /// Messages stand where a read failed behind them.
@@ -72,13 +72,13 @@ fn sixteen_files_may_be_open(rt: HostRuntime) -> Result<(), Fail> {
 fn messages_are_written_as_they_are_found(rt: HostRuntime) -> Result<(), Fail> {
     let source = b"Message \"a\"; Message \"b\"; Mess".as_slice();
     let mut files = Slow::failing(source, source.len());
-    Ended::of(rt.alloc(), &mut files)?.assert_unread(&rt, "t.inf", "a\nb\n");
+    fail_to_read(&rt, rt.alloc(), &mut files, "t.inf", "a\nb\n")?;
     assert!(rt; !files.is_open);
     Ok(())
 }
 
 /// A file that includes another one.
-const LOCKED: [(&str, &[u8]); 2] = [
+static LOCKED: [(&str, &[u8]); 2] = [
     ("t.inf", b"Message \"a\"; Include \"c.h\"; Message \"b\";"),
     ("c.h", b""),
 ];
@@ -86,6 +86,5 @@ const LOCKED: [(&str, &[u8]); 2] = [
 #[test]
 fn a_file_that_cannot_be_opened_is_named(rt: HostRuntime) -> Result<(), Fail> {
     let mut files = Locked::new(folder_of(rt.alloc(), &LOCKED)?, "c.h");
-    Ended::of(rt.alloc(), &mut files)?.assert_unread(&rt, "c.h", "a\n");
-    Ok(())
+    fail_to_read(&rt, rt.alloc(), &mut files, "c.h", "a\n")
 }

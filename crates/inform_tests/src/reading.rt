@@ -1,6 +1,6 @@
 //! How a source is read: through a window, to its end or to a fatal error, whatever a read gives.
-use crate::compile::{GREETING, NO_ERRORS, assert_greeting, read};
-use crate::running::Ended;
+use crate::compile::{GREETING, NO_ERRORS, greet, read_source};
+use crate::running::{assert_holds, fail_to_read, read};
 use inform_trials::devices::Slow;
 use std::alloc::Global;
 use std::process::Abort;
@@ -12,15 +12,21 @@ fn read_from(
     alloc: Global,
     files: &mut Slow<'_>,
     lines: &str,
-) -> Result<Ended, Fail> {
-    let ended = Ended::of(alloc, files)?;
-    ended.assert_read(rt, lines);
-    assert!(rt; !files.is_open);
-    Ok(ended)
+) -> Result<(), Fail> {
+    read(rt, alloc, files, lines)?;
+    assert_holds(rt, &lines, !files.is_open);
+    Ok(())
+}
+
+/// Compiles the greeting that a reader gives, and asserts its messages and its story.
+fn greet_from(rt: &impl Abort, alloc: Global, files: &mut Slow<'_>) -> Result<(), Fail> {
+    greet(rt, alloc, files)?;
+    assert_holds(rt, &NO_ERRORS, !files.is_open);
+    Ok(())
 }
 
 /// How many bytes a read gives at most, in turn.
-const READS: [usize; 6] = [1, 2, 3, 7, 4096, usize::MAX];
+static READS: [usize; 6] = [1, 2, 3, 7, 4096, usize::MAX];
 
 /// A source with two bad pieces, whose lines end in three ways.
 const BAD: &[u8] = b"[ Main;\r\nprint ;\r\n];\n\r7000;";
@@ -29,14 +35,19 @@ const BAD: &[u8] = b"[ Main;\r\nprint ;\r\n];\n\r7000;";
 const BAD_LINES: &str =
     "t.inf(2): Error: Syntax error at \";\"\nt.inf(5): Error: Syntax error at \"7000\"\nErrors: 2, warnings: 0 (no output)\n";
 
+/// Compiles the greeting where a read gives at most so many bytes, and asserts that all its bytes are read.
+fn greet_in_parts(rt: &impl Abort, alloc: Global, most: usize) -> Result<(), Fail> {
+    let mut files = Slow::new(GREETING, most);
+    greet_from(rt, alloc, &mut files)?;
+    assert_holds(rt, &most, files.count == GREETING.len());
+    Ok(())
+}
+
 #[test]
 fn what_is_read_does_not_depend_on_the_bytes_of_a_read(rt: HostRuntime) -> Result<(), Fail> {
     for most in READS {
-        let mut files = Slow::new(GREETING, most);
-        let ended = read_from(&rt, rt.alloc(), &mut files, NO_ERRORS)?;
-        assert_greeting(&rt, rt.alloc(), ended.story.bytes(), 976)?;
-        assert!(rt; files.count == GREETING.len(), "{most}");
-        let _ = read_from(&rt, rt.alloc(), &mut Slow::new(BAD, most), BAD_LINES)?;
+        greet_in_parts(&rt, rt.alloc(), most)?;
+        read_from(&rt, rt.alloc(), &mut Slow::new(BAD, most), BAD_LINES)?;
     }
     Ok(())
 }
@@ -59,18 +70,28 @@ fn hundred_messages(alloc: Global) -> Result<String, Fail> {
     Ok(lines)
 }
 
+/// Compiles the hundred lines where a read gives at most so many bytes, and asserts that the spaces are not read.
+fn read_little(
+    rt: &impl Abort,
+    alloc: Global,
+    source: &[u8],
+    lines: &str,
+    most: usize,
+) -> Result<(), Fail> {
+    let mut files = Slow::new(source, most);
+    read_from(rt, alloc, &mut files, lines)?;
+    // The last number ends behind 298 bytes, and the byte behind it shows that.
+    let is_little = files.count > 298 && files.count <= 298 + most.min(4096);
+    assert_holds(rt, &most, is_little);
+    Ok(())
+}
+
 #[test]
 fn little_is_read_behind_a_fatal_error(rt: HostRuntime) -> Result<(), Fail> {
     let source = hundred_errors(rt.alloc())?;
     let lines = hundred_messages(rt.alloc())?;
     for most in READS {
-        let mut files = Slow::new(source.as_slice(), most);
-        let _ = read_from(&rt, rt.alloc(), &mut files, lines.as_str())?;
-        // The last number ends behind 298 bytes, and the byte behind it shows that.
-        assert!(rt;
-            files.count > 298 && files.count <= 298 + most.min(4096),
-            "{most}"
-        );
+        read_little(&rt, rt.alloc(), source.as_slice(), lines.as_str(), most)?;
     }
     Ok(())
 }
@@ -78,14 +99,26 @@ fn little_is_read_behind_a_fatal_error(rt: HostRuntime) -> Result<(), Fail> {
 #[test]
 fn nothing_is_read_behind_the_end(rt: HostRuntime) -> Result<(), Fail> {
     let mut files = Slow::resumed(GREETING, b",");
-    let ended = read_from(&rt, rt.alloc(), &mut files, NO_ERRORS)?;
-    assert_greeting(&rt, rt.alloc(), ended.story.bytes(), 976)
+    greet_from(&rt, rt.alloc(), &mut files)
 }
 
 /// Asserts that a source is told as not read, that nothing was written and that it was closed.
 fn assert_unread(rt: &impl Abort, alloc: Global, files: &mut Slow<'_>) -> Result<(), Fail> {
-    Ended::of(alloc, files)?.assert_unread(rt, "t.inf", "");
-    assert!(rt; !files.is_open);
+    fail_to_read(rt, alloc, files, "t.inf", "")?;
+    assert_holds(rt, &"t.inf", !files.is_open);
+    Ok(())
+}
+
+/// Asserts that the greeting is told as not read where the read behind so many fails.
+fn fail_behind(rt: &impl Abort, alloc: Global, reads: usize) -> Result<(), Fail> {
+    assert_unread(rt, alloc, &mut Slow::failing(GREETING, reads))
+}
+
+/// Asserts that the greeting is told as not read whichever of its reads fails.
+fn fail_at_each(rt: &impl Abort, alloc: Global) -> Result<(), Fail> {
+    for reads in 0..=GREETING.len() {
+        fail_behind(rt, alloc, reads)?;
+    }
     Ok(())
 }
 
@@ -94,12 +127,9 @@ fn assert_unread(rt: &impl Abort, alloc: Global, files: &mut Slow<'_>) -> Result
 fn a_failed_read_is_not_the_end_of_a_source(rt: HostRuntime) -> Result<(), Fail> {
     assert_unread(&rt, rt.alloc(), &mut Slow::shut())?;
     assert_unread(&rt, rt.alloc(), &mut Slow::failing(b"", 0))?;
-    for reads in 0..=GREETING.len() {
-        assert_unread(&rt, rt.alloc(), &mut Slow::failing(GREETING, reads))?;
-    }
+    fail_at_each(&rt, rt.alloc())?;
     let mut files = Slow::failing(GREETING, GREETING.len() + 1);
-    let _ = read_from(&rt, rt.alloc(), &mut files, NO_ERRORS)?;
-    Ok(())
+    read_from(&rt, rt.alloc(), &mut files, NO_ERRORS)
 }
 
 #[test]
@@ -108,8 +138,7 @@ fn a_line_end_over_the_edge_of_the_window_is_one(rt: HostRuntime) -> Result<(), 
     source.extend_from_slice(b"\r\n5;")?;
     let lines =
         "t.inf(2): Error: Syntax error at \"5\"\nt.inf(1): Error: No routine \"Main\"\nErrors: 2, warnings: 0 (no output)\n";
-    let _ = read(&rt, rt.alloc(), source.as_slice(), lines)?;
-    Ok(())
+    read_source(&rt, rt.alloc(), source.as_slice(), lines)
 }
 
 /// A routine that prints a text of so many bytes at its second line.
@@ -120,26 +149,28 @@ fn printing(alloc: Global, count: usize) -> Result<Vec<u8>, Fail> {
     Ok(source)
 }
 
+/// Compiles a routine that prints a text of so many bytes, and asserts its messages.
+fn read_printing(rt: &impl Abort, alloc: Global, count: usize, lines: &str) -> Result<(), Fail> {
+    let source = printing(alloc, count)?;
+    read_source(rt, alloc, source.as_slice(), lines)
+}
+
 #[test]
 fn a_text_has_at_most_4000_bytes(rt: HostRuntime) -> Result<(), Fail> {
-    let source = printing(rt.alloc(), 4000)?;
     let lines = "t.inf(3): Error: Syntax error at \",\"\nErrors: 1, warnings: 0 (no output)\n";
-    let _ = read(&rt, rt.alloc(), source.as_slice(), lines)?;
-    let source = printing(rt.alloc(), 4001)?;
+    read_printing(&rt, rt.alloc(), 4000, lines)?;
     let lines = "t.inf(2): Fatal error: MAX_QTEXT_SIZE is exceeded\n";
-    let _ = read(&rt, rt.alloc(), source.as_slice(), lines)?;
-    Ok(())
+    read_printing(&rt, rt.alloc(), 4001, lines)
 }
 
 #[test]
 fn a_source_that_is_cut_in_a_text(rt: HostRuntime) -> Result<(), Fail> {
     let lines = "t.inf(1): Error: Unclosed or empty quote\nErrors: 1, warnings: 0 (no output)\n";
-    let _ = read(&rt, rt.alloc(), b"[ Main; print \"hel", lines)?;
-    Ok(())
+    read_source(&rt, rt.alloc(), b"[ Main; print \"hel", lines)
 }
 
 /// Sources whose first token is a bad one, with what is told of it.
-const TOLD: [(&[u8], &str); 14] = [
+static TOLD: [(&[u8], &str); 14] = [
     (b"5;", "Syntax error at \"5\""),
     (b"$fF;", "Syntax error at \"$fF\""),
     (b"$$101;", "Syntax error at \"$$101\""),
@@ -156,13 +187,18 @@ const TOLD: [(&[u8], &str); 14] = [
     (b"\"@{x\";", "Unknown escape"),
 ];
 
+/// Compiles a source whose first token is a bad one, and asserts what is told of it.
+fn tell(rt: &impl Abort, alloc: Global, source: &[u8], told: &str) -> Result<(), Fail> {
+    let lines = format!(in alloc;
+        "t.inf(1): Error: {told}\nt.inf(1): Error: No routine \"Main\"\nErrors: 2, warnings: 0 (no output)\n"
+    )?;
+    read_source(rt, alloc, source, lines.as_str())
+}
+
 #[test]
 fn a_bad_token_is_told(rt: HostRuntime) -> Result<(), Fail> {
     for (source, told) in &TOLD {
-        let lines = format!(in rt.alloc();
-            "t.inf(1): Error: {told}\nt.inf(1): Error: No routine \"Main\"\nErrors: 2, warnings: 0 (no output)\n"
-        )?;
-        let _ = read(&rt, rt.alloc(), *source, lines.as_str())?;
+        tell(&rt, rt.alloc(), *source, *told)?;
     }
     Ok(())
 }

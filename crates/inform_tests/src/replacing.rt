@@ -1,10 +1,12 @@
 //! Routines that are replaced, and warnings that are not told.
-use crate::running::{Ended, assert_folders};
+use crate::running::{read_by_words, read_folders};
 use inform_trials::devices::folder_of;
+use std::alloc::Global;
+use std::process::Abort;
 use std::test::Fail;
 
 /// Files of a folder, with all messages of `t.inf` among them.
-const FOLDERS: [(&[(&str, &[u8])], &str); 8] = [
+static FOLDERS: [(&[(&str, &[u8])], &str); 8] = [
     // A routine of a file that is marked gives nothing: no name, no error, no warning.
     (
         &[
@@ -78,17 +80,17 @@ const FOLDERS: [(&[(&str, &[u8])], &str); 8] = [
 
 #[test]
 fn routines_are_replaced(rt: HostRuntime) -> Result<(), Fail> {
-    assert_folders(&rt, rt.alloc(), &FOLDERS)
+    read_folders(&rt, rt.alloc(), &FOLDERS)
 }
 
 /// A source with two warnings.
-const WARNED: [(&str, &[u8]); 1] = [(
+static WARNED: [(&str, &[u8]); 1] = [(
     "t.inf",
     b"[ Main x; ]; Message warning \"a\"; Message \"b\";",
 )];
 
 /// The words before its name, and its messages then.
-const WORDS: [(&str, &str); 2] = [
+static WORDS: [(&str, &str); 2] = [
     ("-w", "b\nErrors: 0, warnings: 0\n"),
     (
         "-w~w",
@@ -96,12 +98,16 @@ const WORDS: [(&str, &str); 2] = [
     ),
 ];
 
+/// Compiles the source with this word before its name, and asserts its messages.
+fn read_warned(rt: &impl Abort, alloc: Global, word: &str, lines: &str) -> Result<(), Fail> {
+    let mut files = folder_of(alloc, &WARNED)?;
+    read_by_words(rt, alloc, &[word, "t.inf"], &mut files, lines)
+}
+
 #[test]
 fn warnings_are_not_told_where_a_word_says_so(rt: HostRuntime) -> Result<(), Fail> {
     for (word, lines) in &WORDS {
-        let mut files = folder_of(rt.alloc(), &WARNED)?;
-        let ended = Ended::by_words(rt.alloc(), &[*word, "t.inf"], &mut files)?;
-        ended.assert_read(&rt, *lines);
+        read_warned(&rt, rt.alloc(), *word, *lines)?;
     }
     Ok(())
 }

@@ -1,31 +1,16 @@
 //! A compilation, and what it has to come to.
-use inf_compile::compile::compile;
 use inf_compile::{Fault, Status};
 use inf_symbol::memory_sink::MemorySink;
 use inf_token::files::Files;
-use inf_words::command_line::CommandLine;
 use inform_trials::devices::folder_of;
+use inform_trials::running::run_words;
 use std::alloc::Global;
+use std::fmt::Debug;
 use std::process::Abort;
 use std::test::Fail;
 
-/// The date of the stories.
-const DATE: [u8; 6] = *b"260307";
-
 /// How the last message about a source begins that has no error.
 const NO_ERROR: &str = "Errors: 0, ";
-
-/// Compiles what these words name.
-fn compiled<F: Files>(
-    alloc: Global,
-    words: &[&str],
-    files: &mut F,
-    messages: &mut MemorySink,
-    story: &mut MemorySink,
-) -> Result<Result<Status, Fault>, Fail> {
-    let options = CommandLine::read(words)?;
-    Ok(compile(alloc, &options, DATE, files, messages, story))
-}
 
 /// What a compilation came to, and all that it wrote.
 #[derive(Drop)]
@@ -40,7 +25,7 @@ impl Ended {
     pub fn by_words<F: Files>(alloc: Global, words: &[&str], files: &mut F) -> Result<Ended, Fail> {
         let mut messages = MemorySink::new(alloc);
         let mut story = MemorySink::new(alloc);
-        let result = compiled(alloc, words, files, &mut messages, &mut story)?;
+        let result = run_words(alloc, words, files, &mut messages, &mut story)?;
         Ok(Ended {
             result,
             messages,
@@ -63,21 +48,17 @@ impl Ended {
         } else {
             Status::Errors
         };
-        assert!(rt;
-            matches!(&self.result, Ok(ended) if *ended == status),
-            "{lines:?}"
-        );
-        assert!(rt; self.story.bytes().is_empty() != is_clean, "{lines:?}");
+        let is_right = matches!(&self.result, Ok(ended) if *ended == status);
+        assert_holds(rt, &lines, is_right);
+        assert_holds(rt, &lines, self.story.bytes().is_empty() != is_clean);
     }
 
     /// Asserts that this file could not be opened or read behind these messages, and that no story was written.
     pub fn assert_unread(&self, rt: &impl Abort, name: &str, lines: &str) {
         assert_written(rt, self.messages.bytes(), lines.as_bytes());
-        assert!(rt;
-            matches!(&self.result, Err(Fault::Read(told)) if told.as_str() == name),
-            "{name}"
-        );
-        assert!(rt; self.story.bytes().is_empty(), "{name}");
+        let is_told = matches!(&self.result, Err(Fault::Read(told)) if told.as_str() == name);
+        assert_holds(rt, &name, is_told);
+        assert_holds(rt, &name, self.story.bytes().is_empty());
     }
 }
 
@@ -86,15 +67,64 @@ pub fn assert_written(rt: &impl Abort, written: &[u8], wanted: &[u8]) {
     assert_eq!(rt; written, wanted);
 }
 
+/// Asserts what has to hold of a row of a table.
+pub fn assert_holds(rt: &impl Abort, row: &impl Debug, holds: bool) {
+    assert!(rt; holds, "{row:?}");
+}
+
+/// Compiles what these words name, and asserts its messages.
+pub fn read_by_words<F: Files>(
+    rt: &impl Abort,
+    alloc: Global,
+    words: &[&str],
+    files: &mut F,
+    lines: &str,
+) -> Result<(), Fail> {
+    Ended::by_words(alloc, words, files)?.assert_read(rt, lines);
+    Ok(())
+}
+
+/// Compiles `t.inf`, and asserts its messages.
+pub fn read<F: Files>(
+    rt: &impl Abort,
+    alloc: Global,
+    files: &mut F,
+    lines: &str,
+) -> Result<(), Fail> {
+    read_by_words(rt, alloc, &["t.inf"], files, lines)
+}
+
+/// Compiles `t.inf`, and asserts that the file of this name could not be opened or read behind these messages.
+pub fn fail_to_read<F: Files>(
+    rt: &impl Abort,
+    alloc: Global,
+    files: &mut F,
+    name: &str,
+    lines: &str,
+) -> Result<(), Fail> {
+    Ended::of(alloc, files)?.assert_unread(rt, name, lines);
+    Ok(())
+}
+
+/// Compiles `t.inf` of a folder, and asserts its messages.
+pub fn read_folder(
+    rt: &impl Abort,
+    alloc: Global,
+    files: &[(&str, &[u8])],
+    lines: &str,
+) -> Result<(), Fail> {
+    let mut files = folder_of(alloc, files)?;
+    read(rt, alloc, &mut files, lines)
+}
+
 /// Compiles `t.inf` of each folder, and asserts its messages.
-pub fn assert_folders(
+pub fn read_folders(
     rt: &impl Abort,
     alloc: Global,
     folders: &[(&[(&str, &[u8])], &str)],
 ) -> Result<(), Fail> {
     for (files, lines) in folders {
-        let mut files = folder_of(alloc, *files)?;
-        Ended::of(alloc, &mut files)?.assert_read(rt, *lines);
+        read_folder(rt, alloc, *files, *lines)?;
     }
     Ok(())
 }

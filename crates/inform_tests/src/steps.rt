@@ -3,7 +3,7 @@ ghost use Rattle.std.specs.Prelude.{◌≡◌, ◌<◌, IfOk, OnOk, length, fals
 ghost use Rattle.inf_session.specs.Standing.{IsSet};
 
 use crate::running::assert_written;
-use inf_compile::Status;
+use inf_compile::{Fault, Status};
 use inf_session::compiled::Compiled;
 use inf_session::session::{Session, Step};
 use inf_session::setup::Setup;
@@ -75,8 +75,8 @@ impl<'a> Run<'a> {
         Ok(())
     }
 
-    /// Ends the session and closes its files. Asserts that there are errors, and these messages.
-    fn finish(self, rt: &impl Abort, lines: &str) -> Result<(), Fail>
+    /// Ends the session and closes its files. Answers what it came to, and all messages.
+    fn close(self) -> (Result<Compiled, Fault>, MemorySink)
         requires is_open { length self.session.open_files.outer < length self.files.openings.open_places }
     {
         let Run {
@@ -86,9 +86,36 @@ impl<'a> Run<'a> {
         } = self;
         let (open_files, compiled) = session.finish(b"260307", &mut messages);
         open_files.close(&mut files);
+        (compiled, messages)
+    }
+
+    /// Ends the session. Asserts that there are errors, and these messages.
+    fn finish(self, rt: &impl Abort, lines: &str) -> Result<(), Fail>
+        requires is_open { length self.session.open_files.outer < length self.files.openings.open_places }
+    {
+        let (compiled, messages) = self.close();
         assert_written(rt, messages.bytes(), lines.as_bytes());
         assert_refused(rt, compiled?);
         Ok(())
+    }
+
+    /// Ends the session as `finish` does, where messages are given.
+    fn end(self, rt: &impl Abort, last: Option<&str>) -> Result<(), Fail>
+        requires is_open { length self.session.open_files.outer < length self.files.openings.open_places }
+    {
+        let Some(lines) = last else {
+            let _ = self.close();
+            return Ok(());
+        };
+        self.finish(rt, lines)
+    }
+
+    /// Ends a session of which a step failed.
+    fn give_up(self, fail: Fail) -> Result<(), Fail>
+        requires is_open { length self.session.open_files.outer < length self.files.openings.open_places }
+    {
+        let _ = self.close();
+        Err(fail)
     }
 }
 
@@ -152,7 +179,7 @@ fn assert_held(rt: &impl Abort, held: [usize; 15], counts: [usize; 4]) {
 }
 
 /// All steps of the source.
-const STEPS: [Wanted; 12] = [
+static STEPS: [Wanted; 12] = [
     (Step::More, "abc\n", [3, 0, 8, 5]),
     (Step::More, "abc\n", [3, 2, 16, 7]),
     // a conditional with the side that it leaves out, and the directive behind this side
@@ -171,7 +198,7 @@ const STEPS: [Wanted; 12] = [
 ];
 
 /// All steps of the source of conditionals.
-const CHOICES: [Wanted; 10] = [
+static CHOICES: [Wanted; 10] = [
     (Step::More, "", [0, 1, 8, 5]),
     (Step::More, "", [0, 1, 8, 5]),
     (Step::More, "", [0, 1, 8, 5]),
@@ -186,7 +213,7 @@ const CHOICES: [Wanted; 10] = [
 ];
 
 /// All steps of a bad piece.
-const BAD_STEPS: [Wanted; 3] = [
+static BAD_STEPS: [Wanted; 3] = [
     (Step::More, FIVE, [0, 0, 0, 4]),
     (Step::More, FIVE, [0, 0, 0, 4]),
     (Step::End, FIVE, [0, 0, 0, 4]),
@@ -205,6 +232,11 @@ fn make_steps(rt: &impl Abort, run: &mut Run<'_>, wanted: &[Wanted]) -> Result<(
     Ok(())
 }
 
+/// The settings that a source has where no word names another number. Nothing is known here of their numbers.
+fn usual() -> Settings {
+    Settings::new()
+}
+
 /// Reads a source in these steps, and ends the session behind them with these messages, where they are given.
 fn play(
     rt: &impl Abort,
@@ -213,12 +245,11 @@ fn play(
     wanted: &[Wanted],
     last: Option<&str>,
 ) -> Result<(), Fail> {
-    let settings = Settings::new();
+    let settings = usual();
     let mut run = Run::begin(alloc, &settings, source)?;
-    make_steps(rt, &mut run, wanted)?;
-    match last {
-        Some(lines) => run.finish(rt, lines),
-        None => Ok(()),
+    match make_steps(rt, &mut run, wanted) {
+        Ok(()) => run.end(rt, last),
+        Err(fail) => run.give_up(fail),
     }
 }
 
@@ -245,13 +276,29 @@ fn set(rt: &impl Abort, settings: &mut Settings, name: &[u8], number: u32) {
     assert!(rt; settings.set(name, number).is_ok());
 }
 
+/// Reads a source by these settings, which are too small for it. Asserts that its first step is a fatal error, and all messages.
+fn refuse(
+    rt: &impl Abort,
+    alloc: Global,
+    settings: &Settings,
+    source: &[u8],
+    lines: &str,
+) -> Result<(), Fail> {
+    let mut run = Run::begin(alloc, settings, source)?;
+    match run.go_on() {
+        Ok(step) => {
+            assert!(rt; step == Step::Fatal);
+            run.finish(rt, lines)
+        }
+        Err(fail) => run.give_up(fail),
+    }
+}
+
 /// Where the references in tables alone would pass their setting, nothing is read.
 #[test]
 fn references_in_tables_are_told_first(rt: HostRuntime) -> Result<(), Fail> {
-    let mut settings = Settings::new();
+    let mut settings = usual();
     set(&rt, &mut settings, b"MAX_REFS", 3);
-    let mut run = Run::begin(rt.alloc(), &settings, b"\n\n5;")?;
-    let step = run.go_on()?;
-    assert!(rt; step == Step::Fatal);
-    run.finish(&rt, "t.inf(1): Fatal error: MAX_REFS is exceeded\n")
+    let lines = "t.inf(1): Fatal error: MAX_REFS is exceeded\n";
+    refuse(&rt, rt.alloc(), &settings, b"\n\n5;", lines)
 }

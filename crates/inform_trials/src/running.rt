@@ -10,6 +10,18 @@ use std::test::Fail;
 /// The date of the stories.
 const DATE: [u8; 6] = *b"260307";
 
+/// Compiles what these words name.
+pub fn run_words<F: Files, M: Sink, S: Sink>(
+    alloc: Global,
+    words: &[&str],
+    files: &mut F,
+    messages: &mut M,
+    story: &mut S,
+) -> Result<Result<Status, Fault>, Fail> {
+    let options = CommandLine::read(words)?;
+    Ok(compile(alloc, &options, DATE, files, messages, story))
+}
+
 /// Compiles `t.inf`.
 pub fn run<F: Files, M: Sink, S: Sink>(
     alloc: Global,
@@ -17,6 +29,5 @@ pub fn run<F: Files, M: Sink, S: Sink>(
     messages: &mut M,
     story: &mut S,
 ) -> Result<Result<Status, Fault>, Fail> {
-    let options = CommandLine::read(&["t.inf"])?;
-    Ok(compile(alloc, &options, DATE, files, messages, story))
+    run_words(alloc, &["t.inf"], files, messages, story)
 }

@@ -5,6 +5,9 @@ use Rattle.inf_machine.proofs.machine.act.Given as goal
 
 abbrev pub invariant-loop-part : goal.invariant-loop-part
 invariant-loop-part g l = record {
-  actions : l.actions.items ++ acts_of (reverse l.part-iterator.iter.rest.now) ≡ l.initial.actions.items ++ acts_of (reverse l.row);
+  actions : l.actions.items ++ acts_of (reverse l.left) ≡ l.initial.actions.items ++ acts_of (reverse l.row);
   before : take (length l.initial.actions.items) l.actions.items ≡ l.initial.actions.items;
 }
+
+abbrev pub decreases-loop-part : goal.decreases-loop-part
+decreases-loop-part g l = length l.left

@@ -1,7 +1,10 @@
 -- What the whole stack answers is what its rest answers.
-use Rattle.std.proofs.Common.{◌≡◌, reverse}
+use Rattle.std.proofs.Common.{◌≡◌, reverse, length}
 use Rattle.inf_machine.specs.Machine.{fits}
 use Rattle.inf_machine.proofs.reading.fits.Given as goal
 
 abbrev pub invariant-loop-symbol : goal.invariant-loop-symbol
-invariant-loop-symbol g l = fits g.T.Table.grammar g.T.Table.known l.atom (reverse l.stack) ≡ fits g.T.Table.grammar g.T.Table.known l.atom (reverse l.symbol-iterator.iter.rest.now)
+invariant-loop-symbol g l = fits g.T.Table.grammar g.T.Table.known l.atom (reverse l.stack) ≡ fits g.T.Table.grammar g.T.Table.known l.atom (reverse l.left)
+
+abbrev pub decreases-loop-symbol : goal.decreases-loop-symbol
+decreases-loop-symbol g l = length l.left

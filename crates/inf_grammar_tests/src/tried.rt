@@ -1,0 +1,47 @@
+//! Bad tokens, tried at each place of a piece.
+use crate::reader::Reader;
+use inf_grammar::PIECE;
+use std::alloc::{AllocError, Global};
+
+/// What is tried at each place where it does not fit.
+const TRIED: &str = "] ) : ; meta";
+
+/// Whether a reader refuses each of those that do not fit another one, which has taken the same.
+fn refuses(reader: &mut Reader, other: &Reader) -> Result<bool, AllocError> {
+    for spelling in TRIED.split(' ') {
+        if !other.fits(spelling) && reader.read(spelling)? {
+            return Ok(false);
+        }
+    }
+    Ok(true)
+}
+
+/// Whether both take a token, each in its own way, and have the same actions behind it.
+fn both_take(reader: &mut Reader, other: &mut Reader, spelling: &str) -> Result<bool, AllocError> {
+    let is_taken = other.take(spelling)? && reader.read(spelling)?;
+    Ok(is_taken && reader.actions.as_slice() == other.actions.as_slice())
+}
+
+/// Reads a piece, with bad tokens before each of its own. Tells whether they changed anything.
+fn told(reader: &mut Reader, other: &mut Reader, piece: &str) -> Result<&'static str, AllocError> {
+    for spelling in piece.split(' ') {
+        if !refuses(reader, other)? {
+            return Ok("a bad token is taken");
+        }
+        if !both_take(reader, other, spelling)? {
+            return Ok("changed");
+        }
+    }
+    Ok(if reader.machine.is_done() {
+        "nothing changed, done"
+    } else {
+        "nothing changed, more is needed"
+    })
+}
+
+/// What is told of a piece that is read from its beginning.
+pub(crate) fn tried(alloc: Global, piece: &str) -> Result<String, AllocError> {
+    let mut reader = Reader::new(alloc, PIECE)?;
+    let mut other = Reader::new(alloc, PIECE)?;
+    String::from_str(alloc, told(&mut reader, &mut other, piece)?)
+}
