@@ -1,10 +1,10 @@
-ghost use Rattle.std.specs.Prelude.{◌≡◌, ◌+◌, ◌^◌, ◌<◌, min, length, take, drop, unwrap_or, []};
+ghost use Rattle.std.specs.Prelude.{◌≡◌, ◌+◌, ◌^◌, ◌<◌, ◌++◌, ◌∷◌, min, length, take, drop, unwrap_or, [], false, OnErr, OnOk};
 ghost use Rattle.std.specs.String.{string_bytes};
 ghost use Rattle.inf_token.specs.MemoryFiles.{sources_of, kept_in, IsOpening};
 
 use crate::files::{Files, OpenFault, ReadFault};
 use crate::given_bytes::GivenBytes;
-use std::alloc::Global;
+use std::alloc::{AllocError, Global};
 use std::collections::BTreeMap;
 use std::marker::Model;
 
@@ -89,6 +89,28 @@ impl MemoryFiles {
     }
 }
 
+/// Puts a source that was opened just now behind others, as the innermost. Where memory runs out, all stays as it was.
+fn add_opened(
+    opened: &mut Vec<Opened>,
+    open_places: &mut Vec<usize>,
+    name: String,
+) -> Result<(), AllocError>
+    ensures opened { OnOk result (opened.new.items
+        ≡ opened.old.items ++ record { name = name; given = 0; is_read_out = false } ∷ []) }
+    ensures open_places { OnOk result (open_places.new.items ≡ open_places.old.items ++ length opened.old.items ∷ []) }
+    ensures err { OnErr result ((opened.new.items ≡ opened.old.items) × (open_places.new.items ≡ open_places.old.items)) }
+{
+    open_places.reserve(1)?;
+    let place = opened.len();
+    opened.push(Opened {
+        name,
+        given: 0,
+        is_read_out: false,
+    })?;
+    open_places.push(place)?;
+    Ok(())
+}
+
 /// Copies as many bytes as both sides have to the front of `to`, and says how many.
 fn copy_front(to: &mut [u8], from: &[u8]) -> usize
     ensures count { result ≡ min (length to.old) (length from.now) }
@@ -120,14 +142,7 @@ impl Files for MemoryFiles {
             return Err(OpenFault::Absent);
         }
         let name = String::from_str(self.alloc, name)?;
-        self.open_places.reserve(1)?;
-        let place = self.opened.len();
-        self.opened.push(Opened {
-            name,
-            given: 0,
-            is_read_out: false,
-        })?;
-        self.open_places.push(place)?;
+        add_opened(&mut self.opened, &mut self.open_places, name)?;
         Ok(())
     }
 

@@ -14,16 +14,14 @@ returns-then-not-contains_key-clause-opens c honest = (
 pub invariant_of-self-2 : goal.invariant_of-self-2
 invariant_of-self-2 c =
     let there = source_present c.self.inside.sources c.args.name.now (sym c.contains_key.ensures ∙ c.if-not-contains_key.false) in
-    let len : c.len-place.result ≡ length c.self.inside.opened.items = c.len-place.ensures ∙ c.self.inside.opened.ok.0 in
-    rw (c.in_ok-push-2.ensures.items, c.in_ok-push.ensures.items, c.in_ok-reserve.ensures.items, len)
+    rw (c.in_ok-add_opened.ensures.opened, c.in_ok-add_opened.ensures.open_places)
     (AreOpenings-opened (sources_of (kept_in c.self.inside.sources)) c.self.inside.opened.items c.self.inside.open_places.items _ c.self.invariant
     (record { whole = there.0; is_source = rw c.in_ok-name.ensures.ok there.1; within = omega arith }))
 
 pub returns-clause-opens : goal.returns-clause-opens
 returns-clause-opens c honest =
-    let there = source_present c.self.inside.sources c.args.name.now (sym c.contains_key.ensures ∙ c.if-not-contains_key.false) in
-    let len : c.len-place.result ≡ length c.self.inside.opened.items = c.len-place.ensures ∙ c.self.inside.opened.ok.0 in (
+    let there = source_present c.self.inside.sources c.args.name.now (sym c.contains_key.ensures ∙ c.if-not-contains_key.false) in (
       ap is_some (ap (λ (s : MemoryState). sources_of s.kept c.args.name.now) (sym c.self.view_is) ∙ there.1),
-      rw (← c.self.view_is, c.in_ok-push-2.ensures.items, c.in_ok-push.ensures.items, c.in_ok-reserve.ensures.items, len, ← c.in_ok-name.ensures.ok)
+      rw (← c.self.view_is, c.in_ok-add_opened.ensures.opened, c.in_ok-add_opened.ensures.open_places, ← c.in_ok-name.ensures.ok)
           (openings_of-opened (sources_of (kept_in c.self.inside.sources)) c.self.inside.opened.items c.self.inside.open_places.items _ refl refl),
     )
