@@ -19,6 +19,7 @@ proved, so no edit is refused for another's sake. What a proof is told where a n
 The last line says how many passed, which are those that were refused, and the status is 0 where all did.
 """
 import concurrent.futures
+import contextlib
 import dataclasses
 import hashlib
 import json
@@ -26,6 +27,7 @@ import os
 import pathlib
 import re
 import shutil
+import signal
 import subprocess
 import sys
 import tempfile
@@ -204,6 +206,15 @@ def words(crate, every, proved, jobs):
     return [*found, "--links", f"{crate.name}=", "--jobs", str(jobs)]
 
 
+def said_by(command, folder):
+    """Returns the lines that a command prints, which is called once more where it was killed, most likely for memory."""
+    for _ in range(2):
+        ran = subprocess.run(command, cwd=folder, stdout=subprocess.PIPE, stderr=subprocess.STDOUT, text=True, errors="replace")
+        if ran.returncode != -signal.SIGKILL:
+            break
+    return ran.stdout.splitlines()
+
+
 def check(command, crate, edits, room):
     """Returns what the prover says of a crate with these edits; what it finds is kept in room for the next of its checks."""
     copy = room / "crate"
@@ -212,8 +223,7 @@ def check(command, crate, edits, room):
         if (crate.folder / part).is_dir():
             shutil.copytree(crate.folder / part, copy / part)
     apply(edits, copy)
-    ran = subprocess.run([*command, "--incremental", str(room / "kept")], cwd=copy, stdout=subprocess.PIPE, stderr=subprocess.STDOUT, text=True, errors="replace")
-    lines = ran.stdout.splitlines()
+    lines = said_by([*command, "--incremental", str(room / "kept")], copy)
     if not any(it.startswith("logic=") for it in lines[-3:]):
         told = next((it for it in lines if "error" in it), lines[-1] if lines else "nothing")
         raise Unfit(f"{crate.name}: no verdict with {', '.join(it.name for it in edits)}: {told[:200]}")
@@ -267,7 +277,7 @@ def judge_one(name, verdict, lines):
         return False, f"NOT REFUSED: {name} is still proved"
     if "it calls" in verdict:
         return None
-    return False, f"NOT REFUSED for what it turns: {name} is {verdict}, only because a proof names what is gone"
+    return False, f"NOT REFUSED for what it turns, but maybe since a proof names what is gone: {name} is {verdict}"
 
 
 def judge_alone(lines):
@@ -309,7 +319,7 @@ def sum_of(crate, every):
 
 def place_of(sum):
     """Returns the file that holds what was found for a sum."""
-    cache = os.environ.get("XDG_CACHE_HOME") or pathlib.Path.home() / ".cache"
+    cache = os.environ.get("XDG_CACHE_HOME") or os.path.expanduser("~/.cache")
     return pathlib.Path(cache) / "inform" / "edits" / sum
 
 
@@ -322,26 +332,29 @@ def known(place):
 
 
 def keep(found, place):
-    """Keeps what was found of edits that were all refused; it is written apart and renamed, so that no run reads half of it."""
+    """Keeps what was found of edits that were all refused, where a file can be written; it is written apart and renamed, so that no run reads half of it."""
     if all(is_refused for is_refused, _ in found.values()):
-        place.parent.mkdir(parents=True, exist_ok=True)
-        with tempfile.NamedTemporaryFile("w", dir=place.parent, delete=False) as file:
-            json.dump(found, file)
-        os.replace(file.name, place)
+        with contextlib.suppress(OSError):
+            place.parent.mkdir(parents=True, exist_ok=True)
+            with tempfile.NamedTemporaryFile("w", dir=place.parent, delete=False) as file:
+                json.dump(found, file)
+            os.replace(file.name, place)
 
 
 def tried(crate, every, proved, jobs):
     """Returns the lines that tell what became of the edits of a crate, and how many passed and failed."""
-    place = place_of(sum_of(crate, every))
-    found, by = known(place), " (found by an earlier run of the same files on this machine)"
+    place, begun = place_of(sum_of(crate, every)), time.monotonic()
+    found, how = known(place), "as an earlier run of the same files on this machine found"
     if not found:
         try:
-            found, by = try_crate(crate, words(crate, every, proved, jobs)), ""
+            found = try_crate(crate, words(crate, every, proved, jobs))
         except Unfit as why:
             return [f"edits: {why}"], 0, 1
+        how = f"in {time.monotonic() - begun:.0f} s"
         keep(found, place)
     passed = sum(1 for is_refused, _ in found.values() if is_refused)
-    return [f"edits: {crate.name}/{name}: {text}{by}" for name, (_, text) in sorted(found.items())], passed, len(found) - passed
+    lines = [f"edits: {crate.name}/{name}: {text}" for name, (_, text) in sorted(found.items())]
+    return [*lines, f"edits: {crate.name}: {passed} of {len(found)} refused, {how}"], passed, len(found) - passed
 
 
 # The order of the crates.
