@@ -1,4 +1,4 @@
-pub mod Holes
+pub mod Fixups
 pub mod Moves
 pub mod Pages
 pub mod Words

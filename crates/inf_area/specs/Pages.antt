@@ -15,4 +15,4 @@ AreWhole pages = AllByRecursion (λ page. length page.value ≡ 1024) pages
 pub record IsPaged (pages : List (Box (List ℕ))) (len : ℕ) : Type 0 where
   pub whole : AreWhole pages
   pub within : len ≤ 1024 * length pages
-  pub counted : 1024 * length pages < 2 ^ 64
+  pub counted : 1024 * length pages < 2 ^ 63

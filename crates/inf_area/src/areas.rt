@@ -1,5 +1,5 @@
 //! The areas of a story: lists of bytes that grow at their end and are patched in place.
-ghost use Rattle.std.specs.Prelude.{◌≡◌, ◌+◌, ◌-◌, ◌<◌, ◌≤◌, ℕ, List, [], ◌∷◌, ◌++◌, length, take, drop, slice_index, slice_set, OnOk, OnErr};
+ghost use Rattle.std.specs.Prelude.{◌≡◌, ◌+◌, ◌-◌, ◌<◌, ◌≤◌, ◌^◌, ℕ, List, [], ◌∷◌, ◌++◌, length, take, drop, slice_index, slice_set, OnOk, OnErr};
 ghost use Rattle.inf_area.specs.Moves.{moved};
 ghost use Rattle.inf_area.specs.Words.{with_word};
 
@@ -13,9 +13,10 @@ pub trait Area {
     /// The bytes, in order.
     ghost bytes: { Self → List ℕ };
 
-    /// The number of bytes.
+    /// The number of bytes, which is under 2 ^ 63 as that of any list.
     fn len(&self) -> usize
-        ensures { result ≡ length (bytes self.now) };
+        ensures value { result ≡ length (bytes self.now) }
+        ensures small { result < 2 ^ 63 };
 
     /// The byte at the place `at`, which lies within.
     fn byte(&self, at: usize) -> u8

@@ -1,15 +1,16 @@
-//! The areas of a story under construction, and the references that are filled once the story is
-//! laid out.
+//! The areas of a story under construction, and the numbers in them that are known once the story is laid out.
 //!
 //! An `Area` is a list of bytes. `FlatArea` has them in one piece, `PagedArea` in pages, so that it
-//! never moves what it holds when it grows. `Refs` lists the holes: two bytes of an area each, which
-//! a number takes that is known later.
+//! never moves what it holds when it grows. `Refs` lists the fixups: two bytes of an area each, in whose place
+//! the number of a target is put.
 #![tactic(auto)]
 
 mod areas;
+mod fixups;
 mod pages;
-mod references;
+mod targets;
 
 pub use areas::{Area, FlatArea};
+pub use fixups::{AddFault, Fixup, Refs};
 pub use pages::PagedArea;
-pub use references::{AddFault, AreaName, Hole, Reference, ReferenceKind, Refs};
+pub use targets::{AreaName, SystemConstant, Target, Value};

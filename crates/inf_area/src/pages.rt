@@ -71,10 +71,10 @@ fn add_page(alloc: Global, pages: &mut Vec<Page>) -> Result<(), AllocError>
     ensures bytes { OnOk result ((n : ℕ) → n ≤ 1024 * length pages.old.items
         → take n (page_bytes pages.new.items) ≡ take n (page_bytes pages.old.items)) }
     ensures whole { OnOk result (AreWhole pages.new.items) }
-    ensures counted { OnOk result (1024 * length pages.new.items < 2 ^ 64) }
+    ensures counted { OnOk result (1024 * length pages.new.items < 2 ^ 63) }
     ensures err { OnErr result (pages.new.items ≡ pages.old.items) }
 {
-    if pages.len() >= usize::MAX / PAGE_LEN {
+    if pages.len() >= isize::MAX as usize / PAGE_LEN {
         return Err(AllocError);
     }
     let page = Box::new(alloc, [0; PAGE_LEN])?;

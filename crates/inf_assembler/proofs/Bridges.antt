@@ -5,8 +5,8 @@ use Rattle.inf_opcode.specs.declared.cells.Kept.{Kept}
 use Rattle.inf_opcode.specs.declared.cells.Special.{Special}
 use Rattle.inf_opcode.specs.declared.cells.Special.TheVariants.{Marks, Branches, Jumps, Refers}
 use Rattle.inf_opcode.specs.Cells.{Cell, Plain, Of, special_size, special_bytes, long_bytes, kept_from}
-use Rattle.inf_assembler.specs.Places.{Places, with_some, joined, is_short_to, size_at, long_place, place_from, closed_special, closed_bytes, closed_holes, hole_at, first_of, marks, unplaced, used_by, missing, marked_again, twice_behind}
-use Rattle.inf_assembler.specs.Closing.{AreInOrder, nowhere, special_saving, kept_place, kept_missing, kept_again, kept_twice, kept_holes, placed_bytes, with_bytes, squeezed}
+use Rattle.inf_assembler.specs.Places.{Places, with_some, joined, is_short_to, size_at, long_place, place_from, closed_special, closed_bytes, closed_fixups, fixup_at, first_of, marks, unplaced, used_by, missing, marked_again, twice_behind}
+use Rattle.inf_assembler.specs.Closing.{AreInOrder, nowhere, special_saving, kept_place, kept_missing, kept_again, kept_twice, kept_fixups, placed_bytes, with_bytes, squeezed}
 use Rattle.inf_opcode.proofs.Growing.{length-special}
 use Rattle.inf_assembler.proofs.Passes.{saving_nowhere, closed_size, size_le, kept_place-push}
 use Rattle.inf_assembler.proofs.Placing.{length-placed, take-placed_all, drop-placed}
@@ -27,7 +27,7 @@ pub size_saving : (long : Places) (old : ℕ) (what : Special) → special_savin
 size_saving long old (Marks label) = refl
 size_saving long old (Branches branch) = cond_saving (is_short_to long old branch.target)
 size_saving long old (Jumps label) = refl
-size_saving long old (Refers reference) = refl
+size_saving long old (Refers target) = refl
 
 -- the places of labels
 pub place_bridge : (long : Places) (saved old new : ℕ) (cells : List Cell) (n : ℕ) → old ≡ new + saved → kept_place long saved (kept_from old cells) n ≡ place_from long old new cells n
@@ -48,14 +48,14 @@ long_bridge old new ((Of what) ∷ cells) n e =
     (ap (λ k. place_from nowhere (old + special_size what) (new + k) cells n) size ∙ long_bridge (old + special_size what) (new + special_size what) cells n (omega arith))
 
 -- the references
-pub holes_bridge : (long : Places) (saved old new : ℕ) (cells : List Cell) → old ≡ new + saved → kept_holes long saved (kept_from old cells) ≡ closed_holes long old new cells
-holes_bridge long saved old new [] e = refl
-holes_bridge long saved old new ((Plain byte) ∷ cells) e = holes_bridge long saved (old + 1) (new + 1) cells (omega arith)
-holes_bridge long saved old new ((Of what) ∷ cells) e =
+pub fixups_bridge : (long : Places) (saved old new : ℕ) (cells : List Cell) → old ≡ new + saved → kept_fixups long saved (kept_from old cells) ≡ closed_fixups long old new cells
+fixups_bridge long saved old new [] e = refl
+fixups_bridge long saved old new ((Plain byte) ∷ cells) e = fixups_bridge long saved (old + 1) (new + 1) cells (omega arith)
+fixups_bridge long saved old new ((Of what) ∷ cells) e =
     let here : old - saved ≡ new = omega arith in
-    ap (λ p. hole_at p what ++ kept_holes long (saved + special_saving long old what) (kept_from (old + special_size what) cells)) here
-    ∙ ap (λ hs. hole_at new what ++ hs)
-    (holes_bridge long (saved + special_saving long old what) (old + special_size what) (new + size_at long old what) cells (omega (arith, size_saving long old what)))
+    ap (λ p. fixup_at p what ++ kept_fixups long (saved + special_saving long old what) (kept_from (old + special_size what) cells)) here
+    ∙ ap (λ hs. fixup_at new what ++ hs)
+    (fixups_bridge long (saved + special_saving long old what) (old + special_size what) (new + size_at long old what) cells (omega (arith, size_saving long old what)))
 
 -- the labels that are missing
 pub missing_bridge : (places : Places) (place : ℕ) (cells : List Cell) → kept_missing places (kept_from place cells) ≡ missing places cells
@@ -177,7 +177,7 @@ again_same : (kept : List Kept) (before : List Cell) (what : Special) → ((n : 
 again_same kept before (Marks label) same = ap (λ b. cond b (Some label) None) (same label.number)
 again_same kept before (Branches branch) same = refl
 again_same kept before (Jumps label) same = refl
-again_same kept before (Refers reference) same = refl
+again_same kept before (Refers target) same = refl
 
 pub twice_bridge : (kept : List Kept) (before cells : List Cell) (place : ℕ) → ((n : ℕ) → is_some (kept_place nowhere 0 kept n) ≡ is_some (long_place 0 before n)) → kept_twice kept (kept_from place cells) ≡ twice_behind before cells
 twice_bridge kept before [] place same = refl

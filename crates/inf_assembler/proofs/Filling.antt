@@ -1,31 +1,31 @@
 -- What passes a limit.
 use Rattle.std.proofs.Common.{◌≡◌, ℕ, ◌+◌, ◌≤◌, Bool, true, false, ltb, cond, List, length, Option, Some, None, refl, ◌∙◌, ap, arith}
 use Rattle.std.proofs.lemmas.Bool.Decides.{nat_tests}
-use Rattle.inf_area.specs.Holes.{Holes}
+use Rattle.inf_area.specs.Fixups.{Fixups}
 use Rattle.inf_opcode.specs.declared.writing.Counts.{Counts}
-use Rattle.inf_opcode.specs.Cells.{plain, long_bytes, label_count, hole_count}
+use Rattle.inf_opcode.specs.Cells.{plain, long_bytes, label_count, fixup_count}
 use Rattle.inf_opcode.specs.Counts.{counts_of}
 use Rattle.inf_opcode.specs.Instructions.{Parts, front_cells, instruction_cells}
 use Rattle.inf_assembler.specs.Routines.{State, full_by, full_with}
 use Rattle.inf_opcode.proofs.Growing.{long-plain}
-use Rattle.inf_opcode.proofs.Counting.{length-long, labels-append, holes-append, labels-plain, holes-plain}
+use Rattle.inf_opcode.proofs.Counting.{length-long, labels-append, fixups-append, labels-plain, fixups-plain}
 
 -- an instruction's counts, with its text
 pub labels_is : (parts : Parts) (more : Counts) → more ≡ counts_of (front_cells parts) → more.labels ≡ label_count (instruction_cells parts)
 labels_is parts more e = omega (arith, ap (λ (x : Counts). x.labels) e, labels-append (front_cells parts) (plain parts.text), labels-plain parts.text)
 
-pub holes_are : (parts : Parts) (more : Counts) → more ≡ counts_of (front_cells parts) → more.holes ≡ hole_count (instruction_cells parts)
-holes_are parts more e = omega (arith, ap (λ (x : Counts). x.holes) e, holes-append (front_cells parts) (plain parts.text), holes-plain parts.text)
+pub fixups_are : (parts : Parts) (more : Counts) → more ≡ counts_of (front_cells parts) → more.fixups ≡ fixup_count (instruction_cells parts)
+fixups_are parts more e = omega (arith, ap (λ (x : Counts). x.fixups) e, fixups-append (front_cells parts) (plain parts.text), fixups-plain parts.text)
 
-pub full_is : (parts : Parts) (state : State) (bytes : List ℕ) (refs : Holes) (len text : ℕ) (more : Counts) → more ≡ counts_of (front_cells parts) → text ≡ length parts.text → len ≡ length bytes
-    → full_by more.labels (more.bytes + text) more.holes state len refs ≡ full_with (instruction_cells parts) state bytes refs
+pub full_is : (parts : Parts) (state : State) (bytes : List ℕ) (refs : Fixups) (len text : ℕ) (more : Counts) → more ≡ counts_of (front_cells parts) → text ≡ length parts.text → len ≡ length bytes
+    → full_by more.labels (more.bytes + text) more.fixups state len refs ≡ full_with (instruction_cells parts) state bytes refs
 full_is parts state bytes refs len text more e f at =
     let size : more.bytes + text ≡ length (long_bytes (instruction_cells parts)) =
     omega (arith, ap (λ (x : Counts). x.bytes) e, f, length-long (front_cells parts) (plain parts.text), ap length (long-plain parts.text)) in
-    ap (λ k. full_by k (more.bytes + text) more.holes state len refs) (labels_is parts more e)
-    ∙ ap (λ k. full_by (label_count (instruction_cells parts)) k more.holes state len refs) size
-    ∙ ap (λ k. full_by (label_count (instruction_cells parts)) (length (long_bytes (instruction_cells parts))) k state len refs) (holes_are parts more e)
-    ∙ ap (λ k. full_by (label_count (instruction_cells parts)) (length (long_bytes (instruction_cells parts))) (hole_count (instruction_cells parts)) state k refs) at
+    ap (λ k. full_by k (more.bytes + text) more.fixups state len refs) (labels_is parts more e)
+    ∙ ap (λ k. full_by (label_count (instruction_cells parts)) k more.fixups state len refs) size
+    ∙ ap (λ k. full_by (label_count (instruction_cells parts)) (length (long_bytes (instruction_cells parts))) k state len refs) (fixups_are parts more e)
+    ∙ ap (λ k. full_by (label_count (instruction_cells parts)) (length (long_bytes (instruction_cells parts))) (fixup_count (instruction_cells parts)) state k refs) at
 
 cond_none : {A : Type 0} (b : Bool) (x : A) (o : Option A) → cond b (Some x) o ≡ None → (b ≡ false) × (o ≡ None)
 cond_none true x o e = cc
@@ -35,10 +35,10 @@ not_below : (m n : ℕ) → ltb m n ≡ false → n ≤ m
 not_below m n e = grind (arith, nat_tests)
 
 -- where none is passed
-pub room_is : (labels bytes holes len : ℕ) (state : State) (refs : Holes) → full_by labels bytes holes state len refs ≡ None
-    → (state.labels + labels ≤ state.limits.labels) × (length refs.list + state.holes + holes ≤ refs.limit)
-room_is labels bytes holes len state refs e =
+pub room_is : (labels bytes fixups len : ℕ) (state : State) (refs : Fixups) → full_by labels bytes fixups state len refs ≡ None
+    → (state.labels + labels ≤ state.limits.labels) × (length refs.list + state.fixups + fixups ≤ refs.limit)
+room_is labels bytes fixups len state refs e =
     let first = cond_none (ltb state.limits.labels (state.labels + labels)) _ _ e in
     let second = cond_none (ltb state.limits.code (len + bytes)) _ _ first.1 in
-    let third = cond_none (ltb refs.limit (length refs.list + state.holes + holes)) _ _ second.1 in
-    (not_below state.limits.labels (state.labels + labels) first.0, not_below refs.limit (length refs.list + state.holes + holes) third.0)
+    let third = cond_none (ltb refs.limit (length refs.list + state.fixups + fixups)) _ _ second.1 in
+    (not_below state.limits.labels (state.labels + labels) first.0, not_below refs.limit (length refs.list + state.fixups + fixups) third.0)

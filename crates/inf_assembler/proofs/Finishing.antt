@@ -2,7 +2,7 @@
 use Rattle.std.specs.Prelude.{Result, Ok, Err, OnOk}
 use Rattle.std.proofs.Common.{◌≡◌, ℕ, ◌+◌, List, [], ◌∷◌, ◌++◌, length, Option, Some, None, refl, sym, ◌∙◌, ap, arith, append_assoc, length-append}
 use mathlib.Core.Path.{fun_ext}
-use Rattle.inf_area.specs.Holes.{Holes}
+use Rattle.inf_area.specs.Fixups.{Fixups}
 use Rattle.inf_opcode.specs.declared.cells.Kept.{Kept}
 use Rattle.inf_opcode.specs.declared.cells.Special.{Special}
 use Rattle.inf_opcode.specs.declared.cells.Special.TheVariants.{Marks, Branches, Jumps, Refers}
@@ -10,29 +10,29 @@ use Rattle.inf_opcode.specs.declared.instructions.Label.{Label}
 use Rattle.inf_assembler.specs.declared.routines.CloseFault.TheVariants as close_fault
 use Rattle.inf_assembler.specs.declared.routines.Limits.{Limits}
 use Rattle.inf_assembler.specs.declared.routines.RoutineKind.{RoutineKind}
-use Rattle.inf_opcode.specs.Cells.{Cell, Plain, Of, special_size, long_bytes, hole_count, kept_from}
-use Rattle.inf_assembler.specs.Places.{Places, with_some, size_at, hole_at, closed_holes, missing, twice_behind}
-use Rattle.inf_assembler.specs.Closing.{found, nowhere, kept_place, kept_missing, kept_twice, kept_holes, squeezed, AreInOrder}
-use Rattle.inf_assembler.specs.Routines.{Contents, long_places, places, body_bytes, routine_holes, full_fault, body_fault, twice_fault, missing_fault, fault_of}
-use Rattle.inf_assembler.proofs.Bridges.{order_kept, place_bridge, long_bridge, holes_bridge, missing_bridge, twice_bridge, squeezed_bridge}
+use Rattle.inf_opcode.specs.Cells.{Cell, Plain, Of, special_size, long_bytes, fixup_count, kept_from}
+use Rattle.inf_assembler.specs.Places.{Places, with_some, size_at, fixup_at, closed_fixups, missing, twice_behind}
+use Rattle.inf_assembler.specs.Closing.{found, nowhere, kept_place, kept_missing, kept_twice, kept_fixups, squeezed, AreInOrder}
+use Rattle.inf_assembler.specs.Routines.{Contents, long_places, places, body_bytes, routine_fixups, full_fault, body_fault, twice_fault, missing_fault, fault_of}
+use Rattle.inf_assembler.proofs.Bridges.{order_kept, place_bridge, long_bridge, fixups_bridge, missing_bridge, twice_bridge, squeezed_bridge}
 
 pub none_of : {A : Type 0} (o : Option A) → ((x : A) → o ≡ Some x → ⊥) → o ≡ None
 none_of None h = refl
 none_of (Some x) h = absurd (h x refl)
 
-length-hole : (place : ℕ) (what : Special) (cells : List Cell) → length (hole_at place what) + hole_count cells ≡ hole_count (Of what ∷ cells)
-length-hole place (Marks label) cells = omega arith
-length-hole place (Branches branch) cells = omega arith
-length-hole place (Jumps label) cells = omega arith
-length-hole place (Refers reference) cells = omega arith
+length-fixup : (place : ℕ) (what : Special) (cells : List Cell) → length (fixup_at place what) + fixup_count cells ≡ fixup_count (Of what ∷ cells)
+length-fixup place (Marks label) cells = omega arith
+length-fixup place (Branches branch) cells = omega arith
+length-fixup place (Jumps label) cells = omega arith
+length-fixup place (Refers target) cells = omega arith
 
-pub length-holes : (long : Places) (old new : ℕ) (cells : List Cell) → length (closed_holes long old new cells) ≡ hole_count cells
-length-holes long old new [] = refl
-length-holes long old new ((Plain byte) ∷ cells) = length-holes long (old + 1) (new + 1) cells
-length-holes long old new ((Of what) ∷ cells) =
-    length-append (hole_at new what) (closed_holes long (old + special_size what) (new + size_at long old what) cells)
-    ∙ ap (λ k. length (hole_at new what) + k) (length-holes long (old + special_size what) (new + size_at long old what) cells)
-    ∙ length-hole new what cells
+pub length-fixups : (long : Places) (old new : ℕ) (cells : List Cell) → length (closed_fixups long old new cells) ≡ fixup_count cells
+length-fixups long old new [] = refl
+length-fixups long old new ((Plain byte) ∷ cells) = length-fixups long (old + 1) (new + 1) cells
+length-fixups long old new ((Of what) ∷ cells) =
+    length-append (fixup_at new what) (closed_fixups long (old + special_size what) (new + size_at long old what) cells)
+    ∙ ap (λ k. length (fixup_at new what) + k) (length-fixups long (old + special_size what) (new + size_at long old what) cells)
+    ∙ length-fixup new what cells
 
 module _ (start : ℕ) (contents : Contents) (kept : List Kept) (is : kept ≡ kept_from (start + 1) contents.cells) where
   pub long_is : (long : List (Option ℕ)) → ((n : ℕ) → found long n ≡ kept_place nowhere 0 kept n) → found long ≡ long_places start contents
@@ -50,8 +50,8 @@ module _ (start : ℕ) (contents : Contents) (kept : List Kept) (is : kept ≡ k
   pub twice_is : kept_twice [] kept ≡ twice_behind [] contents.cells
   twice_is = ap (kept_twice []) is ∙ twice_bridge [] [] contents.cells (start + 1) (λ n. refl)
 
-  pub holes_is : (long : List (Option ℕ)) → found long ≡ long_places start contents → kept_holes (found long) 0 kept ≡ routine_holes start contents
-  holes_is long e = ap (λ f. kept_holes f 0 kept) e ∙ ap (kept_holes (long_places start contents) 0) is ∙ holes_bridge (long_places start contents) 0 (start + 1) (start + 1) contents.cells (omega arith)
+  pub fixups_is : (long : List (Option ℕ)) → found long ≡ long_places start contents → kept_fixups (found long) 0 kept ≡ routine_fixups start contents
+  fixups_is long e = ap (λ f. kept_fixups f 0 kept) e ∙ ap (kept_fixups (long_places start contents) 0) is ∙ fixups_bridge (long_places start contents) 0 (start + 1) (start + 1) contents.cells (omega arith)
 
   pub order_is : (bytes front : List ℕ) → start ≡ length front → bytes ≡ front ++ contents.locals ∷ long_bytes contents.cells → AreInOrder (start + 1) kept (length bytes)
   order_is bytes front at e =
@@ -71,7 +71,7 @@ module _ (start : ℕ) (contents : Contents) (kept : List Kept) (is : kept ≡ k
       ∙ squeezed_bridge (long_places start contents) (places start contents) contents.cells head (start + 1) long_head
 
 -- what is wrong first
-module _ (start : ℕ) (kind : RoutineKind) (contents : Contents) (limits : Limits) (refs : Holes) where
+module _ (start : ℕ) (kind : RoutineKind) (contents : Contents) (limits : Limits) (refs : Fixups) where
   pub fault_missing : (label : Label) → missing (long_places start contents) contents.cells ≡ Some label → fault_of start kind contents limits refs ≡ Some (close_fault.LabelMissing label)
   fault_missing label e =
       ap (missing_fault (twice_fault (body_fault (full_fault start kind contents limits refs) (body_bytes start contents)) (twice_behind [] contents.cells))) e

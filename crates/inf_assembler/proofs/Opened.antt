@@ -1,11 +1,11 @@
 -- Open routines: their bytes and what they keep tell their cells.
 use Rattle.std.proofs.Common.{◌≡◌, ℕ, ◌+◌, ◌-◌, ◌≤◌, Bool, List, [], ◌∷◌, ◌++◌, length, get_or, take, drop, refl, sym, ◌∙◌, ap, subst, arith, append-nil, append_assoc, length-append}
 use Rattle.std.proofs.lemmas.List.{map-append, drop_at, take_at, get_or_at, drop_all}
-use Rattle.inf_opcode.specs.Cells.{Cell, Plain, Of, plain, special_size, special_bytes, long_bytes, label_count, hole_count, kept_from, cells_of}
+use Rattle.inf_opcode.specs.Cells.{Cell, Plain, Of, plain, special_size, special_bytes, long_bytes, label_count, fixup_count, kept_from, cells_of}
 use Rattle.inf_opcode.specs.Grown.{Grew}
 use Rattle.inf_assembler.specs.Routines.{State, Contents, Moment, Were, contents_of, Stands, Holds, with_cells}
 use Rattle.inf_opcode.proofs.Growing.{length-special, long-append, kept-append}
-use Rattle.inf_opcode.proofs.Counting.{length-long, labels-append, holes-append}
+use Rattle.inf_opcode.proofs.Counting.{length-long, labels-append, fixups-append}
 
 decoded : (cells : List Cell) (mid : List ℕ) (place : ℕ) → cells_of place (kept_from (place + length mid) cells) (mid ++ long_bytes cells) ≡ plain mid ++ cells
 decoded [] mid place = map-append Plain mid []
@@ -71,8 +71,8 @@ holds contents old new old_bytes new_bytes front stands start before limits =
 
 -- more cells are written
 pub stands_more : (old new : State) (bytes new_bytes front : List ℕ) (contents : Contents) (cells : List Cell) (is_final : Bool) → Stands old bytes front contents → Grew bytes old.kept cells new_bytes new.kept
-    → new.start ≡ old.start → new.labels ≡ old.labels + label_count cells → new.holes ≡ old.holes + hole_count cells → new.is_final ≡ is_final → Stands new new_bytes front (with_cells cells is_final contents)
-stands_more old new bytes new_bytes front contents cells is_final stands grew start labels holes final =
+    → new.start ≡ old.start → new.labels ≡ old.labels + label_count cells → new.fixups ≡ old.fixups + fixup_count cells → new.is_final ≡ is_final → Stands new new_bytes front (with_cells cells is_final contents)
+stands_more old new bytes new_bytes front contents cells is_final stands grew start labels fixups final =
     let long = long_bytes contents.cells in
     let place : length bytes ≡ length front + 1 + length long = omega (arith, ap length stands.bytes, length-append front (contents.locals ∷ long)) in
     record {
@@ -84,7 +84,7 @@ stands_more old new bytes new_bytes front contents cells is_final stands grew st
           grew.kept ∙ ap (λ ks. ks ++ kept_from (length bytes) cells) stands.kept ∙ ap (λ k. kept_from (length front + 1) contents.cells ++ kept_from k cells) place
           ∙ sym (kept-append (length front + 1) contents.cells cells);
       labels = omega (arith, labels, stands.labels, labels-append contents.cells cells);
-      holes = omega (arith, holes, stands.holes, holes-append contents.cells cells);
+      fixups = omega (arith, fixups, stands.fixups, fixups-append contents.cells cells);
       is_final = final;
     }
 
@@ -102,8 +102,8 @@ back_within state bytes front now earlier at stands were =
 -- the items of a moment stand where the rest is cut
 pub back_stands : (state new : State) (bytes new_bytes front : List ℕ) (now earlier : Contents) (at : Moment) (place end : ℕ) → Stands state bytes front now → Were earlier at now
     → place ≡ state.start + at.len → end ≡ length bytes → new_bytes ≡ take place bytes ++ drop (place + (end - place)) bytes → new.kept ≡ take at.kept state.kept
-    → new.start ≡ state.start → new.labels ≡ at.labels → new.holes ≡ at.holes → new.is_final ≡ at.is_final → Stands new new_bytes front earlier
-back_stands state new bytes new_bytes front now earlier at place end stands were place_is end_is cut kept start labels holes final =
+    → new.start ≡ state.start → new.labels ≡ at.labels → new.fixups ≡ at.fixups → new.is_final ≡ at.is_final → Stands new new_bytes front earlier
+back_stands state new bytes new_bytes front now earlier at place end stands were place_is end_is cut kept start labels fixups final =
     let long = long_bytes earlier.cells in
     let head = front ++ earlier.locals ∷ long in
     let all : bytes ≡ head ++ long_bytes were.added =
@@ -121,6 +121,6 @@ back_stands state new bytes new_bytes front now earlier at place end stands were
           ∙ ap (λ xs. head ++ xs) (drop_all (place + (end - place)) bytes (omega (arith, end_is))) ∙ append-nil head;
       kept = kept ∙ ap (take at.kept) kept_all ∙ take_at (kept_from p earlier.cells) (kept_from (p + length long) were.added) at.kept count;
       labels = labels ∙ ap (λ (m : Moment). m.labels) were.moment;
-      holes = holes ∙ ap (λ (m : Moment). m.holes) were.moment;
+      fixups = fixups ∙ ap (λ (m : Moment). m.fixups) were.moment;
       is_final = final ∙ ap (λ (m : Moment). m.is_final) were.moment;
     }

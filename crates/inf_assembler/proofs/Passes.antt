@@ -1,7 +1,7 @@
 -- What is kept, one thing after the other.
 use Rattle.std.proofs.Common.{◌≡◌, ℕ, ◌+◌, ◌-◌, ◌<◌, ◌≤◌, Bool, true, false, cond, List, [], ◌∷◌, ◌++◌, length, get_or, take, drop, Option, Some, None, is_some, refl, sym, ◌∙◌, ap, subst, arith}
 use Rattle.std.proofs.lemmas.List.{drop_more, take_more}
-use Rattle.inf_area.specs.declared.references.Reference.{Reference}
+use Rattle.inf_area.specs.declared.targets.Target.{Target}
 use Rattle.inf_opcode.specs.declared.cells.Kept.{Kept}
 use Rattle.inf_opcode.specs.declared.cells.Special.{Special}
 use Rattle.inf_opcode.specs.declared.cells.Special.TheVariants.{Marks, Branches, Jumps, Refers}
@@ -9,8 +9,8 @@ use Rattle.inf_opcode.specs.declared.instructions.Target.{Target}
 use Rattle.inf_opcode.specs.declared.instructions.Target.TheVariants.{To, ReturnFalse, ReturnTrue}
 use Rattle.inf_opcode.specs.declared.instructions.Label.{Label}
 use Rattle.inf_opcode.specs.Cells.{special_size}
-use Rattle.inf_assembler.specs.Places.{Places, with_some, is_short_to, size_at, branch_bytes, branch_offset, closed_special, first_of, marks, hole_at}
-use Rattle.inf_assembler.specs.Closing.{AreInOrder, nowhere, special_saving, kept_place, kept_again, kept_twice, placed_bytes, with_bytes, squeezed, saving, kept_holes}
+use Rattle.inf_assembler.specs.Places.{Places, with_some, is_short_to, size_at, branch_bytes, branch_offset, closed_special, first_of, marks, fixup_at}
+use Rattle.inf_assembler.specs.Closing.{AreInOrder, nowhere, special_saving, kept_place, kept_again, kept_twice, placed_bytes, with_bytes, squeezed, saving, kept_fixups}
 
 -- what stands first, and what is behind it
 pub order_step : (from i end : ℕ) (kept : List Kept) (d : Kept) → i < length kept → AreInOrder from (drop i kept) end
@@ -40,7 +40,7 @@ closed_size long places old new (Branches branch) bytes e =
     ap length (sym made.1) ∙ length-branch short branch.sense made.0
 closed_size long places old new (Jumps label) bytes e =
     let made = some_of _ _ bytes e in ap length (sym made.1)
-closed_size long places old new (Refers reference) bytes e = let same : bytes ≡ 0 ∷ 0 ∷ [] = cc in ap length same
+closed_size long places old new (Refers target) bytes e = let same : bytes ≡ 0 ∷ 0 ∷ [] = cc in ap length same
 
 cond_le : (b : Bool) → cond b 1 2 ≤ 2
 cond_le true = omega arith
@@ -50,7 +50,7 @@ pub size_le : (long : Places) (old : ℕ) (what : Special) → size_at long old 
 size_le long old (Marks label) = omega arith
 size_le long old (Branches branch) = cond_le (is_short_to long old branch.target)
 size_le long old (Jumps label) = omega arith
-size_le long old (Refers reference) = omega arith
+size_le long old (Refers target) = omega arith
 
 -- one more thing is written
 pub squeezed_step : (long places : Places) (from to i : ℕ) (kept : List Kept) (d : Kept) (xs added : List ℕ) → i < length kept
@@ -74,7 +74,7 @@ pub saving_nowhere : (place : ℕ) (what : Special) → special_saving nowhere p
 saving_nowhere place (Marks label) = refl
 saving_nowhere place (Branches branch) = ap (λ b. cond b 1 0) (near_nowhere place branch.target)
 saving_nowhere place (Jumps label) = refl
-saving_nowhere place (Refers reference) = refl
+saving_nowhere place (Refers target) = refl
 
 first_of-cond : (b : Bool) (x : ℕ) (y z : Option ℕ) → cond b (Some x) (first_of y z) ≡ first_of (cond b (Some x) y) z
 first_of-cond true x y z = refl
@@ -97,13 +97,13 @@ pub again_other : (before : List Kept) (what : Special) → ((label : Label) →
 again_other before (Marks label) other = absurd (other label refl)
 again_other before (Branches branch) other = refl
 again_other before (Jumps label) other = refl
-again_other before (Refers reference) other = refl
+again_other before (Refers target) other = refl
 
 pub marks_other : (n : ℕ) (what : Special) → ((label : Label) → what ≡ Marks label → ⊥) → marks n what ≡ false
 marks_other n (Marks label) other = absurd (other label refl)
 marks_other n (Branches branch) other = refl
 marks_other n (Jumps label) other = refl
-marks_other n (Refers reference) other = refl
+marks_other n (Refers target) other = refl
 
 pub twice_step : (i : ℕ) (kept : List Kept) (d : Kept) → i < length kept → kept_again (take i kept) (get_or kept i d).what ≡ None → kept_twice (take (i + 1) kept) (drop (i + 1) kept) ≡ kept_twice (take i kept) (drop i kept)
 twice_step i kept d within new =
@@ -115,13 +115,13 @@ pub first_of-none : {A : Type 0} (o : Option A) → first_of o None ≡ o
 first_of-none None = refl
 first_of-none (Some x) = refl
 
--- the holes from one thing on
-pub holes_step : (long : Places) (saved i : ℕ) (kept : List Kept) (d : Kept) → i < length kept
-    → kept_holes long saved (drop i kept) ≡ hole_at ((get_or kept i d).place - saved) (get_or kept i d).what ++ kept_holes long (saved + saving long (get_or kept i d)) (drop (i + 1) kept)
-holes_step long saved i kept d within = ap (kept_holes long saved) (drop_more kept i d within)
+-- the fixups from one thing on
+pub fixups_step : (long : Places) (saved i : ℕ) (kept : List Kept) (d : Kept) → i < length kept
+    → kept_fixups long saved (drop i kept) ≡ fixup_at ((get_or kept i d).place - saved) (get_or kept i d).what ++ kept_fixups long (saved + saving long (get_or kept i d)) (drop (i + 1) kept)
+fixups_step long saved i kept d within = ap (kept_fixups long saved) (drop_more kept i d within)
 
-pub hole_other : (place : ℕ) (what : Special) → ((reference : Reference) → what ≡ Refers reference → ⊥) → hole_at place what ≡ []
-hole_other place (Marks label) other = refl
-hole_other place (Branches branch) other = refl
-hole_other place (Jumps label) other = refl
-hole_other place (Refers reference) other = absurd (other reference refl)
+pub fixup_other : (place : ℕ) (what : Special) → ((target : Target) → what ≡ Refers target → ⊥) → fixup_at place what ≡ []
+fixup_other place (Marks label) other = refl
+fixup_other place (Branches branch) other = refl
+fixup_other place (Jumps label) other = refl
+fixup_other place (Refers target) other = absurd (other target refl)

@@ -1,12 +1,12 @@
 -- What is computed from what a routine keeps, one thing kept after the other.
 use Rattle.std.specs.Prelude.{ℕ, ◌+◌, ◌-◌, ◌≤◌, ◌==◌, List, [], ◌∷◌, ◌++◌, length, take, drop, slice_get, Option, Some, None, is_some, if◌then◌else◌}
-use Rattle.inf_area.specs.declared.references.Hole.{Hole}
+use Rattle.inf_area.specs.declared.fixups.Fixup.{Fixup}
 use Rattle.inf_opcode.specs.declared.instructions.Label.{Label}
 use Rattle.inf_opcode.specs.declared.cells.Kept.{Kept}
 use Rattle.inf_opcode.specs.declared.cells.Special.{Special}
 use Rattle.inf_opcode.specs.declared.cells.Special.TheVariants.{Marks, Branches, Jumps, Refers}
 use Rattle.inf_opcode.specs.Cells.{special_size}
-use Rattle.inf_assembler.specs.Places.{Places, marks, is_short_to, closed_special, used_by, unplaced, first_of, hole_at}
+use Rattle.inf_assembler.specs.Places.{Places, marks, is_short_to, closed_special, used_by, unplaced, first_of, fixup_at}
 
 -- the place of a label in a table
 abbrev pub entry_of : Option (Option ℕ) → Option ℕ
@@ -25,7 +25,7 @@ abbrev pub special_saving : Places → ℕ → Special → ℕ
 special_saving long place (Marks label) = 0
 special_saving long place (Branches branch) = if is_short_to long place branch.target then 1 else 0
 special_saving long place (Jumps label) = 0
-special_saving long place (Refers reference) = 0
+special_saving long place (Refers target) = 0
 
 abbrev pub saving : Places → Kept → ℕ
 saving long entry = special_saving long entry.place entry.what
@@ -50,16 +50,16 @@ abbrev pub kept_again : List Kept → Special → Option Label
 kept_again before (Marks label) = if is_some (kept_place nowhere 0 before label.number) then Some label else None
 kept_again before (Branches branch) = None
 kept_again before (Jumps label) = None
-kept_again before (Refers reference) = None
+kept_again before (Refers target) = None
 
 abbrev pub kept_twice : List Kept → List Kept → Option Label
 kept_twice before [] = None
 kept_twice before (entry ∷ others) = first_of (kept_again before entry.what) (kept_twice (before ++ entry ∷ []) others)
 
 -- the references, where so many bytes were saved before
-abbrev pub kept_holes : Places → ℕ → List Kept → List Hole
-kept_holes long saved [] = []
-kept_holes long saved (entry ∷ others) = hole_at (entry.place - saved) entry.what ++ kept_holes long (saved + saving long entry) others
+abbrev pub kept_fixups : Places → ℕ → List Kept → List Fixup
+kept_fixups long saved [] = []
+kept_fixups long saved (entry ∷ others) = fixup_at (entry.place - saved) entry.what ++ kept_fixups long (saved + saving long entry) others
 
 -- n bytes from one place on are written from another on, which lies before, and other bytes behind them
 abbrev pub placed_bytes : ℕ → ℕ → ℕ → List ℕ → List ℕ → List ℕ

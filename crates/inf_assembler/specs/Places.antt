@@ -1,7 +1,7 @@
 -- Where the cells of a closed routine stand: short branches, places, offsets and bytes.
 use Rattle.std.specs.Prelude.{ℕ, ◌+◌, ◌-◌, ◌*◌, ◌/◌, ◌%◌, Bool, true, false, nat_lt, nat_le, ◌==◌, ◌&&◌, List, [], ◌∷◌, ◌++◌, Option, Some, None, is_some, if◌then◌else◌}
-use Rattle.inf_area.specs.declared.references.AreaName.TheVariants.{Code}
-use Rattle.inf_area.specs.declared.references.Hole.{Hole}
+use Rattle.inf_area.specs.declared.targets.AreaName.TheVariants.{Code}
+use Rattle.inf_area.specs.declared.fixups.Fixup.{Fixup}
 use Rattle.inf_area.specs.Words.{word}
 use Rattle.inf_opcode.specs.declared.instructions.Label.{Label}
 use Rattle.inf_opcode.specs.declared.instructions.Target.{Target}
@@ -15,7 +15,7 @@ abbrev pub marks : ℕ → Special → Bool
 marks number (Marks label) = label.number == number
 marks number (Branches branch) = false
 marks number (Jumps label) = false
-marks number (Refers reference) = false
+marks number (Refers target) = false
 
 -- where labels are
 abbrev pub Places : Type 0
@@ -43,7 +43,7 @@ abbrev pub size_at : Places → ℕ → Special → ℕ
 size_at long place (Marks label) = 0
 size_at long place (Branches branch) = if is_short_to long place branch.target then 1 else 2
 size_at long place (Jumps label) = 2
-size_at long place (Refers reference) = 2
+size_at long place (Refers target) = 2
 
 -- The place of a label, in cells that stand from a place on and with all branches long from another: the sum of the sizes before its first mark.
 abbrev pub place_from : Places → ℕ → ℕ → List Cell → Places
@@ -84,7 +84,7 @@ closed_special long places old new (Branches branch) =
     let short = is_short_to long old branch.target in
     with_some (branch_bytes short branch.sense) (branch_offset places (new + (if short then 1 else 2)) branch.target)
 closed_special long places old new (Jumps label) = with_some word (offset_to 32768 (new + 2) (places label.number))
-closed_special long places old new (Refers reference) = Some (0 ∷ 0 ∷ [])
+closed_special long places old new (Refers target) = Some (0 ∷ 0 ∷ [])
 
 -- bytes behind bytes that may be none
 abbrev pub joined : Option (List ℕ) → Option (List ℕ) → Option (List ℕ)
@@ -100,17 +100,17 @@ closed_bytes long places old new ((Of what) ∷ cells) =
     joined (closed_special long places old new what) (closed_bytes long places (old + special_size what) (new + size_at long old what) cells)
 
 -- its references with their places
-abbrev pub hole_at : ℕ → Special → List Hole
-hole_at place (Marks label) = []
-hole_at place (Branches branch) = []
-hole_at place (Jumps label) = []
-hole_at place (Refers reference) = record { area = Code; place = place; reference = reference } ∷ []
+abbrev pub fixup_at : ℕ → Special → List Fixup
+fixup_at place (Marks label) = []
+fixup_at place (Branches branch) = []
+fixup_at place (Jumps label) = []
+fixup_at place (Refers target) = record { area = Code; place = place; target = target } ∷ []
 
-abbrev pub closed_holes : Places → ℕ → ℕ → List Cell → List Hole
-closed_holes long old new [] = []
-closed_holes long old new ((Plain byte) ∷ cells) = closed_holes long (old + 1) (new + 1) cells
-closed_holes long old new ((Of what) ∷ cells) =
-    hole_at new what ++ closed_holes long (old + special_size what) (new + size_at long old what) cells
+abbrev pub closed_fixups : Places → ℕ → ℕ → List Cell → List Fixup
+closed_fixups long old new [] = []
+closed_fixups long old new ((Plain byte) ∷ cells) = closed_fixups long (old + 1) (new + 1) cells
+closed_fixups long old new ((Of what) ∷ cells) =
+    fixup_at new what ++ closed_fixups long (old + special_size what) (new + size_at long old what) cells
 
 -- the label that something goes to
 abbrev pub label_of : Target → Option Label
@@ -122,7 +122,7 @@ abbrev pub used_by : Special → Option Label
 used_by (Marks label) = None
 used_by (Branches branch) = label_of branch.target
 used_by (Jumps label) = Some label
-used_by (Refers reference) = None
+used_by (Refers target) = None
 
 -- the first of two
 abbrev pub first_of : {A : Type 0} → Option A → Option A → Option A
@@ -145,7 +145,7 @@ abbrev pub marked_again : List Cell → Special → Option Label
 marked_again before (Marks label) = if is_some (long_place 0 before label.number) then Some label else None
 marked_again before (Branches branch) = None
 marked_again before (Jumps label) = None
-marked_again before (Refers reference) = None
+marked_again before (Refers target) = None
 
 -- the first label by its second mark, behind the cells before
 abbrev pub twice_behind : List Cell → List Cell → Option Label

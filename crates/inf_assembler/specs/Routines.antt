@@ -1,7 +1,7 @@
 -- Open routines, and what becomes of them (Z-Machine Standard 1.1, section 5).
 use Rattle.std.specs.Prelude.{◌≡◌, ℕ, ◌+◌, Bool, true, false, nat_lt, List, [], ◌∷◌, ◌++◌, length, take, drop, slice_index, Option, Some, None, if◌then◌else◌}
-use Rattle.inf_area.specs.declared.references.Hole.{Hole}
-use Rattle.inf_area.specs.Holes.{Holes, with_holes}
+use Rattle.inf_area.specs.declared.fixups.Fixup.{Fixup}
+use Rattle.inf_area.specs.Fixups.{Fixups, with_fixups}
 use Rattle.inf_opcode.specs.declared.cells.Kept.{Kept}
 use Rattle.inf_assembler.specs.declared.routines.Closed.{Closed}
 use Rattle.inf_assembler.specs.declared.routines.CloseFault.{CloseFault}
@@ -14,8 +14,8 @@ use Rattle.inf_assembler.specs.declared.routines.RoutineKind.{RoutineKind}
 use Rattle.inf_assembler.specs.declared.routines.RoutineKind.TheVariants.{Plain as Own, Embedded}
 use Rattle.inf_assembler.specs.declared.routines.Setting.{Setting}
 use Rattle.inf_assembler.specs.declared.routines.Setting.TheVariants.{Labels, Code, Refs}
-use Rattle.inf_opcode.specs.Cells.{Cell, long_bytes, label_count, hole_count, kept_from, cells_of}
-use Rattle.inf_assembler.specs.Places.{Places, long_place, place_from, closed_bytes, closed_holes, missing, twice_behind}
+use Rattle.inf_opcode.specs.Cells.{Cell, long_bytes, label_count, fixup_count, kept_from, cells_of}
+use Rattle.inf_assembler.specs.Places.{Places, long_place, place_from, closed_bytes, closed_fixups, missing, twice_behind}
 
 -- what an open routine keeps: where it starts, what stands in its bytes, how many labels, branches and jumps and how many references these are,
 -- whether control never runs past its last item, and the limits
@@ -23,7 +23,7 @@ pub record State : Type 0 where
   pub start : ℕ
   pub kept : List Kept
   pub labels : ℕ
-  pub holes : ℕ
+  pub fixups : ℕ
   pub is_final : Bool
   pub limits : Limits
 
@@ -44,7 +44,7 @@ pub record Stands (state : State) (area front : List ℕ) (contents : Contents) 
   pub bytes : area ≡ front ++ contents.locals ∷ long_bytes contents.cells
   pub kept : state.kept ≡ kept_from (length front + 1) contents.cells
   pub labels : state.labels ≡ label_count contents.cells
-  pub holes : state.holes ≡ hole_count contents.cells
+  pub fixups : state.fixups ≡ fixup_count contents.cells
   pub is_final : state.is_final ≡ contents.is_final
 
 -- That the bytes of the area end with those of the routine, every branch long and what is known later zero, and that it keeps what stands in them.
@@ -68,15 +68,15 @@ abbrev pub with_cells : List Cell → Bool → Contents → Contents
 with_cells cells is_final contents = record contents { cells = contents.cells ++ cells; is_final = is_final }
 
 -- the first setting that so many more labels, bytes and references would pass
-abbrev pub full_by : ℕ → ℕ → ℕ → State → ℕ → Holes → Option Setting
-full_by labels bytes holes state len refs =
+abbrev pub full_by : ℕ → ℕ → ℕ → State → ℕ → Fixups → Option Setting
+full_by labels bytes fixups state len refs =
     if nat_lt state.limits.labels (state.labels + labels) then Some Labels else
     if nat_lt state.limits.code (len + bytes) then Some Code else
-    if nat_lt refs.limit (length refs.list + state.holes + holes) then Some Refs else None
+    if nat_lt refs.limit (length refs.list + state.fixups + fixups) then Some Refs else None
 
 -- the first setting that more cells would pass
-abbrev pub full_with : List Cell → State → List ℕ → Holes → Option Setting
-full_with cells state bytes refs = full_by (label_count cells) (length (long_bytes cells)) (hole_count cells) state (length bytes) refs
+abbrev pub full_with : List Cell → State → List ℕ → Fixups → Option Setting
+full_with cells state bytes refs = full_by (label_count cells) (length (long_bytes cells)) (fixup_count cells) state (length bytes) refs
 
 -- why they are not taken: the setting, or else want of memory
 abbrev pub refusal : Option Setting → GrowFault
@@ -88,12 +88,12 @@ pub record Moment : Type 0 where
   pub len : ℕ
   pub kept : ℕ
   pub labels : ℕ
-  pub holes : ℕ
+  pub fixups : ℕ
   pub is_final : Bool
 
 abbrev pub moment_of : Contents → Moment
 moment_of contents =
-    record { len = 1 + length (long_bytes contents.cells); kept = length (kept_from 0 contents.cells); labels = label_count contents.cells; holes = hole_count contents.cells; is_final = contents.is_final }
+    record { len = 1 + length (long_bytes contents.cells); kept = length (kept_from 0 contents.cells); labels = label_count contents.cells; fixups = fixup_count contents.cells; is_final = contents.is_final }
 
 -- that the first of a routine's items were all at a moment
 pub record Were (earlier : Contents) (at : Moment) (now : Contents) : Type 0 where
@@ -126,21 +126,21 @@ abbrev pub body_bytes : ℕ → Contents → Option (List ℕ)
 body_bytes start contents = closed_bytes (long_places start contents) (places start contents) (start + 1) (start + 1) contents.cells
 
 -- its references
-abbrev pub routine_holes : ℕ → Contents → List Hole
-routine_holes start contents = closed_holes (long_places start contents) (start + 1) (start + 1) contents.cells
+abbrev pub routine_fixups : ℕ → Contents → List Fixup
+routine_fixups start contents = closed_fixups (long_places start contents) (start + 1) (start + 1) contents.cells
 
 -- what is wrong with a routine that stands behind so many bytes: first its labels, then its offsets, then what it takes
 abbrev pub is_full : Bool → ℕ → ℕ → Bool
 is_full true limit len = false
 is_full false limit len = nat_lt limit (len + 1)
 
-abbrev pub end_fault : Bool → Limits → ℕ → Holes → ℕ → Option CloseFault
-end_fault is_final limits len refs holes =
+abbrev pub end_fault : Bool → Limits → ℕ → Fixups → ℕ → Option CloseFault
+end_fault is_final limits len refs fixups =
     if is_full is_final limits.code len then Some (close_fault.Full Code) else
-    if nat_lt refs.limit (length refs.list + holes) then Some (close_fault.Full Refs) else None
+    if nat_lt refs.limit (length refs.list + fixups) then Some (close_fault.Full Refs) else None
 
-abbrev pub full_fault : ℕ → RoutineKind → Contents → Limits → Holes → List ℕ → Option CloseFault
-full_fault start kind contents limits refs body = end_fault contents.is_final limits (start + 1 + length body) refs (hole_count contents.cells)
+abbrev pub full_fault : ℕ → RoutineKind → Contents → Limits → Fixups → List ℕ → Option CloseFault
+full_fault start kind contents limits refs body = end_fault contents.is_final limits (start + 1 + length body) refs (fixup_count contents.cells)
 
 abbrev pub body_fault : (List ℕ → Option CloseFault) → Option (List ℕ) → Option CloseFault
 body_fault next None = Some close_fault.TooFar
@@ -154,25 +154,25 @@ abbrev pub missing_fault : Option CloseFault → Option Label → Option CloseFa
 missing_fault next None = next
 missing_fault next (Some label) = Some (close_fault.LabelMissing label)
 
-abbrev pub fault_of : ℕ → RoutineKind → Contents → Limits → Holes → Option CloseFault
+abbrev pub fault_of : ℕ → RoutineKind → Contents → Limits → Fixups → Option CloseFault
 fault_of start kind contents limits refs =
     missing_fault
     (twice_fault (body_fault (full_fault start kind contents limits refs) (body_bytes start contents)) (twice_behind [] contents.cells))
     (missing (long_places start contents) contents.cells)
 
 -- what is written of a routine that is closed
-pub record Finished (kind : RoutineKind) (place : ℕ) (contents : Contents) (old_bytes : List ℕ) (old_refs : Holes) (new_bytes : List ℕ) (new_refs : Holes) : Type 0 where
+pub record Finished (kind : RoutineKind) (place : ℕ) (contents : Contents) (old_bytes : List ℕ) (old_refs : Fixups) (new_bytes : List ℕ) (new_refs : Fixups) : Type 0 where
   pub body : List ℕ
   pub is : body_bytes place contents ≡ Some body
   pub bytes : new_bytes ≡ take place old_bytes ++ contents.locals ∷ body ++ closing kind contents
-  pub holes : new_refs ≡ with_holes (old_refs.list ++ routine_holes place contents) old_refs
+  pub fixups : new_refs ≡ with_fixups (old_refs.list ++ routine_fixups place contents) old_refs
 
 -- what a routine has become
-pub record Closes (kind : RoutineKind) (place : ℕ) (contents : Contents) (old_bytes : List ℕ) (old_refs : Holes) (closed : Closed) (new_bytes : List ℕ) (new_refs : Holes) : Type 0 where
+pub record Closes (kind : RoutineKind) (place : ℕ) (contents : Contents) (old_bytes : List ℕ) (old_refs : Fixups) (closed : Closed) (new_bytes : List ℕ) (new_refs : Fixups) : Type 0 where
   pub body : List ℕ
   pub is : body_bytes place contents ≡ Some body
   pub bytes : new_bytes ≡ take place old_bytes ++ contents.locals ∷ body ++ closing kind contents
-  pub holes : new_refs ≡ with_holes (old_refs.list ++ routine_holes place contents) old_refs
+  pub fixups : new_refs ≡ with_fixups (old_refs.list ++ routine_fixups place contents) old_refs
   pub start : closed.start ≡ place
   pub len : closed.len ≡ 1 + length body + length (closing kind contents)
-  pub refs : closed.refs ≡ length (routine_holes place contents)
+  pub refs : closed.refs ≡ length (routine_fixups place contents)

@@ -1,14 +1,14 @@
 //! Closing a routine: its short branches, and the bytes that move together.
 ghost use Rattle.std.specs.Prelude.{◌≡◌, ℕ, ◌+◌, ◌-◌, ◌<◌, ◌≤◌, [], ◌∷◌, ◌++◌, Option, Some, None, IfOk, OnOk, OnErr, MatchResult, MatchOption, length, take, List, ◌^◌, IfErr};
-ghost use Rattle.inf_area.specs.Holes.{with_holes};
-ghost use Rattle.inf_area.specs.declared.references.Hole.{Hole};
-ghost use Rattle.inf_area.specs.declared.references.AddFault.TheVariants.{Full};
+ghost use Rattle.inf_area.specs.Fixups.{with_fixups};
+ghost use Rattle.inf_area.specs.declared.fixups.Fixup.{Fixup};
+ghost use Rattle.inf_area.specs.declared.fixups.AddFault.TheVariants.{Full};
 ghost use Rattle.inf_opcode.specs.Cells.{special_size};
 ghost use Rattle.inf_assembler.specs.Places.{is_short_to, first_of, offset_to, branch_offset, branch_bytes, closed_special, used_by};
-ghost use Rattle.inf_assembler.specs.Closing.{found, saving, kept_place, kept_missing, kept_twice, placed_bytes, squeezed, kept_holes, only, AreInOrder};
+ghost use Rattle.inf_assembler.specs.Closing.{found, saving, kept_place, kept_missing, kept_twice, placed_bytes, squeezed, kept_fixups, only, AreInOrder};
 
 use arrayvec::ArrayVec;
-use inf_area::{AddFault, Area, AreaName, Hole, Refs};
+use inf_area::{AddFault, Area, AreaName, Fixup, Refs};
 use inf_opcode::{Kept, Label, Special, Target, sense_bit};
 use std::alloc::{AllocError, Global};
 
@@ -271,27 +271,27 @@ pub(crate) fn squeeze<A: Area>(
 
 // Lists the references, with the places that they have where the branches are short that a table of
 // the long places says.
-pub(crate) fn list_holes(
+pub(crate) fn list_fixups(
     refs: &mut Refs,
     kept: &[Kept],
     long: &[Option<usize>],
 ) -> Result<(), AddFault>
     requires { length refs.old.list ≤ refs.old.limit }
-    ensures ok { let holes = kept_holes (found long.now) 0 kept.now in
-        OnOk result (refs.new ≡ with_holes (refs.old.list ++ holes) refs.old) }
-    ensures err { OnErr result ((added : List Hole) × (refs.new ≡ with_holes (refs.old.list ++ added) refs.old)) }
-    ensures full { let holes = kept_holes (found long.now) 0 kept.now in
-        IfErr result (λ fault. fault ≡ Full → refs.old.limit < length refs.old.list + length holes) }
-    ensures room { let holes = kept_holes (found long.now) 0 kept.now in
-        OnOk result (length refs.old.list + length holes ≤ refs.old.limit) }
+    ensures ok { let fixups = kept_fixups (found long.now) 0 kept.now in
+        OnOk result (refs.new ≡ with_fixups (refs.old.list ++ fixups) refs.old) }
+    ensures err { OnErr result ((added : List Fixup) × (refs.new ≡ with_fixups (refs.old.list ++ added) refs.old)) }
+    ensures full { let fixups = kept_fixups (found long.now) 0 kept.now in
+        IfErr result (λ fault. fault ≡ Full → refs.old.limit < length refs.old.list + length fixups) }
+    ensures room { let fixups = kept_fixups (found long.now) 0 kept.now in
+        OnOk result (length refs.old.list + length fixups ≤ refs.old.limit) }
 {
     let mut saved = 0;
     for entry in kept {
-        if let Special::Refers(reference) = entry.what {
-            refs.add(Hole {
+        if let Special::Refers(target) = entry.what {
+            refs.add(Fixup {
                 area: AreaName::Code,
                 place: entry.place.saturating_sub(saved),
-                reference,
+                target,
             })?;
         }
         saved += saving(long, *entry);

@@ -1,13 +1,13 @@
 //! Routines: opened, written item by item, and closed.
 ghost use Rattle.std.specs.Prelude.{◌≡◌, ◌+◌, ◌^◌, ◌<◌, ◌≤◌, ℕ, List, [], ◌∷◌, ◌++◌, length, take, nat_lt, Some, None, Option, true, false, ◌⊎◌, if◌then◌else◌, IfOk, OnOk, OnErr, MatchResult, MatchOption};
-ghost use Rattle.inf_area.specs.declared.references.Hole.{Hole};
-ghost use Rattle.inf_area.specs.Holes.{Holes, with_holes};
+ghost use Rattle.inf_area.specs.declared.fixups.Fixup.{Fixup};
+ghost use Rattle.inf_area.specs.Fixups.{Fixups, with_fixups};
 ghost use Rattle.inf_opcode.specs.Cells.{Of};
 ghost use Rattle.inf_opcode.specs.Grown.{Grew, Longer};
 ghost use Rattle.inf_opcode.specs.Instructions.{IsProper, instruction_cells};
 ghost use Rattle.inf_opcode.specs.PartsOf.{parts_of};
 
-use crate::closing::{first_missing, first_twice, label_places, list_holes, squeeze};
+use crate::closing::{first_missing, first_twice, label_places, list_fixups, squeeze};
 use inf_area::{AddFault, Area, Refs};
 use inf_opcode::{
     Counts, Instruction, Kept, Label, Special, append_instruction, instruction_counts,
@@ -31,7 +31,7 @@ pub struct Closed {
     pub start: usize,
     /// Its length in bytes, without padding.
     pub len: usize,
-    /// The number of its holes, which are the last of the list.
+    /// The number of its fixups, which are the last of the list.
     pub refs: usize,
 }
 
@@ -118,7 +118,7 @@ pub struct Mark {
     len: usize,
     kept: usize,
     labels: usize,
-    holes: usize,
+    fixups: usize,
     is_final: bool,
 }
 
@@ -127,9 +127,9 @@ impl Model for Mark {
 
     ghost Value = { Moment };
 
-    ghost view = { λ mark. record { len = mark.len; kept = mark.kept; labels = mark.labels; holes = mark.holes; is_final = mark.is_final } };
+    ghost view = { λ mark. record { len = mark.len; kept = mark.kept; labels = mark.labels; fixups = mark.fixups; is_final = mark.is_final } };
 
-    ghost inverse = { λ moment. record { len = moment.len; kept = moment.kept; labels = moment.labels; holes = moment.holes; is_final = moment.is_final } };
+    ghost inverse = { λ moment. record { len = moment.len; kept = moment.kept; labels = moment.labels; fixups = moment.fixups; is_final = moment.is_final } };
 }
 
 /// An open routine. Its bytes stand at the end of the area, with every branch in two bytes, and zeros
@@ -143,7 +143,7 @@ pub struct Routine {
     // What stands in the bytes, in order.
     kept: Vec<Kept>,
     labels: usize,
-    holes: usize,
+    fixups: usize,
     is_final: bool,
     limits: Limits,
 }
@@ -154,7 +154,7 @@ impl Model for Routine {
 
     ghost Value = { State };
 
-    ghost view = { λ routine. record { start = routine.start; kept = routine.kept.items; labels = routine.labels; holes = routine.holes; is_final = routine.is_final; limits = routine.limits } };
+    ghost view = { λ routine. record { start = routine.start; kept = routine.kept.items; labels = routine.labels; fixups = routine.fixups; is_final = routine.is_final; limits = routine.limits } };
 
     ghost invariant = { λ routine. routine.start + 1 < 2 ^ 64 };
 }
@@ -172,7 +172,7 @@ impl Routine {
     ghost use Rattle.inf_assembler.specs.declared.routines.Setting.{Setting};
     ghost use Rattle.inf_assembler.specs.declared.routines.Setting.TheVariants.{Labels, Code};
     ghost use Rattle.inf_assembler.specs.declared.routines.CloseFault.TheVariants as close_fault;
-    ghost use Rattle.inf_assembler.specs.Closing.{found, kept_holes};
+    ghost use Rattle.inf_assembler.specs.Closing.{found, kept_fixups};
     ghost use Rattle.inf_assembler.specs.Routines.{State, Contents, Stands, IsOpen, Holds, Moment, Were, contents_of, with_cells, full_with, full_by, refusal, moment_of, fault_of, Closes, Finished, closing_bytes, is_full, end_fault, fresh};
 
     /// Opens a routine of `locals` local variables, at most 15, at the end of the area
@@ -202,7 +202,7 @@ impl Routine {
             start,
             kept: Vec::new(alloc),
             labels: 0,
-            holes: 0,
+            fixups: 0,
             is_final: false,
             limits,
         })
@@ -235,7 +235,7 @@ impl Routine {
         }
         append_instruction(area, &mut self.kept, instruction)?;
         self.labels += more.labels;
-        self.holes += more.holes;
+        self.fixups += more.fixups;
         self.is_final = row.is_final;
         Ok(())
     }
@@ -267,9 +267,9 @@ impl Routine {
 
     // The first limit that so much more would pass, where the area has so many bytes.
     fn full(&self, len: usize, refs: &Refs, more: Counts, text: usize) -> Option<Setting>
-        ensures value { result ≡ full_by more.labels (more.bytes + text) more.holes self.now len refs.now }
+        ensures value { result ≡ full_by more.labels (more.bytes + text) more.fixups self.now len refs.now }
         ensures labels { MatchOption result (self.now.labels + more.labels < 2 ^ 64) (λ _. Unit {0}) }
-        ensures holes { MatchOption result (self.now.holes + more.holes < 2 ^ 64) (λ _. Unit {0}) }
+        ensures fixups { MatchOption result (self.now.fixups + more.fixups < 2 ^ 64) (λ _. Unit {0}) }
     {
         if exceeds(self.limits.labels, self.labels, more.labels) {
             return Some(Setting::Labels);
@@ -279,7 +279,7 @@ impl Routine {
             return Some(Setting::Code);
         }
         let (listed, limit) = (refs.len(), refs.limit());
-        if exceeds(limit, listed, self.holes) || limit - listed - self.holes < more.holes {
+        if exceeds(limit, listed, self.fixups) || limit - listed - self.fixups < more.fixups {
             return Some(Setting::Refs);
         }
         None
@@ -294,7 +294,7 @@ impl Routine {
             len: area.len() - self.start,
             kept: self.kept.len(),
             labels: self.labels,
-            holes: self.holes,
+            fixups: self.fixups,
             is_final: self.is_final,
         }
     }
@@ -311,16 +311,16 @@ impl Routine {
         area.cut(at, end - at);
         self.kept.truncate(mark.kept);
         self.labels = mark.labels;
-        self.holes = mark.holes;
+        self.fixups = mark.fixups;
         self.is_final = mark.is_final;
     }
 
-    /// Closes the routine: makes each branch short that fits, writes the offsets, and adds the holes to the
+    /// Closes the routine: makes each branch short that fits, writes the offsets, and adds the fixups to the
     /// list, each with its place.
     ///
     /// Where control can run past the last item, `rtrue` stands behind it, or `rfalse` in an embedded routine.
     /// Answers where the routine stands. Refuses, in this order, a label that is missing, one that is given twice,
-    /// an offset that does not fit, a limit that would be passed, and want of memory; the area and the list of holes are then as they
+    /// an offset that does not fit, a limit that would be passed, and want of memory; the area and the list of fixups are then as they
     /// were before `open`, and the routine is given up.
     pub fn close<A: Area>(
         self,
@@ -350,7 +350,7 @@ impl Routine {
         })
     }
 
-    // Moves the bytes together, writes the offsets and what returns at the end, and lists the holes.
+    // Moves the bytes together, writes the offsets and what returns at the end, and lists the fixups.
     fn finish<A: Area>(
         &self,
         area: &mut A,
@@ -363,7 +363,7 @@ impl Routine {
             OnOk result (Finished kind self.now.start contents (A.bytes area.old) refs.old (A.bytes area.new) refs.new) }
         ensures before { take self.now.start (A.bytes area.new) ≡ take self.now.start (A.bytes area.old) }
         ensures within { self.now.start ≤ length (A.bytes area.new) }
-        ensures refs { (added : List Hole) × (refs.new ≡ with_holes (refs.old.list ++ added) refs.old) }
+        ensures refs { (added : List Fixup) × (refs.new ≡ with_fixups (refs.old.list ++ added) refs.old) }
         ensures fault { let fault = fault_of self.now.start kind (contents_of self.now (A.bytes area.old)) self.now.limits refs.old in
             MatchResult result (λ _. fault ≡ None) (λ refused. (refused ≡ close_fault.Memory) ⊎ (fault ≡ Some refused)) }
     {
@@ -388,7 +388,7 @@ impl Routine {
         }
     }
 
-    // Writes what returns at the end, and lists the holes.
+    // Writes what returns at the end, and lists the fixups.
     fn finish_end<A: Area>(
         &self,
         area: &mut A,
@@ -398,16 +398,16 @@ impl Routine {
     ) -> Result<(), CloseFault>
         requires { length refs.old.list ≤ refs.old.limit }
         ensures bytes { OnOk result (A.bytes area.new ≡ A.bytes area.old ++ closing_bytes kind self.now.is_final) }
-        ensures holes { let holes = kept_holes (found long.now) 0 self.now.kept in
-            OnOk result (refs.new ≡ with_holes (refs.old.list ++ holes) refs.old) }
+        ensures fixups { let fixups = kept_fixups (found long.now) 0 self.now.kept in
+            OnOk result (refs.new ≡ with_fixups (refs.old.list ++ fixups) refs.old) }
         ensures grown { (added : List ℕ) × (A.bytes area.new ≡ A.bytes area.old ++ added) }
-        ensures refs { (added : List Hole) × (refs.new ≡ with_holes (refs.old.list ++ added) refs.old) }
-        ensures fault { let holes = kept_holes (found long.now) 0 self.now.kept in
-            let fault = end_fault self.now.is_final self.now.limits (length (A.bytes area.old)) refs.old (length holes) in
+        ensures refs { (added : List Fixup) × (refs.new ≡ with_fixups (refs.old.list ++ added) refs.old) }
+        ensures fault { let fixups = kept_fixups (found long.now) 0 self.now.kept in
+            let fault = end_fault self.now.is_final self.now.limits (length (A.bytes area.old)) refs.old (length fixups) in
             MatchResult result (λ _. fault ≡ None) (λ refused. (refused ≡ close_fault.Memory) ⊎ (fault ≡ Some refused)) }
     {
         self.write_closing(area, kind)?;
-        match list_holes(refs, self.kept.as_slice(), long) {
+        match list_fixups(refs, self.kept.as_slice(), long) {
             Ok(()) => Ok(()),
             Err(AddFault::Full) => Err(CloseFault::Full(Setting::Refs)),
             Err(AddFault::Memory) => Err(CloseFault::Memory),

@@ -119,7 +119,7 @@ unmarked-append ((Plain byte) ∷ xs) ys first second = unmarked-append xs ys fi
 unmarked-append ((Of (Marks label)) ∷ xs) ys first second = absurd first
 unmarked-append ((Of (Branches branch)) ∷ xs) ys first second = unmarked-append xs ys first second
 unmarked-append ((Of (Jumps label)) ∷ xs) ys first second = unmarked-append xs ys first second
-unmarked-append ((Of (Refers reference)) ∷ xs) ys first second = unmarked-append xs ys first second
+unmarked-append ((Of (Refers target)) ∷ xs) ys first second = unmarked-append xs ys first second
 
 unmarked-plain : (bytes : List ℕ) → AreUnmarked (plain bytes)
 unmarked-plain [] = tt
@@ -129,7 +129,7 @@ unmarked-operand : (operand : Operand) → AreUnmarked (operand_cells operand)
 unmarked-operand (Large number) = tt
 unmarked-operand (Small number) = tt
 unmarked-operand (Variable number) = tt
-unmarked-operand (Later reference) = tt
+unmarked-operand (Later target) = tt
 unmarked-operand (Offset label) = tt
 
 unmarked-operands : (operands : List Operand) → AreUnmarked (flat_map operand_cells operands)

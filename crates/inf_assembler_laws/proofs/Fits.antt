@@ -79,7 +79,7 @@ module _ (all : List Cell) (start : ℕ) where
   field_within before after old new (Jumps label) bytes others old_is new_is is e rest =
       let made = with_some_of word (offset_to 32768 (new + 2) (places label.number)) bytes e in
       (below_of 65536 (offset_to 32768 (new + 2) (places label.number)) made.0 made.1 (jump_within (places label.number) (new + 2) made.0 made.1), rest)
-  field_within before after old new (Refers reference) bytes others old_is new_is is e rest = rest
+  field_within before after old new (Refers target) bytes others old_is new_is is e rest = rest
 
   pub fields_within : (before cells : List Cell) (old new : ℕ) (bytes : List ℕ) → old ≡ old_at before → new ≡ new_at before → all ≡ before ++ cells
       → closed_bytes long places old new cells ≡ Some bytes → AreWithin (fields long places old new cells)

@@ -19,7 +19,7 @@ type_code-three : (operand : Operand) → type_code operand < 3
 type_code-three (Large number) = omega arith
 type_code-three (Small number) = omega arith
 type_code-three (Variable number) = omega arith
-type_code-three (Later reference) = omega arith
+type_code-three (Later target) = omega arith
 type_code-three (Offset label) = omega arith
 
 opening-zero : (opcode : Opcode) (number : ℕ) (rest : List ℕ) → opcode_at Zero number ≡ Some opcode → has_place Zero number ≡ true → opening_at ((176 + number) ∷ rest) ≡ opening opcode [] rest
@@ -48,7 +48,7 @@ byte_type : (operand : Operand) → is_byte operand ≡ true → type_code opera
 byte_type (Large number) byte = cc
 byte_type (Small number) byte = refl
 byte_type (Variable number) byte = refl
-byte_type (Later reference) byte = cc
+byte_type (Later target) byte = cc
 byte_type (Offset label) byte = cc
 
 bit_small : (b : Bool) → cond b 1 0 < 2

@@ -94,7 +94,7 @@ abbrev Suits : Bool → Operand → Type 0
 Suits jumps (Large number) = jumps ≡ false
 Suits jumps (Small number) = Unit {0}
 Suits jumps (Variable number) = Unit {0}
-Suits jumps (Later reference) = jumps ≡ false
+Suits jumps (Later target) = jumps ≡ false
 Suits jumps (Offset label) = jumps ≡ true
 
 abbrev AllSuit : Bool → List Operand → Type 0
@@ -106,7 +106,7 @@ suit_false [] e = tt
 suit_false ((Large number) ∷ others) e = (refl, suit_false others e)
 suit_false ((Small number) ∷ others) e = (tt, suit_false others e)
 suit_false ((Variable number) ∷ others) e = (tt, suit_false others e)
-suit_false ((Later reference) ∷ others) e = (refl, suit_false others e)
+suit_false ((Later target) ∷ others) e = (refl, suit_false others e)
 suit_false ((Offset label) ∷ others) e = cc
 
 pub all_suit : (jumps : Bool) (operands : List Operand) → fits_jump jumps operands ≡ true → AllSuit jumps operands
@@ -115,7 +115,7 @@ all_suit true [] e = cc
 all_suit true ((Large number) ∷ others) e = cc
 all_suit true ((Small number) ∷ others) e = cc
 all_suit true ((Variable number) ∷ others) e = cc
-all_suit true ((Later reference) ∷ others) e = cc
+all_suit true ((Later target) ∷ others) e = cc
 all_suit true ((Offset label) ∷ []) e = (refl, tt)
 all_suit true ((Offset label) ∷ next ∷ others) e = cc
 
@@ -139,7 +139,7 @@ operand_read long places old new total jumps (Small number) bytes rest suits e t
     let same : bytes ≡ number ∷ [] = some_same bytes (number ∷ []) (sym e) in ap (λ b. operand_at total jumps 1 (b ++ rest)) same
 operand_read long places old new total jumps (Variable number) bytes rest suits e t =
     let same : bytes ≡ number ∷ [] = some_same bytes (number ∷ []) (sym e) in ap (λ b. operand_at total jumps 2 (b ++ rest)) same
-operand_read long places old new total jumps (Later reference) bytes rest suits e t =
+operand_read long places old new total jumps (Later target) bytes rest suits e t =
     let same : bytes ≡ 0 ∷ 0 ∷ [] = some_same bytes (0 ∷ 0 ∷ []) (sym e) in
     ap (λ b. operand_at total jumps 0 (b ++ rest)) same
     ∙ ap (λ j. Some (word_given j (total - length rest) 0, rest)) suits

@@ -158,7 +158,7 @@ AreUnmarked ((Plain byte) ∷ cells) = AreUnmarked cells
 AreUnmarked ((Of (Marks label)) ∷ cells) = ⊥
 AreUnmarked ((Of (Branches branch)) ∷ cells) = AreUnmarked cells
 AreUnmarked ((Of (Jumps label)) ∷ cells) = AreUnmarked cells
-AreUnmarked ((Of (Refers reference)) ∷ cells) = AreUnmarked cells
+AreUnmarked ((Of (Refers target)) ∷ cells) = AreUnmarked cells
 
 place_unmarked : (long : Places) (old new : ℕ) (xs : List Cell) (label : ℕ) → AreUnmarked xs → place_from long old new xs label ≡ None
 place_unmarked long old new [] label plain = refl
@@ -166,7 +166,7 @@ place_unmarked long old new ((Plain byte) ∷ xs) label plain = place_unmarked l
 place_unmarked long old new ((Of (Marks other)) ∷ xs) label plain = absurd plain
 place_unmarked long old new ((Of (Branches branch)) ∷ xs) label plain = place_unmarked long (old + 2) (new + size_at long old (Branches branch)) xs label plain
 place_unmarked long old new ((Of (Jumps other)) ∷ xs) label plain = place_unmarked long (old + 2) (new + 2) xs label plain
-place_unmarked long old new ((Of (Refers reference)) ∷ xs) label plain = place_unmarked long (old + 2) (new + 2) xs label plain
+place_unmarked long old new ((Of (Refers target)) ∷ xs) label plain = place_unmarked long (old + 2) (new + 2) xs label plain
 
 long_unmarked : (old : ℕ) (xs : List Cell) (label : ℕ) → AreUnmarked xs → long_place old xs label ≡ None
 long_unmarked old [] label plain = refl
@@ -174,7 +174,7 @@ long_unmarked old ((Plain byte) ∷ xs) label plain = long_unmarked (old + 1) xs
 long_unmarked old ((Of (Marks other)) ∷ xs) label plain = absurd plain
 long_unmarked old ((Of (Branches branch)) ∷ xs) label plain = long_unmarked (old + 2) xs label plain
 long_unmarked old ((Of (Jumps other)) ∷ xs) label plain = long_unmarked (old + 2) xs label plain
-long_unmarked old ((Of (Refers reference)) ∷ xs) label plain = long_unmarked (old + 2) xs label plain
+long_unmarked old ((Of (Refers target)) ∷ xs) label plain = long_unmarked (old + 2) xs label plain
 
 -- A label stands before two places, or behind them, where no label is marked between the two.
 pub record Beside (long_one : Option ℕ) (long_before before long_behind behind place : ℕ) : Type 0 where

@@ -66,7 +66,7 @@ given_types-code : (operand : Operand) (codes : List ℕ) → given_types (type_
 given_types-code (Large number) codes = refl
 given_types-code (Small number) codes = refl
 given_types-code (Variable number) codes = refl
-given_types-code (Later reference) codes = refl
+given_types-code (Later target) codes = refl
 given_types-code (Offset label) codes = refl
 
 given_types-none : (n : ℕ) → given_types (slots n []) ≡ []
@@ -83,7 +83,7 @@ pub type_code-small : (operand : Operand) → type_code operand < 4
 type_code-small (Large number) = omega arith
 type_code-small (Small number) = omega arith
 type_code-small (Variable number) = omega arith
-type_code-small (Later reference) = omega arith
+type_code-small (Later target) = omega arith
 type_code-small (Offset label) = omega arith
 
 abbrev slot_of : Option Operand → ℕ

@@ -204,7 +204,7 @@ abbrev pub given : Places → Operand → Given
 given places (Large number) = Word number
 given places (Small number) = Byte number
 given places (Variable number) = OfVariable number
-given places (Later reference) = Word 0
+given places (Later target) = Word 0
 given places (Offset label) = Place (place_in (places label.number))
 
 abbrev pub aim_of : Places → Target → Aim

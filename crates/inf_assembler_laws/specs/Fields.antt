@@ -17,7 +17,7 @@ field_at long places old new (Branches branch) =
     let short = is_short_to long old branch.target in
     record { values = if short then 64 else 16384; offset = branch_offset places (new + (if short then 1 else 2)) branch.target } ∷ []
 field_at long places old new (Jumps label) = record { values = 65536; offset = offset_to 32768 (new + 2) (places label.number) } ∷ []
-field_at long places old new (Refers reference) = []
+field_at long places old new (Refers target) = []
 
 -- those of cells, which stand from a place on and with all branches long from another
 abbrev pub fields : Places → Places → ℕ → ℕ → List Cell → List Field

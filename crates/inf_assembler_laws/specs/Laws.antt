@@ -1,13 +1,13 @@
 -- Laws above the definitions.
 use Rattle.std.specs.Prelude.{◌≡◌, ℕ, ◌+◌, ◌≤◌, Bool, List, ◌∷◌, ◌++◌, length, map, Option, Some, None}
-use Rattle.inf_area.specs.declared.references.Reference.{Reference}
+use Rattle.inf_area.specs.declared.targets.Target.{Target}
 use Rattle.inf_opcode.specs.declared.opcodes.Opcode.{Opcode}
 use Rattle.inf_opcode.specs.declared.opcodes.Opcode.TheVariants.{Rtrue, Rfalse}
 use Rattle.inf_opcode.specs.Instructions.{bare}
 use Rattle.inf_opcode.specs.Names.{name_of, opcode_named}
 use Rattle.inf_assembler.specs.declared.routines.RoutineKind.{RoutineKind}
 use Rattle.inf_assembler.specs.declared.routines.RoutineKind.TheVariants.{Plain as Own, Embedded}
-use Rattle.inf_assembler.specs.Routines.{Contents, long_places, places, body_bytes, routine_holes, closing_byte}
+use Rattle.inf_assembler.specs.Routines.{Contents, long_places, places, body_bytes, routine_fixups, closing_byte}
 use Rattle.inf_assembler_laws.specs.Items.{Item, routine_of, AreProper, instructions}
 use Rattle.inf_assembler_laws.specs.Decoding.{instruction_at, instructions_at, seen}
 use Rattle.inf_assembler_laws.specs.Fields.{AreWithin, routine_fields}
@@ -49,12 +49,12 @@ PlacesAreNoLater = (place : ℕ) (contents : Contents) (label : ℕ) → NoLater
 abbrev pub OffsetsFit : Type 0
 OffsetsFit = (place : ℕ) (contents : Contents) (body : List ℕ) → body_bytes place contents ≡ Some body → AreWithin (routine_fields place contents)
 
--- A routine whose holes are filled has the bytes of the routine with these numbers in place of its references, and what stands before it stays.
-abbrev pub with_numbers : (Reference → ℕ) → Contents → Contents
+-- A routine whose fixups are filled has the bytes of the routine with these numbers in place of its references, and what stands before it stays.
+abbrev pub with_numbers : (Target → ℕ) → Contents → Contents
 with_numbers number_of contents = record contents { cells = known_cells number_of contents.cells }
 
-abbrev pub HolesTakeNumbers : Type 0
-HolesTakeNumbers =
-    (number_of : Reference → ℕ) (contents : Contents) (front body rest : List ℕ) → body_bytes (length front) contents ≡ Some body
+abbrev pub FixupsTakeNumbers : Type 0
+FixupsTakeNumbers =
+    (number_of : Target → ℕ) (contents : Contents) (front body rest : List ℕ) → body_bytes (length front) contents ≡ Some body
     → (numbered : List ℕ) × (body_bytes (length front) (with_numbers number_of contents) ≡ Some numbered)
-    × (filled number_of (routine_holes (length front) contents) (front ++ (contents.locals ∷ (body ++ rest))) ≡ front ++ (contents.locals ∷ (numbered ++ rest)))
+    × (filled number_of (routine_fixups (length front) contents) (front ++ (contents.locals ∷ (body ++ rest))) ≡ front ++ (contents.locals ∷ (numbered ++ rest)))

@@ -1,5 +1,5 @@
 //! What the definitions of routines give together.
-ghost use Rattle.inf_assembler_laws.specs.Laws.{NamesAreFound, RoutinesAreReadBack, ReturnsAreReadBack, PlacesAreNoLater, OffsetsFit, HolesTakeNumbers};
+ghost use Rattle.inf_assembler_laws.specs.Laws.{NamesAreFound, RoutinesAreReadBack, ReturnsAreReadBack, PlacesAreNoLater, OffsetsFit, FixupsTakeNumbers};
 
 /// Each opcode is found by its name.
 pub fn names()
@@ -24,8 +24,8 @@ pub fn offsets()
     ensures { OffsetsFit }
 {}
 
-/// Where the holes of a closed routine are filled with numbers, the bytes are those of the routine that has these
+/// Where the fixups of a closed routine are filled with numbers, the bytes are those of the routine that has these
 /// numbers in place of its references.
 pub fn filling()
-    ensures { HolesTakeNumbers }
+    ensures { FixupsTakeNumbers }
 {}

@@ -1,7 +1,7 @@
 //! The assembler over a script. Each line of `stdin` is answered by a line; one that begins with `! ` is a title.
 //!
 //! A routine is a line of its kind (`plain` or `embedded`), its locals, the most labels, bytes and references, how many bytes 255 stand
-//! before it, each with a hole, and how many bytes an area takes before it once lacks memory; `-` stands for what does not
+//! before it, each with a fixup, and how many bytes an area takes before it once lacks memory; `-` stands for what does not
 //! matter. Its items follow, with ` | ` before each, and a number before one that is repeated:
 //!
 //! - `label 0`, and an instruction by its name with its operands: `5` and `#1234` of one and two bytes, `v1` a variable, `r7` a
@@ -10,18 +10,18 @@
 //! - `mark`, and `back` to it;
 //! - `bytes` tells the bytes of the area.
 //!
-//! The answer tells each refusal, how the routine was closed, all bytes, and the holes, or the first five and the last. Both areas
+//! The answer tells each refusal, how the routine was closed, all bytes, and the fixups, or the first five and the last. Both areas
 //! answer the same.
 //!
 //! Other lines are `opcode "NAME"`, which tells its row; `area` with what is done to an area; and `refs LIMIT` with what is done to a list of
-//! holes.
+//! fixups.
 //!
 //! `stdout` has what the Z-Machine Standard 1.1 says of each.
 #![tactic(auto)]
 
 mod areas;
 mod failing;
-mod holes;
+mod fixups;
 mod items;
 mod parsing;
 mod proper;
@@ -47,7 +47,7 @@ fn answer(alloc: Global, line: &str) -> Result<String, AllocError> {
         "!" => String::from_str(alloc, line),
         "opcode" => row_of(alloc, line.strip_prefix("opcode ").unwrap_or("")),
         "area" => areas::answer(alloc, line),
-        "refs" => holes::answer(alloc, line),
+        "refs" => fixups::answer(alloc, line),
         _ => routines::answer(alloc, line),
     }
 }

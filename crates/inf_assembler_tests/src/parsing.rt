@@ -1,5 +1,5 @@
 //! Items as a line spells them.
-use crate::holes::called;
+use crate::fixups::called;
 use crate::items::{Item, Parsed};
 use crate::words::word;
 use inf_opcode::{Branch, Label, Opcode, Operand, Target};

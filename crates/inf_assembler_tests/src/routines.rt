@@ -3,7 +3,7 @@ ghost use Rattle.inf_assembler.specs.Routines.{IsOpen, Were, contents_of, moment
 
 use crate::areas::both;
 use crate::failing::Failing;
-use crate::holes::{hole, holes_of};
+use crate::fixups::{fixup, fixups_of};
 use crate::items::{Item, write};
 use crate::parsing::add_items;
 use crate::words::{bytes_of, number_or, word};
@@ -131,11 +131,11 @@ fn in_area<A: Area>(alloc: Global, area: &mut A, plan: &Plan) -> Result<String, 
     let mut refs = Refs::new(alloc, plan.refs);
     for place in 0..plan.before {
         area.push(0xFF)?;
-        let _ = refs.add(hole(place));
+        let _ = refs.add(fixup(place));
     }
     let told = told_of(alloc, area, &mut refs, plan)?;
     let bytes = bytes_of(alloc, area)?;
-    format!(in alloc; "{told}; {bytes}; {}", holes_of(alloc, &refs)?)
+    format!(in alloc; "{told}; {bytes}; {}", fixups_of(alloc, &refs)?)
 }
 
 /// What comes of the routine of a line.

@@ -1,7 +1,7 @@
 //! Routines written out, with the bytes that the Z-Machine Standard 1.1 gives for them.
 
 use crate::expecting::expect;
-use inf_area::{Reference, ReferenceKind};
+use inf_area::{Target, ReferenceKind};
 use inf_assembler::{GrowFault, RoutineKind, Setting};
 use inf_layout::code::{Code, CodeLimits};
 use inf_opcode::{Instruction, Opcode, Operand};
@@ -51,8 +51,8 @@ const ROOMY: CodeLimits = CodeLimits {
 };
 
 /// A routine that is known later, by its number.
-fn routine(number: usize) -> Reference {
-    Reference {
+fn routine(number: usize) -> Target {
+    Target {
         kind: ReferenceKind::PackedAddress,
         number,
     }
@@ -218,7 +218,7 @@ const LIMITED: [(&str, usize, usize, &[Step]); 11] = [
         &[Begins(Some(Setting::Code))],
     ),
     (
-        "the first routine takes a reference",
+        "the first routine takes a target",
         8,
         4,
         &[Begins(Some(Setting::Refs))],
@@ -269,7 +269,7 @@ const LIMITED: [(&str, usize, usize, &[Step]); 11] = [
         ],
     ),
     (
-        "the last reference is the limit",
+        "the last target is the limit",
         1_000,
         7,
         &[

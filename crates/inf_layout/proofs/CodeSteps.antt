@@ -2,19 +2,19 @@
 use Rattle.std.specs.Prelude.{Result, Ok, Err, OnOk, OnErr, ◌≤◌}
 use Rattle.std.proofs.Common.{◌≡◌, ℕ, ◌+◌, List, [], ◌∷◌, ◌++◌, length, take, Option, Some, None, refl, sym, ◌∙◌, ap, subst, arith, append_assoc, length-append, length-take}
 use Rattle.std.proofs.lemmas.List.{take_at, take-take, take_all, length-take-le}
-use Rattle.inf_area.specs.Holes.{Holes}
+use Rattle.inf_area.specs.Fixups.{Fixups}
 use Rattle.inf_opcode.specs.Cells.{long_bytes, label_count}
 use Rattle.inf_opcode.specs.Instructions.{Parts, instruction_cells}
 use Rattle.inf_opcode.proofs.Counting.{labels-append}
 use Rattle.inf_assembler.specs.declared.routines.Closed.{Closed}
 use Rattle.inf_assembler.specs.declared.routines.RoutineKind.{RoutineKind}
-use Rattle.inf_assembler.specs.Routines.{State, Contents, Stands, IsOpen, Holds, Closes, contents_of, fresh, closing, routine_holes, body_bytes}
+use Rattle.inf_assembler.specs.Routines.{State, Contents, Stands, IsOpen, Holds, Closes, contents_of, fresh, closing, routine_fixups, body_bytes}
 use Rattle.inf_layout.specs.Code.{IsCode, AreInOrder, cells_from, size, padded, routine_cells, whole_bytes, with_instruction, routine_limits, zeros_behind}
 use Rattle.inf_layout.specs.declared.code.CodeLimits.{CodeLimits}
 use Rattle.inf_layout.proofs.CodeLemmas.{StandsFor, size-cells_from, stands_for-closed}
 
 -- the bytes of the finished routines
-module _ (limits : CodeLimits) (finished : ℕ) (refs : Holes) (bytes : List ℕ) (routine : Option State) (is : IsCode limits finished refs bytes routine) where
+module _ (limits : CodeLimits) (finished : ℕ) (refs : Fixups) (bytes : List ℕ) (routine : Option State) (is : IsCode limits finished refs bytes routine) where
   pub length_finished : length (take finished bytes) ≡ finished
   length_finished = length-take-le finished bytes is.within
 
@@ -54,7 +54,7 @@ module _ (limits : CodeLimits) (finished : ℕ) (refs : Holes) (bytes : List ℕ
         }
 
 -- an instruction is added to the open routine
-module _ (limits : CodeLimits) (finished : ℕ) (refs : Holes) (bytes new : List ℕ) (routine longer : State) (parts : Parts) (is : IsCode limits finished refs bytes (Some routine))
+module _ (limits : CodeLimits) (finished : ℕ) (refs : Fixups) (bytes new : List ℕ) (routine longer : State) (parts : Parts) (is : IsCode limits finished refs bytes (Some routine))
     (holds : Holds (with_instruction parts (contents_of routine bytes)) routine bytes longer new) where
   pub front_emitted : take finished new ≡ take finished bytes
   front_emitted = subst (λ n. take n new ≡ take n bytes) is.behind.start holds.front
@@ -76,7 +76,7 @@ module _ (limits : CodeLimits) (finished : ℕ) (refs : Holes) (bytes new : List
       }
 
 -- or it is refused
-pub code_or_same : {T E : Type 0} (limits : CodeLimits) (finished : ℕ) (refs : Holes) (bytes new : List ℕ) (routine longer : State) (parts : Parts) → IsCode limits finished refs bytes (Some routine) → label_count (instruction_cells parts) ≡ 0
+pub code_or_same : {T E : Type 0} (limits : CodeLimits) (finished : ℕ) (refs : Fixups) (bytes new : List ℕ) (routine longer : State) (parts : Parts) → IsCode limits finished refs bytes (Some routine) → label_count (instruction_cells parts) ≡ 0
     → (r : Result T E) → OnOk r (Holds (with_instruction parts (contents_of routine bytes)) routine bytes longer new) → OnErr r ((longer ≡ routine) × (new ≡ bytes)) → IsCode limits finished refs new (Some longer)
 code_or_same limits finished refs bytes new routine longer parts is straight (Ok x) holds same =
     code_emitted limits finished refs bytes new routine longer parts is holds straight
@@ -84,7 +84,7 @@ code_or_same limits finished refs bytes new routine longer parts is straight (Er
     subst (λ xs. IsCode limits finished refs xs (Some longer)) (sym same.1) (subst (λ r. IsCode limits finished refs bytes (Some r)) (sym same.0) is)
 
 -- the open routine is closed, and filled up
-module _ (kind : RoutineKind) (limits : CodeLimits) (finished : ℕ) (refs listed : Holes) (bytes written whole : List ℕ) (routine : State) (closed : Closed) (is : IsCode limits finished refs bytes (Some routine))
+module _ (kind : RoutineKind) (limits : CodeLimits) (finished : ℕ) (refs listed : Fixups) (bytes written whole : List ℕ) (routine : State) (closed : Closed) (is : IsCode limits finished refs bytes (Some routine))
     (closes : Closes kind routine.start (contents_of routine bytes) bytes refs closed written listed) where
   pub front_closed : take finished written ≡ take finished bytes
   front_closed =
@@ -102,7 +102,7 @@ module _ (kind : RoutineKind) (limits : CodeLimits) (finished : ℕ) (refs liste
       let body = closes.body in
       let at : finished ≡ length (take finished bytes) = sym (length_finished limits finished refs bytes (Some routine) is) in
       let body_is : body_bytes finished contents ≡ Some body = ap (λ n. body_bytes n contents) (sym start) ∙ closes.is in
-      let listed_is : listed.list ≡ refs.list ++ routine_holes finished contents = ap (λ (h : Holes). h.list) closes.holes ∙ ap (λ n. refs.list ++ routine_holes n contents) start in
+      let listed_is : listed.list ≡ refs.list ++ routine_fixups finished contents = ap (λ (h : Fixups). h.list) closes.fixups ∙ ap (λ n. refs.list ++ routine_fixups n contents) start in
       let written_is : written ≡ take finished bytes ++ contents.locals ∷ body ++ closing kind contents =
       closes.bytes ∙ ap (λ n. take n bytes ++ contents.locals ∷ body ++ closing kind contents) start in
       let count : closed.len ≡ length (whole_bytes kind contents body) =
@@ -118,10 +118,10 @@ module _ (kind : RoutineKind) (limits : CodeLimits) (finished : ℕ) (refs liste
   pub code_after : whole ≡ written ++ zeros_behind closed.len → length whole ≤ limits.code → IsCode limits (length whole) listed whole None
   code_after filled few =
       let end : 0 + length whole ≡ length whole = omega arith in
-      record { within = omega arith; in_order = subst (λ n. AreInOrder 0 listed.list n) end (code_closed filled).in_order; limit = ap (λ (h : Holes). h.limit) closes.holes ∙ is.limit; few = few; behind = tt }
+      record { within = omega arith; in_order = subst (λ n. AreInOrder 0 listed.list n) end (code_closed filled).in_order; limit = ap (λ (h : Fixups). h.limit) closes.fixups ∙ is.limit; few = few; behind = tt }
 
 -- so many bytes it has then
-pub closed_size : (kind : RoutineKind) (limits : CodeLimits) (finished : ℕ) (refs listed : Holes) (bytes written : List ℕ) (routine : State) (closed : Closed) → IsCode limits finished refs bytes (Some routine)
+pub closed_size : (kind : RoutineKind) (limits : CodeLimits) (finished : ℕ) (refs listed : Fixups) (bytes written : List ℕ) (routine : State) (closed : Closed) → IsCode limits finished refs bytes (Some routine)
     → Closes kind routine.start (contents_of routine bytes) bytes refs closed written listed
     → size (cells_from 0 refs.list (take finished bytes) ++ padded (routine_cells (size (cells_from 0 refs.list (take finished bytes))) kind (contents_of routine bytes))) ≡ length written + length (zeros_behind closed.len)
 closed_size kind limits finished refs listed bytes written routine closed is closes =

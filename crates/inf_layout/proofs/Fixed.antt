@@ -8,7 +8,7 @@ use Rattle.inf_area.specs.Words.{word as two_bytes}
 use Rattle.inf_text.specs.Packing.{packed, longest, character_zs}
 use Rattle.inf_layout.specs.Code.{CodeCell, Known, Awaited, cell_bytes, code_bytes}
 use Rattle.inf_layout.specs.Addresses.{Value, Number, RoutineAt, number_of, packed_address}
-use Rattle.inf_layout.specs.Areas.{AreaName, Cell, Reference, cell_bytes as area_cell_bytes, value_cells, cells_of, size, start_routine, gap, fill, word, code_areas, bytes_from, Code}
+use Rattle.inf_layout.specs.Areas.{AreaName, Cell, Target, cell_bytes as area_cell_bytes, value_cells, cells_of, size, start_routine, gap, fill, word, code_areas, bytes_from, Code}
 use Rattle.inf_layout.specs.Fixed.{repeated, fixed_bytes, header_front, header_sizes, header_bytes, start_bytes, body_bytes, story_bytes, is_over_long}
 use Rattle.inf_layout.specs.Story.{is_too_long, base_of, body, story, most_bytes}
 
@@ -23,7 +23,7 @@ numbered (v ∷ values) zero = refl
 numbered (v ∷ values) (suc n) = numbered values n
 
 -- the number behind which a routine lies, as it is written
-in_two_bytes : (base : AreaName → ℕ) (place : ℕ) → base Code ≡ 960 → area_cell_bytes base (Reference Code (8 + place) 4) ≡ two_bytes (packed_address place)
+in_two_bytes : (base : AreaName → ℕ) (place : ℕ) → base Code ≡ 960 → area_cell_bytes base (Target Code (8 + place) 4) ≡ two_bytes (packed_address place)
 in_two_bytes base place e =
     let same : (base Code + (8 + place)) / 4 % 65536 ≡ packed_address place = omega (arith, e) in
     ap (λ n. big_bytes 2 n) same ∙ as_word (packed_address place) (omega arith)

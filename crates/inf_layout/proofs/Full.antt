@@ -1,9 +1,9 @@
 -- Which limit is passed: the first that the assembler finds of its area is the first of the routines.
 use Rattle.std.specs.Prelude.{nat_lt}
 use Rattle.std.proofs.Common.{◌≡◌, ◌⊎◌, inl, inr, ℕ, ◌+◌, ◌-◌, Bool, true, false, cond, List, [], ◌∷◌, ◌++◌, length, take, drop, Option, Some, None, refl, sym, ◌∙◌, ap, arith, length-append}
-use Rattle.inf_area.specs.declared.references.Hole.{Hole}
-use Rattle.inf_area.specs.Holes.{Holes}
-use Rattle.inf_opcode.specs.Cells.{Cell, long_bytes, label_count, hole_count}
+use Rattle.inf_area.specs.declared.fixups.Fixup.{Fixup}
+use Rattle.inf_area.specs.Fixups.{Fixups}
+use Rattle.inf_opcode.specs.Cells.{Cell, long_bytes, label_count, fixup_count}
 use Rattle.inf_assembler.specs.declared.routines.CloseFault.{CloseFault}
 use Rattle.inf_assembler.specs.declared.routines.CloseFault.TheVariants as close_fault
 use Rattle.inf_assembler.specs.declared.routines.GrowFault.{GrowFault}
@@ -18,22 +18,22 @@ use Rattle.inf_layout.specs.Code.{CodeCell, Known, Awaited, known, size, IsCode,
 use Rattle.inf_layout.proofs.CodeSteps.{size_finished}
 use Rattle.inf_layout.proofs.Straight.{straight_fault}
 
--- each hole is a reference that is awaited
+-- each fixup is a reference that is awaited
 awaited-append : (cells others : List CodeCell) → awaited (cells ++ others) ≡ awaited cells + awaited others
 awaited-append [] others = omega arith
 awaited-append ((Known byte) ∷ cells) others = awaited-append cells others
-awaited-append ((Awaited reference) ∷ cells) others = omega (arith, awaited-append cells others)
+awaited-append ((Awaited target) ∷ cells) others = omega (arith, awaited-append cells others)
 
 awaited-known : (bytes : List ℕ) → awaited (known bytes) ≡ 0
 awaited-known [] = refl
 awaited-known (byte ∷ bytes) = awaited-known bytes
 
-pub awaited-cells_from : (place : ℕ) (holes : List Hole) (bytes : List ℕ) → awaited (cells_from place holes bytes) ≡ length holes
+pub awaited-cells_from : (place : ℕ) (fixups : List Fixup) (bytes : List ℕ) → awaited (cells_from place fixups bytes) ≡ length fixups
 awaited-cells_from place [] bytes = awaited-known bytes
-awaited-cells_from place (hole ∷ holes) bytes =
-    let front = take (hole.place - place) bytes in
-    let rest = cells_from (hole.place + 2) holes (drop (hole.place + 2 - place) bytes) in
-    omega (arith, awaited-append (known front) (Awaited hole.reference ∷ rest), awaited-known front, awaited-cells_from (hole.place + 2) holes (drop (hole.place + 2 - place) bytes))
+awaited-cells_from place (fixup ∷ fixups) bytes =
+    let front = take (fixup.place - place) bytes in
+    let rest = cells_from (fixup.place + 2) fixups (drop (fixup.place + 2 - place) bytes) in
+    omega (arith, awaited-append (known front) (Awaited fixup.target ∷ rest), awaited-known front, awaited-cells_from (fixup.place + 2) fixups (drop (fixup.place + 2 - place) bytes))
 
 -- where no limit would be passed, that of bytes is not
 pub code_is_free : (full : Bool) (rest : Option Setting) → cond full (Some setting.Code) rest ≡ None → cond full (Some setting.Code) None ≡ None
@@ -51,7 +51,7 @@ abbrev faults : Bool → Bool → Option CloseFault
 faults code refs = cond code (Some (close_fault.Full setting.Code)) (cond refs (Some (close_fault.Full setting.Refs)) None)
 
 -- more in the open routine, and its end
-module _ (limits : CodeLimits) (finished : ℕ) (refs : Holes) (bytes : List ℕ) (routine : State) (is : IsCode limits finished refs bytes (Some routine)) where
+module _ (limits : CodeLimits) (finished : ℕ) (refs : Fixups) (bytes : List ℕ) (routine : State) (is : IsCode limits finished refs bytes (Some routine)) where
   abbrev before : List CodeCell
   before = cells_from 0 refs.list (take finished bytes)
 
@@ -69,26 +69,26 @@ module _ (limits : CodeLimits) (finished : ℕ) (refs : Holes) (bytes : List ℕ
       let stands = is.behind.open_still in
       let front = take routine.start bytes in
       let long = length (long_bytes cells) in
-      let holes = hole_count cells in
+      let fixups = fixup_count cells in
       let len : length bytes ≡ bytes_with before contents =
       omega (arith, ap length stands.bytes, length-append front (contents.locals ∷ long_bytes contents.cells), stands.start, start_is) in
-      let referred : length refs.list + routine.holes ≡ references_with before contents = omega (arith, refs_are, stands.holes) in
-      ap (λ (l : Limits). of_three (nat_lt l.labels (routine.labels + label_count cells)) (nat_lt l.code (length bytes + long)) (nat_lt refs.limit (length refs.list + routine.holes + holes))) is.behind.limits
-      ∙ ap (λ n. of_three (nat_lt limits.labels (n + label_count cells)) (nat_lt limits.code (length bytes + long)) (nat_lt refs.limit (length refs.list + routine.holes + holes))) stands.labels
-      ∙ ap (λ n. of_three (nat_lt limits.labels (label_count contents.cells + label_count cells)) (nat_lt limits.code (n + long)) (nat_lt refs.limit (length refs.list + routine.holes + holes))) len
-      ∙ ap (λ n. of_three (nat_lt limits.labels (label_count contents.cells + label_count cells)) (nat_lt limits.code (bytes_with before contents + long)) (nat_lt n (length refs.list + routine.holes + holes))) is.limit
-      ∙ ap (λ n. of_three (nat_lt limits.labels (label_count contents.cells + label_count cells)) (nat_lt limits.code (bytes_with before contents + long)) (nat_lt limits.refs (n + holes))) referred
+      let referred : length refs.list + routine.fixups ≡ references_with before contents = omega (arith, refs_are, stands.fixups) in
+      ap (λ (l : Limits). of_three (nat_lt l.labels (routine.labels + label_count cells)) (nat_lt l.code (length bytes + long)) (nat_lt refs.limit (length refs.list + routine.fixups + fixups))) is.behind.limits
+      ∙ ap (λ n. of_three (nat_lt limits.labels (n + label_count cells)) (nat_lt limits.code (length bytes + long)) (nat_lt refs.limit (length refs.list + routine.fixups + fixups))) stands.labels
+      ∙ ap (λ n. of_three (nat_lt limits.labels (label_count contents.cells + label_count cells)) (nat_lt limits.code (n + long)) (nat_lt refs.limit (length refs.list + routine.fixups + fixups))) len
+      ∙ ap (λ n. of_three (nat_lt limits.labels (label_count contents.cells + label_count cells)) (nat_lt limits.code (bytes_with before contents + long)) (nat_lt n (length refs.list + routine.fixups + fixups))) is.limit
+      ∙ ap (λ n. of_three (nat_lt limits.labels (label_count contents.cells + label_count cells)) (nat_lt limits.code (bytes_with before contents + long)) (nat_lt limits.refs (n + fixups))) referred
 
   end_is : (kind : RoutineKind) → fault_of routine.start kind contents routine.limits refs ≡ faults (is_full contents.is_final limits.code (bytes_with before contents)) (nat_lt limits.refs (references_with before contents))
   end_is kind =
       let long = length (long_bytes contents.cells) in
-      let holes = hole_count contents.cells in
+      let fixups = fixup_count contents.cells in
       let final = contents.is_final in
       straight_fault routine.start kind contents routine.limits refs is.behind.straight
-      ∙ ap (λ (l : Limits). faults (is_full final l.code (routine.start + 1 + long)) (nat_lt refs.limit (length refs.list + holes))) is.behind.limits
-      ∙ ap (λ n. faults (is_full final limits.code (n + 1 + long)) (nat_lt refs.limit (length refs.list + holes))) start_is
-      ∙ ap (λ n. faults (is_full final limits.code (bytes_with before contents)) (nat_lt n (length refs.list + holes))) is.limit
-      ∙ ap (λ n. faults (is_full final limits.code (bytes_with before contents)) (nat_lt limits.refs (n + holes))) refs_are
+      ∙ ap (λ (l : Limits). faults (is_full final l.code (routine.start + 1 + long)) (nat_lt refs.limit (length refs.list + fixups))) is.behind.limits
+      ∙ ap (λ n. faults (is_full final limits.code (n + 1 + long)) (nat_lt refs.limit (length refs.list + fixups))) start_is
+      ∙ ap (λ n. faults (is_full final limits.code (bytes_with before contents)) (nat_lt n (length refs.list + fixups))) is.limit
+      ∙ ap (λ n. faults (is_full final limits.code (bytes_with before contents)) (nat_lt limits.refs (n + fixups))) refs_are
 
   abbrev behind : RoutineKind → ℕ
   behind kind = size (before ++ padded (routine_cells (size before) kind contents))

@@ -2,12 +2,12 @@
 use Rattle.std.specs.Prelude.{IsTrue}
 use Rattle.std.proofs.Common.{◌≡◌, ◌⊎◌, inl, inr, ℕ, ◌+◌, Bool, true, false, cond, List, [], ◌∷◌, ◌++◌, length, Option, Some, None, is_some, refl, sym, ◌∙◌, ap, subst, arith}
 use Rattle.std.specs.List.{flat_map}
-use Rattle.inf_area.specs.Holes.{Holes}
+use Rattle.inf_area.specs.Fixups.{Fixups}
 use Rattle.inf_opcode.specs.declared.cells.Special.TheVariants.{Marks, Branches, Jumps, Refers}
 use Rattle.inf_opcode.specs.declared.instructions.Branch.{Branch}
 use Rattle.inf_opcode.specs.declared.instructions.Operand.{Operand}
 use Rattle.inf_opcode.specs.declared.instructions.Operand.TheVariants.{Large, Small, Variable, Later, Offset}
-use Rattle.inf_opcode.specs.Cells.{Cell, Plain, Of, plain, long_bytes, label_count, hole_count}
+use Rattle.inf_opcode.specs.Cells.{Cell, Plain, Of, plain, long_bytes, label_count, fixup_count}
 use Rattle.inf_opcode.specs.Instructions.{Parts, heading, operand_cells, store_cells, branch_cells, instruction_cells, has_no_offset, fits_jump, IsProper}
 use Rattle.inf_opcode.specs.Opcodes.{row_of}
 use Rattle.inf_opcode.proofs.Counting.{labels-append, labels-plain}
@@ -27,7 +27,7 @@ missing_none places ((Plain byte) ∷ cells) straight = missing_none places cell
 missing_none places ((Of (Marks label)) ∷ cells) straight = absurd (omega arith)
 missing_none places ((Of (Branches branch)) ∷ cells) straight = absurd (omega arith)
 missing_none places ((Of (Jumps label)) ∷ cells) straight = absurd (omega arith)
-missing_none places ((Of (Refers reference)) ∷ cells) straight = missing_none places cells straight
+missing_none places ((Of (Refers target)) ∷ cells) straight = missing_none places cells straight
 
 twice_none : (before cells : List Cell) → label_count cells ≡ 0 → twice_behind before cells ≡ None
 twice_none before [] straight = refl
@@ -35,7 +35,7 @@ twice_none before ((Plain byte) ∷ cells) straight = twice_none before cells st
 twice_none before ((Of (Marks label)) ∷ cells) straight = absurd (omega arith)
 twice_none before ((Of (Branches branch)) ∷ cells) straight = absurd (omega arith)
 twice_none before ((Of (Jumps label)) ∷ cells) straight = absurd (omega arith)
-twice_none before ((Of (Refers reference)) ∷ cells) straight = twice_none (before ++ Of (Refers reference) ∷ []) cells straight
+twice_none before ((Of (Refers target)) ∷ cells) straight = twice_none (before ++ Of (Refers target) ∷ []) cells straight
 
 -- the closed bytes are as many as the long ones
 record Closed (long places : Places) (old new : ℕ) (cells : List Cell) : Type 0 where
@@ -51,13 +51,13 @@ closed_some long places old new ((Plain byte) ∷ cells) straight =
 closed_some long places old new ((Of (Marks label)) ∷ cells) straight = absurd (omega arith)
 closed_some long places old new ((Of (Branches branch)) ∷ cells) straight = absurd (omega arith)
 closed_some long places old new ((Of (Jumps label)) ∷ cells) straight = absurd (omega arith)
-closed_some long places old new ((Of (Refers reference)) ∷ cells) straight =
+closed_some long places old new ((Of (Refers target)) ∷ cells) straight =
     let rest = closed_some long places (old + 2) (new + 2) cells straight in
     record { body = 0 ∷ 0 ∷ rest.body; is = ap (with_some (λ xs. (0 ∷ 0 ∷ []) ++ xs)) rest.is; len = omega (arith, rest.len) }
 
 -- so what they are closed to is looked at for the limits alone
-pub straight_fault : (start : ℕ) (kind : RoutineKind) (contents : Contents) (limits : Limits) (refs : Holes) → label_count contents.cells ≡ 0
-    → fault_of start kind contents limits refs ≡ end_fault contents.is_final limits (start + 1 + length (long_bytes contents.cells)) refs (hole_count contents.cells)
+pub straight_fault : (start : ℕ) (kind : RoutineKind) (contents : Contents) (limits : Limits) (refs : Fixups) → label_count contents.cells ≡ 0
+    → fault_of start kind contents limits refs ≡ end_fault contents.is_final limits (start + 1 + length (long_bytes contents.cells)) refs (fixup_count contents.cells)
 straight_fault start kind contents limits refs straight =
     let cells = contents.cells in
     let long = long_places start contents in
@@ -66,7 +66,7 @@ straight_fault start kind contents limits refs straight =
     let far = body_fault full (body_bytes start contents) in
     ap (missing_fault (twice_fault far (twice_behind [] cells))) (missing_none long cells straight)
     ∙ ap (twice_fault far) (twice_none [] cells straight) ∙ ap (body_fault full) closed.is
-    ∙ ap (λ n. end_fault contents.is_final limits (start + 1 + n) refs (hole_count cells)) closed.len
+    ∙ ap (λ n. end_fault contents.is_final limits (start + 1 + n) refs (fixup_count cells)) closed.len
 
 -- so only room can lack
 room_of_end : (code refs : Bool) (refused : CloseFault) → cond code (Some (close_fault.Full Code)) (cond refs (Some (close_fault.Full Refs)) None) ≡ Some refused → IsTrue (is_of_room refused)
@@ -76,11 +76,11 @@ room_of_end false true refused e =
     let same : close_fault.Full Refs ≡ refused = cc in subst (λ f. IsTrue (is_of_room f)) same refl
 room_of_end false false refused e = cc
 
-room_of_fault : (start : ℕ) (kind : RoutineKind) (contents : Contents) (limits : Limits) (refs : Holes) (refused : CloseFault) → label_count contents.cells ≡ 0 → fault_of start kind contents limits refs ≡ Some refused → IsTrue (is_of_room refused)
+room_of_fault : (start : ℕ) (kind : RoutineKind) (contents : Contents) (limits : Limits) (refs : Fixups) (refused : CloseFault) → label_count contents.cells ≡ 0 → fault_of start kind contents limits refs ≡ Some refused → IsTrue (is_of_room refused)
 room_of_fault start kind contents limits refs refused straight is =
     room_of_end _ _ refused (sym (straight_fault start kind contents limits refs straight) ∙ is)
 
-pub room_lacks : (start : ℕ) (kind : RoutineKind) (contents : Contents) (limits : Limits) (refs : Holes) (refused : CloseFault) → label_count contents.cells ≡ 0
+pub room_lacks : (start : ℕ) (kind : RoutineKind) (contents : Contents) (limits : Limits) (refs : Fixups) (refused : CloseFault) → label_count contents.cells ≡ 0
     → (refused ≡ close_fault.Memory) ⊎ (fault_of start kind contents limits refs ≡ Some refused) → IsTrue (is_of_room refused)
 room_lacks start kind contents limits refs refused straight (inl memory) = subst (λ f. IsTrue (is_of_room f)) (sym memory) refl
 room_lacks start kind contents limits refs refused straight (inr fault) = room_of_fault start kind contents limits refs refused straight fault
@@ -91,7 +91,7 @@ labels_operands [] none = refl
 labels_operands ((Large number) ∷ operands) none = labels_operands operands none
 labels_operands ((Small byte) ∷ operands) none = labels_operands operands none
 labels_operands ((Variable number) ∷ operands) none = labels_operands operands none
-labels_operands ((Later reference) ∷ operands) none = labels_operands operands none
+labels_operands ((Later target) ∷ operands) none = labels_operands operands none
 labels_operands ((Offset label) ∷ operands) none = cc
 
 labels_store : (store : Option ℕ) → label_count (store_cells store) ≡ 0

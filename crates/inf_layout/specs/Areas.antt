@@ -47,7 +47,7 @@ rank Strings = 14
 -- An item of an area: a byte, or the two bytes of a reference, which is the address of a place in an area, divided.
 pub data Cell : Type 0 where
   Byte : (value : ℕ) → Cell
-  Reference : (area : AreaName) (place : ℕ) (divisor : ℕ) → Cell
+  Target : (area : AreaName) (place : ℕ) (divisor : ℕ) → Cell
 
 pub record Area : Type 0 where
   pub name : AreaName
@@ -65,7 +65,7 @@ word n = big_bytes 2 (n % 65536)
 
 abbrev pub cell_size : Cell → ℕ
 cell_size (Byte value) = 1
-cell_size (Reference area place divisor) = 2
+cell_size (Target area place divisor) = 2
 
 abbrev pub size : List Cell → ℕ
 size [] = 0
@@ -88,7 +88,7 @@ base_from at (a ∷ areas) name =
 
 abbrev pub cell_bytes : (AreaName → ℕ) → Cell → List ℕ
 cell_bytes base (Byte value) = value ∷ []
-cell_bytes base (Reference area place divisor) = word ((base area + place) / divisor)
+cell_bytes base (Target area place divisor) = word ((base area + place) / divisor)
 
 -- zeros up to the next multiple
 abbrev pub fill : ℕ → ℕ → List ℕ
@@ -108,7 +108,7 @@ low_strings = bytes_cells (packed (map Character (codes "   ")) [])
 
 -- a reference to the first low string for each of 96 abbreviations (section 3.3)
 abbrev pub abbreviation_words : List Cell
-abbreviation_words = replicate 96 (Reference LowStrings 0 2)
+abbreviation_words = replicate 96 (Target LowStrings 0 2)
 
 -- 63 words 0 (section 12.2)
 abbrev pub property_defaults : List Cell
@@ -125,7 +125,7 @@ property_table name =
 
 -- an object with no attributes and no relatives: six bytes, three words, and where its table is (section 12.3.2)
 abbrev pub object : ℕ → List Cell
-object place = replicate 12 (Byte 0) ++ Reference PropertyTables place 1 ∷ []
+object place = replicate 12 (Byte 0) ++ Target PropertyTables place 1 ∷ []
 
 -- the objects, with the places of their tables one behind the other
 abbrev pub objects_from : ℕ → List (List ℕ) → List Cell
@@ -142,7 +142,7 @@ area name cells = record { name = name; alignment = 1; cells = cells }
 -- The first routine, with no locals: it calls the routine at this place of the code and quits.
 -- Packed addresses are divided by 4 (sections 1.2.3, 14; 5.2).
 abbrev pub start_routine : ℕ → List Cell
-start_routine main = Byte 0 ∷ Byte 0x8F ∷ Reference Code main 4 ∷ Byte 0xBA ∷ bytes_cells (replicate 3 0)
+start_routine main = Byte 0 ∷ Byte 0x8F ∷ Target Code main 4 ∷ Byte 0xBA ∷ bytes_cells (replicate 3 0)
 
 -- the areas that are the same in every story, and those behind them
 abbrev pub with_fixed_areas : List Area → List Area
@@ -166,7 +166,7 @@ with_fixed_areas behind =
 -- stands 0.
 abbrev pub value_cells : Option Value → List Cell
 value_cells (Some (Number number)) = bytes_cells (two_bytes number)
-value_cells (Some (RoutineAt place)) = Reference Code (8 + place) 4 ∷ []
+value_cells (Some (RoutineAt place)) = Target Code (8 + place) 4 ∷ []
 value_cells None = bytes_cells (0 ∷ 0 ∷ [])
 
 -- a cell of the code, with what all names are

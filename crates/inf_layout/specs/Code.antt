@@ -2,11 +2,11 @@
 use Rattle.std.specs.Prelude.{◌≡◌, ℕ, ◌+◌, ◌-◌, ◌%◌, ◌≤◌, ◌<◌, ◌^◌, Bool, true, false, nat_lt, if◌then◌else◌, List, [], ◌∷◌, ◌++◌, length, map, take, drop, slice_get, Option, Some, None}
 use Rattle.std.specs.List.{flat_map}
 use Rattle.std.specs.Option.{unwrap_or}
-use Rattle.inf_area.specs.declared.references.Hole.{Hole}
-use Rattle.inf_area.specs.declared.references.Reference.{Reference}
-use Rattle.inf_area.specs.Holes.{Holes}
+use Rattle.inf_area.specs.declared.fixups.Fixup.{Fixup}
+use Rattle.inf_area.specs.declared.targets.Target.{Target}
+use Rattle.inf_area.specs.Fixups.{Fixups}
 use Rattle.inf_area.specs.Words.{word}
-use Rattle.inf_opcode.specs.Cells.{Cell, long_bytes, label_count, hole_count}
+use Rattle.inf_opcode.specs.Cells.{Cell, long_bytes, label_count, fixup_count}
 use Rattle.inf_opcode.specs.Instructions.{Parts, instruction_cells}
 use Rattle.inf_opcode.specs.Opcodes.{row_of}
 use Rattle.inf_assembler.specs.declared.routines.CloseFault.{CloseFault}
@@ -15,13 +15,13 @@ use Rattle.inf_assembler.specs.declared.routines.Limits.{Limits}
 use Rattle.inf_assembler.specs.declared.routines.RoutineKind.{RoutineKind}
 use Rattle.inf_assembler.specs.declared.routines.Setting.{Setting}
 use Rattle.inf_assembler.specs.declared.routines.Setting.TheVariants as setting
-use Rattle.inf_assembler.specs.Routines.{State, Contents, IsOpen, contents_of, fresh, with_cells, body_bytes, closing, routine_holes, is_full}
+use Rattle.inf_assembler.specs.Routines.{State, Contents, IsOpen, contents_of, fresh, with_cells, body_bytes, closing, routine_fixups, is_full}
 use Rattle.inf_layout.specs.declared.code.CodeLimits.{CodeLimits}
 
 -- a byte, or the two bytes that a reference's number takes
 pub data CodeCell : Type 0 where
   Known : (byte : ℕ) → CodeCell
-  Awaited : (reference : Reference) → CodeCell
+  Awaited : (target : Target) → CodeCell
 
 -- bytes as cells
 abbrev pub known : List ℕ → List CodeCell
@@ -30,7 +30,7 @@ known bytes = map Known bytes
 -- the number of bytes of a cell, and of cells
 abbrev pub cell_size : CodeCell → ℕ
 cell_size (Known byte) = 1
-cell_size (Awaited reference) = 2
+cell_size (Awaited target) = 2
 
 abbrev pub size : List CodeCell → ℕ
 size [] = 0
@@ -48,28 +48,28 @@ abbrev pub padded : List CodeCell → List CodeCell
 padded cells = cells ++ padding (size cells)
 
 -- the number of a reference, by a list of numbers; 0 where the list is too short
-abbrev pub number_in : List ℕ → Reference → ℕ
-number_in numbers reference = unwrap_or (slice_get numbers reference.number) 0
+abbrev pub number_in : List ℕ → Target → ℕ
+number_in numbers target = unwrap_or (slice_get numbers target.number) 0
 
 -- the bytes of a cell, and of cells, whose references have these numbers
 abbrev pub cell_bytes : List ℕ → CodeCell → List ℕ
 cell_bytes numbers (Known byte) = byte ∷ []
-cell_bytes numbers (Awaited reference) = word (number_in numbers reference)
+cell_bytes numbers (Awaited target) = word (number_in numbers target)
 
 abbrev pub code_bytes : List ℕ → List CodeCell → List ℕ
 code_bytes numbers cells = flat_map (cell_bytes numbers) cells
 
--- What bytes with holes stand for, from a place on: the bytes before the first hole, its reference, and what is behind it.
-abbrev pub cells_from : ℕ → List Hole → List ℕ → List CodeCell
+-- What bytes with fixups stand for, from a place on: the bytes before the first fixup, its reference, and what is behind it.
+abbrev pub cells_from : ℕ → List Fixup → List ℕ → List CodeCell
 cells_from place [] bytes = known bytes
-cells_from place (hole ∷ holes) bytes =
-    known (take (hole.place - place) bytes)
-    ++ Awaited hole.reference ∷ cells_from (hole.place + 2) holes (drop (hole.place + 2 - place) bytes)
+cells_from place (fixup ∷ fixups) bytes =
+    known (take (fixup.place - place) bytes)
+    ++ Awaited fixup.target ∷ cells_from (fixup.place + 2) fixups (drop (fixup.place + 2 - place) bytes)
 
--- that holes stand one behind the other from a place on, each of two bytes, and end before an end
-abbrev pub AreInOrder : ℕ → List Hole → ℕ → Type 0
+-- that fixups stand one behind the other from a place on, each of two bytes, and end before an end
+abbrev pub AreInOrder : ℕ → List Fixup → ℕ → Type 0
 AreInOrder place [] end = place ≤ end
-AreInOrder place (hole ∷ holes) end = (place ≤ hole.place) × AreInOrder (hole.place + 2) holes end
+AreInOrder place (fixup ∷ fixups) end = (place ≤ fixup.place) × AreInOrder (fixup.place + 2) fixups end
 
 -- a routine that stands at a place, whose items have these bytes: its number of locals, these, and what returns where control
 -- runs past the last (Z-Machine Standard 1.1, section 5)
@@ -78,7 +78,7 @@ whole_bytes kind contents body = contents.locals ∷ body ++ closing kind conten
 
 abbrev pub cells_with : ℕ → RoutineKind → Contents → Option (List ℕ) → List CodeCell
 cells_with place kind contents None = []
-cells_with place kind contents (Some body) = cells_from place (routine_holes place contents) (whole_bytes kind contents body)
+cells_with place kind contents (Some body) = cells_from place (routine_fixups place contents) (whole_bytes kind contents body)
 
 -- The routine, with the bytes and the references that it has when it is closed; nothing where an offset does not fit.
 abbrev pub routine_cells : ℕ → RoutineKind → Contents → List CodeCell
@@ -132,14 +132,14 @@ open_in bytes (Some routine) = Some (contents_of routine bytes)
 abbrev pub awaited : List CodeCell → ℕ
 awaited [] = 0
 awaited ((Known byte) ∷ cells) = awaited cells
-awaited ((Awaited reference) ∷ cells) = 1 + awaited cells
+awaited ((Awaited target) ∷ cells) = 1 + awaited cells
 
 -- the bytes of finished routines and of an open one behind them, with every branch long, and their references
 abbrev pub bytes_with : List CodeCell → Contents → ℕ
 bytes_with finished contents = size finished + 1 + length (long_bytes contents.cells)
 
 abbrev pub references_with : List CodeCell → Contents → ℕ
-references_with finished contents = awaited finished + hole_count contents.cells
+references_with finished contents = awaited finished + fixup_count contents.cells
 
 -- the first limit that the beginning of code would pass
 abbrev pub full_first : CodeLimits → Option Setting
@@ -187,7 +187,7 @@ full_behind limits finished cells None = None
 full_behind limits finished cells (Some contents) =
     if nat_lt limits.labels (label_count contents.cells + label_count cells) then Some setting.Labels else
     if nat_lt limits.code (bytes_with finished contents + length (long_bytes cells)) then Some setting.Code else
-    if nat_lt limits.refs (references_with finished contents + hole_count cells) then Some setting.Refs else None
+    if nat_lt limits.refs (references_with finished contents + fixup_count cells) then Some setting.Refs else None
 
 abbrev pub full_with : Parts → Routines → Option Setting
 full_with parts routines = full_behind (room routines.limits) routines.finished (instruction_cells parts) routines.opened
@@ -219,8 +219,8 @@ abbrev pub IsBehind : CodeLimits → ℕ → List ℕ → Option State → Type 
 IsBehind limits place bytes None = Unit {0}
 IsBehind limits place bytes (Some routine) = StandsBehind limits place bytes routine
 
--- what code is: finished routines of so many bytes, holes in them, and an open routine
-pub record IsCode (limits : CodeLimits) (finished : ℕ) (refs : Holes) (bytes : List ℕ) (routine : Option State) : Type 0 where
+-- what code is: finished routines of so many bytes, fixups in them, and an open routine
+pub record IsCode (limits : CodeLimits) (finished : ℕ) (refs : Fixups) (bytes : List ℕ) (routine : Option State) : Type 0 where
   pub within : finished ≤ length bytes
   pub in_order : AreInOrder 0 refs.list finished
   pub limit : refs.limit ≡ limits.refs

@@ -10,7 +10,7 @@ ghost use Rattle.inf_assembler.specs.declared.routines.GrowFault.TheVariants as 
 ghost use Rattle.inf_assembler.specs.Routines.{refusal};
 ghost use Rattle.inf_layout.specs.Code.{begun, code_count, reference_count, room, full_begun, full_behind_bytes, full_first, size, number_in, code_bytes, with_item, with_closed, with_none_open, with_opened, full_opened, full_with, full_closed, is_of_room, zeros_behind};
 
-use inf_area::{Area, FlatArea, Reference, Refs};
+use inf_area::{Area, FlatArea, Target, Refs};
 use inf_assembler::{CloseFault, GrowFault, Limits, Routine, RoutineKind, Setting};
 use inf_opcode::Instruction;
 use std::alloc::Global;
@@ -74,7 +74,7 @@ impl CodeLimits {
 }
 
 /// The routines of a story: the bytes of the finished ones, with zeros in place of each number that
-/// is known later, and the holes where these go; and behind them the routine that is open, if any.
+/// is known later, and the fixups where these go; and behind them the routine that is open, if any.
 #[derive(Debug, Drop)]
 pub struct Code {
     limits: CodeLimits,
@@ -251,8 +251,8 @@ impl Code {
         let mut area = self.area;
         let refs = self.refs;
         cut_back(&mut area, self.finished);
-        for hole in refs.as_slice() {
-            area.patch_word(hole.place, number_in(numbers, hole.reference));
+        for fixup in refs.as_slice() {
+            area.patch_word(fixup.place, number_in(numbers, fixup.target));
         }
         area
     }
@@ -279,10 +279,10 @@ fn fill_up(area: &mut FlatArea, len: usize, limit: usize) -> Result<(), GrowFaul
 }
 
 /// The number of a reference, or 0 where the list is too short.
-fn number_in(numbers: &[u16], reference: Reference) -> u16
-    ensures { result ≡ number_in numbers.now reference }
+fn number_in(numbers: &[u16], target: Target) -> u16
+    ensures { result ≡ number_in numbers.now target }
 {
-    numbers.get(reference.number).copied().unwrap_or(0)
+    numbers.get(target.number).copied().unwrap_or(0)
 }
 
 /// Keeps the first bytes of an area, which has so many.

@@ -5,7 +5,7 @@ use Rattle.std.proofs.lemmas.List.Concat.{flat_map-append}
 use Rattle.std.specs.List.{flat_map}
 use Rattle.inf_opcode.specs.declared.instructions.Operand.{Operand}
 use Rattle.inf_opcode.specs.declared.cells.Special.TheVariants.{Marks, Branches, Jumps, Refers}
-use Rattle.inf_opcode.specs.Cells.{Cell, Plain, Of, plain, long_bytes, label_count, hole_count}
+use Rattle.inf_opcode.specs.Cells.{Cell, Plain, Of, plain, long_bytes, label_count, fixup_count}
 use Rattle.inf_opcode.specs.Instructions.{operand_cells}
 use Rattle.inf_opcode.proofs.Growing.{long-append}
 
@@ -18,23 +18,23 @@ labels-append ((Plain byte) ∷ xs) ys = labels-append xs ys
 labels-append ((Of (Marks label)) ∷ xs) ys = omega (arith, labels-append xs ys)
 labels-append ((Of (Branches branch)) ∷ xs) ys = omega (arith, labels-append xs ys)
 labels-append ((Of (Jumps label)) ∷ xs) ys = omega (arith, labels-append xs ys)
-labels-append ((Of (Refers reference)) ∷ xs) ys = labels-append xs ys
+labels-append ((Of (Refers target)) ∷ xs) ys = labels-append xs ys
 
-pub holes-append : (xs ys : List Cell) → hole_count (xs ++ ys) ≡ hole_count xs + hole_count ys
-holes-append [] ys = omega arith
-holes-append ((Plain byte) ∷ xs) ys = holes-append xs ys
-holes-append ((Of (Marks label)) ∷ xs) ys = holes-append xs ys
-holes-append ((Of (Branches branch)) ∷ xs) ys = holes-append xs ys
-holes-append ((Of (Jumps label)) ∷ xs) ys = holes-append xs ys
-holes-append ((Of (Refers reference)) ∷ xs) ys = omega (arith, holes-append xs ys)
+pub fixups-append : (xs ys : List Cell) → fixup_count (xs ++ ys) ≡ fixup_count xs + fixup_count ys
+fixups-append [] ys = omega arith
+fixups-append ((Plain byte) ∷ xs) ys = fixups-append xs ys
+fixups-append ((Of (Marks label)) ∷ xs) ys = fixups-append xs ys
+fixups-append ((Of (Branches branch)) ∷ xs) ys = fixups-append xs ys
+fixups-append ((Of (Jumps label)) ∷ xs) ys = fixups-append xs ys
+fixups-append ((Of (Refers target)) ∷ xs) ys = omega (arith, fixups-append xs ys)
 
 pub labels-plain : (bytes : List ℕ) → label_count (plain bytes) ≡ 0
 labels-plain [] = refl
 labels-plain (byte ∷ bytes) = labels-plain bytes
 
-pub holes-plain : (bytes : List ℕ) → hole_count (plain bytes) ≡ 0
-holes-plain [] = refl
-holes-plain (byte ∷ bytes) = holes-plain bytes
+pub fixups-plain : (bytes : List ℕ) → fixup_count (plain bytes) ≡ 0
+fixups-plain [] = refl
+fixups-plain (byte ∷ bytes) = fixups-plain bytes
 
 -- one more operand
 pub operands_more : (operands : List Operand) (i : ℕ) (d : Operand) → i < length operands → flat_map operand_cells (take (i + 1) operands) ≡ flat_map operand_cells (take i operands) ++ operand_cells (get_or operands i d)

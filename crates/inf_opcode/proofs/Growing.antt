@@ -12,7 +12,7 @@ pub length-special : (what : Special) → length (special_bytes what) ≡ specia
 length-special (Marks label) = refl
 length-special (Branches branch) = refl
 length-special (Jumps label) = refl
-length-special (Refers reference) = refl
+length-special (Refers target) = refl
 
 pub long-append : (xs ys : List Cell) → long_bytes (xs ++ ys) ≡ long_bytes xs ++ long_bytes ys
 long-append xs ys = flat_map-append cell_bytes xs ys

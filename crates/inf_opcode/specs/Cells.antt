@@ -18,7 +18,7 @@ abbrev pub special_size : Special → ℕ
 special_size (Marks label) = 0
 special_size (Branches branch) = 2
 special_size (Jumps label) = 2
-special_size (Refers reference) = 2
+special_size (Refers target) = 2
 
 -- The bytes while the routine is open: a branch has its sense in the top bit (Z-Machine Standard 1.1, section 4.7), and the rest is zero.
 abbrev pub sense_bit : Bool → ℕ
@@ -28,7 +28,7 @@ abbrev pub special_bytes : Special → List ℕ
 special_bytes (Marks label) = []
 special_bytes (Branches branch) = sense_bit branch.sense ∷ 0 ∷ []
 special_bytes (Jumps label) = 0 ∷ 0 ∷ []
-special_bytes (Refers reference) = 0 ∷ 0 ∷ []
+special_bytes (Refers target) = 0 ∷ 0 ∷ []
 
 abbrev pub cell_bytes : Cell → List ℕ
 cell_bytes (Plain byte) = byte ∷ []
@@ -44,15 +44,15 @@ label_count ((Plain byte) ∷ cells) = label_count cells
 label_count ((Of (Marks label)) ∷ cells) = 1 + label_count cells
 label_count ((Of (Branches branch)) ∷ cells) = 1 + label_count cells
 label_count ((Of (Jumps label)) ∷ cells) = 1 + label_count cells
-label_count ((Of (Refers reference)) ∷ cells) = label_count cells
+label_count ((Of (Refers target)) ∷ cells) = label_count cells
 
-abbrev pub hole_count : List Cell → ℕ
-hole_count [] = 0
-hole_count ((Plain byte) ∷ cells) = hole_count cells
-hole_count ((Of (Marks label)) ∷ cells) = hole_count cells
-hole_count ((Of (Branches branch)) ∷ cells) = hole_count cells
-hole_count ((Of (Jumps label)) ∷ cells) = hole_count cells
-hole_count ((Of (Refers reference)) ∷ cells) = 1 + hole_count cells
+abbrev pub fixup_count : List Cell → ℕ
+fixup_count [] = 0
+fixup_count ((Plain byte) ∷ cells) = fixup_count cells
+fixup_count ((Of (Marks label)) ∷ cells) = fixup_count cells
+fixup_count ((Of (Branches branch)) ∷ cells) = fixup_count cells
+fixup_count ((Of (Jumps label)) ∷ cells) = fixup_count cells
+fixup_count ((Of (Refers target)) ∷ cells) = 1 + fixup_count cells
 
 -- what a routine keeps of cells that stand from a place on, all of them long
 abbrev pub kept_from : ℕ → List Cell → List Kept

@@ -31,21 +31,21 @@ abbrev pub type_code : Operand → ℕ
 type_code (Large word) = 0
 type_code (Small byte) = 1
 type_code (Variable number) = 2
-type_code (Later reference) = 0
+type_code (Later target) = 0
 type_code (Offset label) = 0
 
 abbrev pub is_byte : Operand → Bool
 is_byte (Large word) = false
 is_byte (Small byte) = true
 is_byte (Variable number) = true
-is_byte (Later reference) = false
+is_byte (Later target) = false
 is_byte (Offset label) = false
 
 abbrev pub is_variable : Operand → Bool
 is_variable (Large word) = false
 is_variable (Small byte) = false
 is_variable (Variable number) = true
-is_variable (Later reference) = false
+is_variable (Later target) = false
 is_variable (Offset label) = false
 
 -- the type of the operand at a place, or 3 where there is none (section 4.4.3)
@@ -90,7 +90,7 @@ abbrev pub operand_cells : Operand → List Cell
 operand_cells (Large number) = plain (word number)
 operand_cells (Small byte) = Plain byte ∷ []
 operand_cells (Variable number) = Plain number ∷ []
-operand_cells (Later reference) = Of (Refers reference) ∷ []
+operand_cells (Later target) = Of (Refers target) ∷ []
 operand_cells (Offset label) = Of (Jumps label) ∷ []
 
 -- a store variable in a byte (section 4.6)

@@ -1,7 +1,7 @@
 //! What an open routine keeps of the bytes that it wrote.
 
 use crate::instructions::{Branch, Label};
-use inf_area::Reference;
+use inf_area::Target;
 
 /// What stands at a place that is no plain byte.
 #[derive(Clone, Copy, Debug, PartialEq, Eq)]
@@ -13,7 +13,7 @@ pub enum Special {
     /// The offset to a label in two bytes.
     Jumps(Label),
     /// A number that is known later, in two bytes.
-    Refers(Reference),
+    Refers(Target),
 }
 
 /// Such a thing with its place in the area.

@@ -4,7 +4,7 @@ ghost use Rattle.inf_opcode.specs.Instructions.{type_code, is_byte, is_variable,
 ghost use Rattle.inf_opcode.specs.PartsOf.{parts_of};
 
 use crate::opcodes::Opcode;
-use inf_area::Reference;
+use inf_area::Target;
 
 /// The most operands that an instruction has.
 pub const MOST_OPERANDS: usize = 8;
@@ -41,7 +41,7 @@ pub enum Operand {
     /// A variable by its number: 0 is the top of the stack, 1 to 15 are locals, 16 to 255 globals.
     Variable(u8),
     /// A constant of two bytes that is known later, and zero until then.
-    Later(Reference),
+    Later(Target),
     /// The offset to a label in two bytes, which `jump` takes.
     Offset(Label),
 }

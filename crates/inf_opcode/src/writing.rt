@@ -3,7 +3,7 @@ ghost use Rattle.std.specs.Prelude.{◌≡◌, ◌+◌, ◌*◌, ◌<◌, ◌≤
 ghost use Rattle.std.specs.List.{flat_map};
 ghost use Rattle.inf_opcode.specs.declared.cells.Kept.{Kept};
 ghost use Rattle.inf_opcode.specs.declared.instructions.Operand.{Operand};
-ghost use Rattle.inf_opcode.specs.Cells.{sense_bit, long_bytes, label_count, hole_count, kept_from};
+ghost use Rattle.inf_opcode.specs.Cells.{sense_bit, long_bytes, label_count, fixup_count, kept_from};
 ghost use Rattle.inf_opcode.specs.Grown.{Grew, Longer};
 ghost use Rattle.inf_opcode.specs.Opcodes.{is_encodable};
 ghost use Rattle.inf_opcode.specs.Instructions.{type_slot, types_byte, types_bytes, variable_bit, is_long, heading, operand_cells, store_cells, branch_cells, front_cells, instruction_cells};
@@ -192,7 +192,7 @@ fn keep_operand(kept: &mut Vec<Kept>, place: usize, operand: Operand) -> Result<
     ensures err { OnErr result (kept.new.items ≡ kept.old.items) }
 {
     let what = match operand {
-        Operand::Later(reference) => Special::Refers(reference),
+        Operand::Later(target) => Special::Refers(target),
         Operand::Offset(label) => Special::Jumps(label),
         Operand::Large(_) | Operand::Small(_) | Operand::Variable(_) => return Ok(()),
     };
@@ -305,7 +305,7 @@ pub struct Counts {
     /// Its label marks, branches and jumps.
     pub labels: usize,
     /// Its references.
-    pub holes: usize,
+    pub fixups: usize,
 }
 
 // How much an operand takes.
@@ -313,9 +313,9 @@ fn operand_counts(operand: Operand) -> Counts
     ensures value { result ≡ counts_of (operand_cells operand) }
     ensures bytes { result.bytes ≤ 2 }
     ensures labels { result.labels ≤ 1 }
-    ensures holes { result.holes ≤ 1 }
+    ensures fixups { result.fixups ≤ 1 }
 {
-    let (bytes, labels, holes) = match operand {
+    let (bytes, labels, fixups) = match operand {
         Operand::Large(_) => (2, 0, 0),
         Operand::Small(_) | Operand::Variable(_) => (1, 0, 0),
         Operand::Later(_) => (2, 0, 1),
@@ -324,7 +324,7 @@ fn operand_counts(operand: Operand) -> Counts
     Counts {
         bytes,
         labels,
-        holes,
+        fixups,
     }
 }
 
@@ -334,21 +334,21 @@ fn operands_counts(operands: &[Operand]) -> Counts
     ensures value { result ≡ counts_of (flat_map operand_cells operands.now) }
     ensures bytes { result.bytes ≤ 16 }
     ensures labels { result.labels ≤ 8 }
-    ensures holes { result.holes ≤ 8 }
+    ensures fixups { result.fixups ≤ 8 }
 {
     let mut bytes = 0;
     let mut labels = 0;
-    let mut holes = 0;
+    let mut fixups = 0;
     for operand in operands {
         let one = operand_counts(*operand);
         bytes += one.bytes;
         labels += one.labels;
-        holes += one.holes;
+        fixups += one.fixups;
     }
     Counts {
         bytes,
         labels,
-        holes,
+        fixups,
     }
 }
 
@@ -356,7 +356,7 @@ fn operands_counts(operands: &[Operand]) -> Counts
 fn store_len(store: Option<u8>) -> usize
     ensures bytes { result ≡ length (long_bytes (store_cells store)) }
     ensures labels { label_count (store_cells store) ≡ 0 }
-    ensures holes { hole_count (store_cells store) ≡ 0 }
+    ensures fixups { fixup_count (store_cells store) ≡ 0 }
     ensures small { result ≤ 1 }
 {
     match store {
@@ -369,7 +369,7 @@ fn store_len(store: Option<u8>) -> usize
 fn branch_count(branch: Option<Branch>) -> usize
     ensures bytes { 2 * result ≡ length (long_bytes (branch_cells branch)) }
     ensures labels { result ≡ label_count (branch_cells branch) }
-    ensures holes { hole_count (branch_cells branch) ≡ 0 }
+    ensures fixups { fixup_count (branch_cells branch) ≡ 0 }
     ensures small { result ≤ 1 }
 {
     match branch {
@@ -383,7 +383,7 @@ pub fn instruction_counts(instruction: &Instruction<'_>) -> Counts
     requires few { length (parts_of instruction.now).operands ≤ 8 }
     ensures value { result ≡ counts_of (front_cells (parts_of instruction.now)) }
     ensures labels { result.labels ≤ 9 }
-    ensures holes { result.holes ≤ 9 }
+    ensures fixups { result.fixups ≤ 9 }
 {
     let operands = instruction.operands;
     let head = heading_len(instruction.opcode.row(), operands);
@@ -393,6 +393,6 @@ pub fn instruction_counts(instruction: &Instruction<'_>) -> Counts
     Counts {
         bytes: head + given.bytes + store + 2 * branch,
         labels: given.labels + branch,
-        holes: given.holes,
+        fixups: given.fixups,
     }
 }

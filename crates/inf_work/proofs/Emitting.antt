@@ -22,7 +22,7 @@ no_offset_more [] more none last = last
 no_offset_more ((operand.Large number) ∷ operands) more none last = no_offset_more operands more none last
 no_offset_more ((operand.Small byte) ∷ operands) more none last = no_offset_more operands more none last
 no_offset_more ((operand.Variable number) ∷ operands) more none last = no_offset_more operands more none last
-no_offset_more ((operand.Later reference) ∷ operands) more none last = no_offset_more operands more none last
+no_offset_more ((operand.Later target) ∷ operands) more none last = no_offset_more operands more none last
 no_offset_more ((operand.Offset label) ∷ operands) more none last = cc
 
 -- the opcodes of calls

@@ -6,7 +6,7 @@ use Rattle.inf_opcode.specs.declared.opcodes.Opcode.{Opcode}
 use Rattle.inf_opcode.specs.declared.opcodes.Opcode.TheVariants as opcode
 use Rattle.inf_opcode.specs.declared.instructions.Operand.{Operand}
 use Rattle.inf_opcode.specs.declared.instructions.Operand.TheVariants as operand
-use Rattle.inf_area.specs.declared.references.ReferenceKind.TheVariants as reference
+use Rattle.inf_area.specs.declared.targets.TargetKind.TheVariants as target
 use Rattle.inf_opcode.specs.Instructions.{Parts, bare}
 use Rattle.inf_scanner.specs.declared.tokens.Place.{Place}
 use Rattle.inf_settings.specs.declared.setting.Setting.{Setting}
@@ -126,7 +126,7 @@ abbrev pub used : Option ReferFault → Name → Operands → Operands
 used (Some fault) n o = record o { full = Some setting.Symbols }
 used None n o = record o {
   names = with_used n.bytes n.place o.names;
-  operands = o.operands ++ operand.Later (record { kind = reference.PackedAddress; number = unwrap_or (symbol_number n.bytes o.names) 0 }) ∷ [];
+  operands = o.operands ++ operand.Later (record { kind = target.PackedAddress; number = unwrap_or (symbol_number n.bytes o.names) 0 }) ∷ [];
 }
 
 -- a known number, in one byte where it fits

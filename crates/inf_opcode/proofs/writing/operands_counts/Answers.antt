@@ -2,9 +2,9 @@
 use Rattle.std.proofs.Common.{ap, get_or, take, length, arith}
 use Rattle.std.specs.List.{flat_map}
 use Rattle.inf_opcode.specs.declared.instructions.Operand.TheVariants.{Large}
-use Rattle.inf_opcode.specs.Cells.{long_bytes, label_count, hole_count}
+use Rattle.inf_opcode.specs.Cells.{long_bytes, label_count, fixup_count}
 use Rattle.inf_opcode.specs.Instructions.{operand_cells}
-use Rattle.inf_opcode.proofs.Counting.{length-long, labels-append, holes-append, operands_more}
+use Rattle.inf_opcode.proofs.Counting.{length-long, labels-append, fixups-append, operands_more}
 use Rattle.inf_opcode.proofs.writing.operands_counts.Goals as goal
 
 pub loop-operand-preserved : goal.loop-operand-preserved
@@ -19,8 +19,8 @@ loop-operand-preserved c =
     record {
       bytes = omega (arith, now.bytes, ap (λ x. x.bytes) one.value, length-long before here, ap (λ cs. length (long_bytes cs)) more);
       labels = omega (arith, now.labels, ap (λ x. x.labels) one.value, labels-append before here, ap label_count more);
-      holes = omega (arith, now.holes, ap (λ x. x.holes) one.value, holes-append before here, ap hole_count more);
+      fixups = omega (arith, now.fixups, ap (λ x. x.fixups) one.value, fixups-append before here, ap fixup_count more);
       few_bytes = omega (arith, now.few_bytes, one.bytes);
       few_labels = omega (arith, now.few_labels, one.labels);
-      few_holes = omega (arith, now.few_holes, one.holes);
+      few_fixups = omega (arith, now.few_fixups, one.fixups);
     }

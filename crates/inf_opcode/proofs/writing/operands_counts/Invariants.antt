@@ -11,8 +11,8 @@ invariant-loop-operand l =
     record {
       bytes : l.bytes ≡ counts.bytes;
       labels : l.labels ≡ counts.labels;
-      holes : l.holes ≡ counts.holes;
+      fixups : l.fixups ≡ counts.fixups;
       few_bytes : l.bytes ≤ 2 * l.operand-index;
       few_labels : l.labels ≤ l.operand-index;
-      few_holes : l.holes ≤ l.operand-index;
+      few_fixups : l.fixups ≤ l.operand-index;
     }

@@ -14,7 +14,7 @@ kept_of len end at n bytes now e within known =
 
 pub invariant_of-self : goal.invariant_of-self
 invariant_of-self c =
-    let kept = kept_of c.self.inside.len c.len-end.result c.args.at c.args.n (page_bytes c.self.inside.pages.items) c.args.self.now c.len-end.ensures c.requires (c.self.view_is ∙ c.move_left.ensures) in
+    let kept = kept_of c.self.inside.len c.len-end.result c.args.at c.args.n (page_bytes c.self.inside.pages.items) c.args.self.now c.len-end.ensures.value c.requires (c.self.view_is ∙ c.move_left.ensures) in
     record { whole = c.self.invariant.whole; within = omega (arith, c.self.invariant.within); counted = c.self.invariant.counted }
 
 pub returns : goal.returns
@@ -27,9 +27,9 @@ returns c =
     let len = c.self.inside.len in
     let left = end - (at + n) in
     let known = c.self.view_is ∙ c.move_left.ensures in
-    let whole : at + n + left ≡ length now = omega (arith, c.len-end.ensures, c.requires) in
-    let kept = kept_of len end at n bytes now c.len-end.ensures c.requires known in
-    let place : end - n ≡ at + left = omega (arith, c.len-end.ensures, c.requires) in
+    let whole : at + n + left ≡ length now = omega (arith, c.len-end.ensures.value, c.requires) in
+    let kept = kept_of len end at n bytes now c.len-end.ensures.value c.requires known in
+    let place : end - n ≡ at + left = omega (arith, c.len-end.ensures.value, c.requires) in
     sym (take-take (end - n) len bytes kept)
     ∙ ap (take (end - n)) known
     ∙ ap (λ k. take k (moved at (at + n) left now)) place

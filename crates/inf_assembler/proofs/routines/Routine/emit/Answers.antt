@@ -7,7 +7,7 @@ use Rattle.inf_opcode.specs.Instructions.{instruction_cells}
 use Rattle.inf_opcode.specs.Opcodes.{row_of}
 use Rattle.inf_opcode.specs.PartsOf.{parts_of}
 use Rattle.inf_assembler.specs.Routines.{State, contents_of, refusal}
-use Rattle.inf_assembler.proofs.Filling.{full_is, labels_is, holes_are}
+use Rattle.inf_assembler.proofs.Filling.{full_is, labels_is, fixups_are}
 use Rattle.inf_assembler.proofs.Finishing.{none_of}
 use Rattle.inf_assembler.proofs.Opened.{stands_more, holds}
 use Rattle.inf_assembler.proofs.routines.Routine.emit.Goals as goal
@@ -56,9 +56,9 @@ returns-clause-ok g c =
     let new_bytes = g.A.Area.bytes c.append_instruction.new.area in
     let new_kept = c.append_instruction.new.kept.items in
     let cells = instruction_cells parts in
-    let new : State = record { start = inside.start; kept = new_kept; labels = inside.labels + more.labels; holes = inside.holes + more.holes; is_final = c.row-row.result.is_final; limits = inside.limits } in
+    let new : State = record { start = inside.start; kept = new_kept; labels = inside.labels + more.labels; fixups = inside.fixups + more.fixups; is_final = c.row-row.result.is_final; limits = inside.limits } in
     let grew = subst (λ (s : State). Grew bytes s.kept cells new_bytes new_kept) c.self.view_is c.in_ok-append_instruction.ensures.ok in
     let start = ap (λ (s : State). s.start) c.self.view_is in
     let stands = stands_more state new bytes new_bytes (take state.start bytes) (contents_of state bytes) cells (row_of c.args.instruction.now.opcode).is_final c.requires.open_still grew start
-    (omega (arith, ap (λ (s : State). s.labels) c.self.view_is, labels_is parts more counted)) (omega (arith, ap (λ (s : State). s.holes) c.self.view_is, holes_are parts more counted)) (ap (λ (r : OpcodeRow). r.is_final) c.row-row.ensures.exact) in
+    (omega (arith, ap (λ (s : State). s.labels) c.self.view_is, labels_is parts more counted)) (omega (arith, ap (λ (s : State). s.fixups) c.self.view_is, fixups_are parts more counted)) (ap (λ (r : OpcodeRow). r.is_final) c.row-row.ensures.exact) in
     holds _ state new bytes new_bytes (take state.start bytes) stands start refl (ap (λ (s : State). s.limits) c.self.view_is)

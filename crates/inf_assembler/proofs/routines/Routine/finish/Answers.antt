@@ -1,14 +1,14 @@
 -- What is computed from what is kept is what the routine's cells say.
 use Rattle.std.proofs.Common.{◌≡◌, ◌+◌, [], ◌∷◌, ◌++◌, length, take, Option, Some, None, ◌⊎◌, inr, subst, MatchResult, sym, ◌∙◌, ap, arith, append_assoc, length-append}
 use Rattle.std.proofs.lemmas.List.{take-append-le, take-take}
-use Rattle.inf_area.specs.Holes.{with_holes}
+use Rattle.inf_area.specs.Fixups.{with_fixups}
 use Rattle.inf_assembler.specs.declared.routines.CloseFault.{CloseFault}
 use Rattle.inf_assembler.specs.declared.routines.CloseFault.TheVariants as close_fault
-use Rattle.inf_opcode.specs.Cells.{hole_count, kept_from}
+use Rattle.inf_opcode.specs.Cells.{fixup_count, kept_from}
 use Rattle.inf_assembler.specs.Places.{with_some, missing, twice_behind}
-use Rattle.inf_assembler.specs.Closing.{found, kept_place, kept_missing, kept_holes, squeezed}
-use Rattle.inf_assembler.specs.Routines.{State, contents_of, long_places, body_bytes, closing_bytes, routine_holes, end_fault, full_fault, body_fault, fault_of}
-use Rattle.inf_assembler.proofs.Finishing.{none_of, long_is, places_is, missing_is, twice_is, holes_is, order_is, squeezed_is, fault_missing, fault_twice, fault_body, with_none, with_some_of, length-holes, both_ok}
+use Rattle.inf_assembler.specs.Closing.{found, kept_place, kept_missing, kept_fixups, squeezed}
+use Rattle.inf_assembler.specs.Routines.{State, contents_of, long_places, body_bytes, closing_bytes, routine_fixups, end_fault, full_fault, body_fault, fault_of}
+use Rattle.inf_assembler.proofs.Finishing.{none_of, long_is, places_is, missing_is, twice_is, fixups_is, order_is, squeezed_is, fault_missing, fault_twice, fault_body, with_none, with_some_of, length-fixups, both_ok}
 use Rattle.inf_assembler.proofs.routines.Routine.finish.Goals as goal
 
 pub returns-in-Some-clause-fault : goal.returns-in-Some-clause-fault
@@ -122,16 +122,16 @@ returns-clause-fault g c =
     let squeezed_bytes = g.A.Area.bytes c.squeeze.new.area in
     let done = with_some_of (λ rest. head ++ rest) (body_bytes start contents) squeezed_bytes (sym squeezed_e ∙ c.in-Some-squeeze.ensures.bytes) in
     let is_state : state.kept ≡ kept_from (start + 1) contents.cells = stands.kept ∙ ap (λ k. kept_from (k + 1) contents.cells) (sym stands.start) in
-    let holes_e : kept_holes (found c.as_slice-in-Some-squeeze.result.now) 0 state.kept ≡ routine_holes start contents =
-    ap (λ xs. kept_holes (found xs) 0 state.kept) c.as_slice-in-Some-squeeze.ensures.value ∙ holes_is start contents state.kept is_state long long_e in
+    let fixups_e : kept_fixups (found c.as_slice-in-Some-squeeze.result.now) 0 state.kept ≡ routine_fixups start contents =
+    ap (λ xs. kept_fixups (found xs) 0 state.kept) c.as_slice-in-Some-squeeze.ensures.value ∙ fixups_is start contents state.kept is_state long long_e in
     let long_body : start + 1 + length done.0 ≡ length squeezed_bytes =
     omega (arith, ap length done.2, length-append head done.0, length-append (take start bytes) (contents.locals ∷ []), stands.start) in
-    let counted : hole_count contents.cells ≡ length (kept_holes (found c.as_slice-in-Some-squeeze.result.now) 0 state.kept) =
-    sym (ap length holes_e ∙ length-holes (long_places start contents) (start + 1) (start + 1) contents.cells) in
-    let all : fault_of start c.args.kind contents state.limits c.args.refs.now ≡ end_fault state.is_final state.limits (length squeezed_bytes) c.args.refs.now (length (kept_holes (found c.as_slice-in-Some-squeeze.result.now) 0 state.kept)) =
+    let counted : fixup_count contents.cells ≡ length (kept_fixups (found c.as_slice-in-Some-squeeze.result.now) 0 state.kept) =
+    sym (ap length fixups_e ∙ length-fixups (long_places start contents) (start + 1) (start + 1) contents.cells) in
+    let all : fault_of start c.args.kind contents state.limits c.args.refs.now ≡ end_fault state.is_final state.limits (length squeezed_bytes) c.args.refs.now (length (kept_fixups (found c.as_slice-in-Some-squeeze.result.now) 0 state.kept)) =
     fault_body start c.args.kind contents state.limits c.args.refs.now none none_twice
     ∙ ap (body_fault (full_fault start c.args.kind contents state.limits c.args.refs.now)) done.1
-    ∙ ap (λ k. end_fault state.is_final state.limits k c.args.refs.now (hole_count contents.cells)) long_body
+    ∙ ap (λ k. end_fault state.is_final state.limits k c.args.refs.now (fixup_count contents.cells)) long_body
     ∙ ap (end_fault state.is_final state.limits (length squeezed_bytes) c.args.refs.now) counted in
     let P : Option CloseFault → Type 0 = λ f. MatchResult c.finish_end.result (λ _. f ≡ None) (λ refused. (refused ≡ close_fault.Memory) ⊎ (f ≡ Some refused)) in
     subst P (sym all) c.finish_end.ensures.fault
@@ -165,15 +165,15 @@ returns-clause-ok g c =
     let squeezed_bytes = g.A.Area.bytes c.squeeze.new.area in
     let done = with_some_of (λ rest. head ++ rest) (body_bytes start contents) squeezed_bytes (sym squeezed_e ∙ c.in-Some-squeeze.ensures.bytes) in
     let is_state : state.kept ≡ kept_from (start + 1) contents.cells = stands.kept ∙ ap (λ k. kept_from (k + 1) contents.cells) (sym stands.start) in
-    let holes_e : kept_holes (found c.as_slice-in-Some-squeeze.result.now) 0 state.kept ≡ routine_holes start contents =
-    ap (λ xs. kept_holes (found xs) 0 state.kept) c.as_slice-in-Some-squeeze.ensures.value ∙ holes_is start contents state.kept is_state long long_e in
-    both_ok c.finish_end.result c.finish_end.ensures.bytes c.finish_end.ensures.holes
+    let fixups_e : kept_fixups (found c.as_slice-in-Some-squeeze.result.now) 0 state.kept ≡ routine_fixups start contents =
+    ap (λ xs. kept_fixups (found xs) 0 state.kept) c.as_slice-in-Some-squeeze.ensures.value ∙ fixups_is start contents state.kept is_state long long_e in
+    both_ok c.finish_end.result c.finish_end.ensures.bytes c.finish_end.ensures.fixups
     (λ written listed. record {
       body = done.0;
       is = done.1;
       bytes =
           written ∙ ap (λ xs. xs ++ closing_bytes c.args.kind state.is_final) (done.2 ∙ append_assoc (take start bytes) (contents.locals ∷ []) done.0);
-      holes = listed ∙ ap (λ hs. with_holes (c.args.refs.now.list ++ hs) c.args.refs.now) holes_e;
+      fixups = listed ∙ ap (λ hs. with_fixups (c.args.refs.now.list ++ hs) c.args.refs.now) fixups_e;
     })
 
 pub returns-clause-before : goal.returns-clause-before

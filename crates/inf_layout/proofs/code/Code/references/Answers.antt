@@ -1,4 +1,4 @@
--- Each hole is a reference that is awaited.
+-- Each fixup is a reference that is awaited.
 use Rattle.std.proofs.Common.{◌+◌, ◌∙◌, cond, take, ap, sym, arith}
 use Rattle.inf_layout.specs.Code.{awaited, cells_from, reference_count}
 use Rattle.inf_layout.proofs.Full.{awaited-cells_from}

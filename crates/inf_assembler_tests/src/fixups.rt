@@ -1,58 +1,58 @@
-//! Lists of holes.
+//! Lists of fixups.
 use crate::words::{number_or, word};
-use inf_area::{AreaName, Hole, Reference, ReferenceKind, Refs};
+use inf_area::{AreaName, Fixup, Target, ReferenceKind, Refs};
 use std::alloc::{AllocError, Global};
 
 /// The routine of a number, whose address is known later.
-pub(crate) fn called(number: usize) -> Reference {
-    Reference {
+pub(crate) fn called(number: usize) -> Target {
+    Target {
         kind: ReferenceKind::PackedAddress,
         number,
     }
 }
 
-/// The hole of routine 7 at a place.
-pub(crate) fn hole(place: usize) -> Hole {
-    Hole {
+/// The fixup of routine 7 at a place.
+pub(crate) fn fixup(place: usize) -> Fixup {
+    Fixup {
         area: AreaName::Code,
         place,
-        reference: called(7),
+        target: called(7),
     }
 }
 
-/// The holes of a list, or the first five and the last, with their count.
-pub(crate) fn holes_of(alloc: Global, refs: &Refs) -> Result<String, AllocError> {
-    let mut told = format!(in alloc; "holes {}", refs.len())?;
-    for (number, hole) in refs.as_slice().iter().enumerate() {
+/// The fixups of a list, or the first five and the last, with their count.
+pub(crate) fn fixups_of(alloc: Global, refs: &Refs) -> Result<String, AllocError> {
+    let mut told = format!(in alloc; "fixups {}", refs.len())?;
+    for (number, fixup) in refs.as_slice().iter().enumerate() {
         if number < 5 || number.saturating_add(1) == refs.len() {
-            let Hole {
+            let Fixup {
                 area,
                 place,
-                reference,
-            } = hole;
-            let Reference { kind, number } = reference;
+                target,
+            } = fixup;
+            let Target { kind, number } = target;
             told.push_str(format!(in alloc; " {area:?}:{place}:{kind:?}:{number}")?.as_str())?;
         }
     }
     Ok(told)
 }
 
-/// What comes of a line of things that are done to a list of holes.
+/// What comes of a line of things that are done to a list of fixups.
 pub(crate) fn answer(alloc: Global, line: &str) -> Result<String, AllocError> {
     let mut refs = Refs::new(alloc, number_or(line, 1, 0));
-    let mut told = holes_of(alloc, &refs)?;
+    let mut told = fixups_of(alloc, &refs)?;
     for step in line.split(" | ").skip(1) {
         let number = number_or(step, 1, 0);
         match word(step, 0) {
             "add" => {
-                if let Err(fault) = refs.add(hole(number)) {
+                if let Err(fault) = refs.add(fixup(number)) {
                     told.push_str(format!(in alloc; "; {fault:?}")?.as_str())?;
                 }
             }
             "keep" if number <= refs.len() => refs.keep(number),
             _ => told.push_str("; refused")?,
         }
-        told.push_str(format!(in alloc; "; {}", holes_of(alloc, &refs)?)?.as_str())?;
+        told.push_str(format!(in alloc; "; {}", fixups_of(alloc, &refs)?)?.as_str())?;
     }
     Ok(told)
 }

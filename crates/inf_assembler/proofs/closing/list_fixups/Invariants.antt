@@ -1,16 +1,16 @@
 use Rattle.std.proofs.Common.{◌≡◌, ◌≤◌, List, ◌++◌, length, drop}
-use Rattle.inf_area.specs.declared.references.Hole.{Hole}
-use Rattle.inf_assembler.specs.Closing.{found, kept_holes}
-use Rattle.inf_assembler.proofs.closing.list_holes.Given as goal
+use Rattle.inf_area.specs.declared.fixups.Fixup.{Fixup}
+use Rattle.inf_assembler.specs.Closing.{found, kept_fixups}
+use Rattle.inf_assembler.proofs.closing.list_fixups.Given as goal
 
 -- what is listed and what is left are all
 abbrev pub invariant-loop-entry : goal.invariant-loop-entry
 invariant-loop-entry l =
     record {
-      added : List Hole;
+      added : List Fixup;
       saved : l.saved ≤ l.entry-index;
       limit : l.refs.limit ≡ l.fn.refs.limit;
       room : length l.refs.list ≤ l.refs.limit;
       so_far : l.refs.list ≡ l.fn.refs.list ++ added;
-      left : l.refs.list ++ kept_holes (found l.long) l.saved (drop l.entry-index l.kept) ≡ l.fn.refs.list ++ kept_holes (found l.long) 0 l.kept;
+      left : l.refs.list ++ kept_fixups (found l.long) l.saved (drop l.entry-index l.kept) ≡ l.fn.refs.list ++ kept_fixups (found l.long) 0 l.kept;
     }

@@ -1,5 +1,5 @@
 use Rattle.std.proofs.Common.{rules}
-use Rattle.inf_area.proofs.references.Refs.new.Goals as goal
+use Rattle.inf_area.proofs.fixups.Refs.new.Goals as goal
 
 pub invariant_of-result : goal.invariant_of-result
 invariant_of-result c = search rules

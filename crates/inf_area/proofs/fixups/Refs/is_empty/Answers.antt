@@ -1,6 +1,6 @@
 use Rattle.std.proofs.Common.{arith}
 use Rattle.std.proofs.lemmas.Grind.{common_steps}
-use Rattle.inf_area.proofs.references.Refs.is_empty.Goals as goal
+use Rattle.inf_area.proofs.fixups.Refs.is_empty.Goals as goal
 
 pub returns : goal.returns
 returns c = grind (arith, common_steps)

@@ -1,5 +1,5 @@
 use Rattle.std.proofs.Common.{rules}
-use Rattle.inf_area.proofs.references.Refs.as_slice.Goals as goal
+use Rattle.inf_area.proofs.fixups.Refs.as_slice.Goals as goal
 
 pub returns : goal.returns
 returns c = search rules

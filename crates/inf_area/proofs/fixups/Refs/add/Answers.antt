@@ -1,5 +1,5 @@
 use Rattle.std.proofs.Common.{rules}
-use Rattle.inf_area.proofs.references.Refs.add.Goals as goal
+use Rattle.inf_area.proofs.fixups.Refs.add.Goals as goal
 
 pub returns-in_err-push-clause-memory : goal.returns-in_err-push-clause-memory
 returns-in_err-push-clause-memory c = search rules
