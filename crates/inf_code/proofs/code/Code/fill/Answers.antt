@@ -1,9 +1,9 @@
 -- The fixups that are left are filled as the cells say.
 use Rattle.std.proofs.Common.{◌∙◌, ap, sym, length, subst, take}
-use Rattle.inf_layout.specs.Code.{Routines, number_in, code_bytes, AreInOrder, room}
-use Rattle.inf_layout.proofs.CodeLemmas.{filled, filled-area, within-at}
-use Rattle.inf_layout.proofs.CodeSteps.{order_finished}
-use Rattle.inf_layout.proofs.code.Code.fill.Goals as goal
+use Rattle.inf_code.specs.Code.{Routines, number_in, code_bytes, AreInOrder, room}
+use Rattle.inf_code.proofs.CodeLemmas.{filled, filled-area, within-at}
+use Rattle.inf_code.proofs.CodeSteps.{order_finished}
+use Rattle.inf_code.proofs.code.Code.fill.Goals as goal
 
 pub loop-fixup-init : goal.loop-fixup-init
 loop-fixup-init c =
@@ -11,7 +11,7 @@ loop-fixup-init c =
     let inside = c.self.inside in
     let area = take inside.finished inside.area in
     let fixups = inside.refs.list in
-    let order = order_finished (room inside.limits) inside.finished inside.refs inside.area inside.routine c.self.invariant.0 in
+    let order = order_finished (room inside.limits) inside.finished inside.refs inside.area inside.is_lost inside.routine c.self.invariant.0 in
     let listed = c.as_slice-fixup-items.ensures in
     let cut = c.cut_back.ensures in
     record {

@@ -1,7 +1,7 @@
 use Rattle.std.proofs.Common.{◌≡◌, length, drop}
-use Rattle.inf_layout.specs.Code.{number_in, code_bytes}
-use Rattle.inf_layout.proofs.CodeLemmas.{AreWithin, filled}
-use Rattle.inf_layout.proofs.code.Code.fill.Given as goal
+use Rattle.inf_code.specs.Code.{number_in, code_bytes}
+use Rattle.inf_code.proofs.CodeLemmas.{AreWithin, filled}
+use Rattle.inf_code.proofs.code.Code.fill.Given as goal
 
 -- what is filled, with the fixups that are left, is all
 abbrev pub invariant-loop-fixup : goal.invariant-loop-fixup

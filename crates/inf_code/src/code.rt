@@ -1,18 +1,16 @@
 //! The code of a story: its finished routines, and the one that is open.
-ghost use Rattle.std.specs.Prelude.{◌≡◌, ◌≤◌, ◌⊎◌, ◌++◌, ◌+◌, None, Some, IsTrue, MatchResult, OnOk, OnErr, false, length, nat_lt, take, true};
-ghost use Rattle.inf_opcode.specs.Cells.{label_count};
-ghost use Rattle.inf_opcode.specs.Instructions.{IsProper, instruction_cells};
+ghost use Rattle.std.specs.Prelude.{◌≡◌, ◌≤◌, ◌⊎◌, ◌++◌, ◌+◌, [], None, Some, MatchResult, OnOk, OnErr, false, if◌then◌else◌, length, nat_lt, take, true};
+ghost use Rattle.inf_opcode.specs.Instructions.{IsProper};
 ghost use Rattle.inf_opcode.specs.PartsOf.{parts_of};
 ghost use Rattle.inf_assembler.specs.declared.routines.Setting.{Setting};
 ghost use Rattle.inf_assembler.specs.declared.routines.Setting.TheVariants as code_setting;
 ghost use Rattle.inf_assembler.specs.declared.routines.CloseFault.TheVariants as close_fault;
-ghost use Rattle.inf_assembler.specs.declared.routines.GrowFault.TheVariants as grow_fault;
-ghost use Rattle.inf_assembler.specs.Routines.{refusal};
-ghost use Rattle.inf_layout.specs.Code.{begun, code_count, reference_count, room, full_begun, full_behind_bytes, full_first, size, number_in, code_bytes, with_item, with_closed, with_none_open, with_opened, full_opened, full_with, full_closed, is_of_room, zeros_behind};
+ghost use Rattle.inf_assembler.specs.Routines.{IsOpen, contents_of, refusal};
+ghost use Rattle.inf_code.specs.Code.{IsSpare, begun, code_count, fault_behind, fault_closed, reference_count, room, full_begun, full_behind_bytes, full_first, full_label, full_opened, full_with, most, size, number_in, code_bytes, with_closed, with_item, with_label, with_none_open, with_opened, zeros_behind};
 
-use inf_area::{Area, FlatArea, Target, Refs};
+use inf_area::{Area, FlatArea, Refs, Target};
 use inf_assembler::{CloseFault, GrowFault, Limits, Routine, RoutineKind, Setting};
-use inf_opcode::Instruction;
+use inf_opcode::{Instruction, Label};
 use std::alloc::Global;
 use std::marker::Model;
 
@@ -62,11 +60,26 @@ impl CodeLimits {
         }
     }
 
-    /// The first limit that another routine would pass behind so many bytes.
-    fn full_opened(self, has_begun: bool, place: usize) -> Option<Setting>
-        ensures { result ≡ full_behind_bytes self has_begun place }
+    /// Those of a routine that is lost or not: a lost one is bounded by its labels alone.
+    fn most(self, is_lost: bool) -> CodeLimits
+        ensures { result ≡ most is_lost self }
     {
-        if self.room().code <= place {
+        if is_lost {
+            CodeLimits {
+                labels: self.labels,
+                code: usize::MAX,
+                refs: usize::MAX,
+            }
+        } else {
+            self
+        }
+    }
+
+    /// The first limit that another routine, which is lost or not, would pass behind so many bytes.
+    fn full_opened(self, is_lost: bool, has_begun: bool, place: usize) -> Option<Setting>
+        ensures { result ≡ full_behind_bytes self is_lost has_begun place }
+    {
+        if self.room().most(is_lost).code <= place {
             return Some(Setting::Code);
         }
         if has_begun { None } else { self.full_first() }
@@ -86,21 +99,24 @@ pub struct Code {
     finished: usize,
     // What stands behind these bytes where no routine is open is no longer used.
     routine: Option<Routine>,
+    // Whether the open routine is lost. What it refers to goes to the spare list, which is empty between.
+    is_lost: bool,
+    spare: Refs,
 }
 
 impl Model for Code {
     ghost use Rattle.std.specs.Prelude.{take};
-    ghost use Rattle.inf_layout.specs.Code.{Routines, HasRoom, IsCode, cells_from, open_in, room};
+    ghost use Rattle.inf_code.specs.Code.{Routines, HasRoom, IsCode, IsSpare, cells_from, open_in, room};
 
     ghost Value = { Routines };
 
-    ghost view = { λ code. record { limits = code.limits; has_begun = code.has_begun; finished = cells_from 0 code.refs.list (take code.finished code.area); opened = open_in code.area code.routine } };
+    ghost view = { λ code. record { limits = code.limits; has_begun = code.has_begun; finished = cells_from 0 code.refs.list (take code.finished code.area); opened = open_in code.area code.is_lost code.routine } };
 
-    ghost invariant = { λ code. IsCode (room code.limits) code.finished code.refs code.area code.routine × HasRoom code.has_begun code.limits };
+    ghost invariant = { λ code. IsCode (room code.limits) code.finished code.refs code.area code.is_lost code.routine × (HasRoom code.has_begun code.limits × IsSpare code.spare) };
 }
 
 impl Code {
-    ghost use Rattle.inf_layout.specs.Code.{Routines, no_routines};
+    ghost use Rattle.inf_code.specs.Code.{Routines, no_routines};
 
     /// No code, which may hold so much. It takes no memory until the first routine is opened.
     pub fn new(alloc: Global, limits: CodeLimits) -> Code
@@ -113,6 +129,8 @@ impl Code {
             refs: Refs::new(alloc, limits.room().refs),
             finished: 0,
             routine: None,
+            is_lost: false,
+            spare: Refs::new(alloc, usize::MAX),
         }
     }
 
@@ -162,23 +180,28 @@ impl Code {
         full
     }
 
-    /// Opens a routine of so many locals, at most 15. One that is open is given up. Code begins with it, unless it has begun.
+    /// Opens a routine of so many locals, at most 15. One that is open is given up. Code begins with it, unless it has begun. A routine that is
+    /// lost gives no code: only its labels are counted, and what is wrong with them and with offsets is answered at its end.
     ///
     /// Where it is refused, none is open. It is refused where the number of locals would pass the limit of
     /// bytes, or the beginning of code a limit, and else only for want of memory.
-    pub fn open(&mut self, alloc: Global, locals: u8) -> Result<(), GrowFault>
+    pub fn open(&mut self, alloc: Global, locals: u8, is_lost: bool) -> Result<(), GrowFault>
         requires { locals ≤ 15 }
-        ensures ok { OnOk result (self.new ≡ with_opened locals self.old) }
+        ensures ok { OnOk result (self.new ≡ with_opened locals is_lost self.old) }
         ensures err { OnErr result (self.new ≡ with_none_open self.old) }
-        ensures fault { let full = full_opened self.old in
+        ensures fault { let full = full_opened is_lost self.old in
             MatchResult result (λ _. full ≡ None) (λ fault. fault ≡ refusal full) }
     {
         self.routine = None;
-        if let Some(setting) = self.limits.full_opened(self.has_begun, self.finished) {
+        self.is_lost = is_lost;
+        if let Some(setting) = self
+            .limits
+            .full_opened(is_lost, self.has_begun, self.finished)
+        {
             return Err(GrowFault::Full(setting));
         }
         cut_back(&mut self.area, self.finished);
-        let room = self.limits.room();
+        let room = self.limits.room().most(is_lost);
         let limits = Limits {
             labels: room.labels,
             code: room.code,
@@ -189,13 +212,12 @@ impl Code {
         Ok(())
     }
 
-    /// Adds an instruction without a branch or jump to the open routine, if there is one.
+    /// Adds an instruction to the open routine, if there is one.
     ///
     /// Where it is refused the routine is as it was. It is refused where it would pass a limit, of several the
     /// first of labels, bytes and references, and else only for want of memory.
     pub fn emit(&mut self, instruction: &Instruction<'_>) -> Result<(), GrowFault>
-        requires proper { IsProper (parts_of instruction.now) }
-        requires straight { label_count (instruction_cells (parts_of instruction.now)) ≡ 0 }
+        requires { IsProper (parts_of instruction.now) }
         ensures ok { let opened = with_item (parts_of instruction.now) self.old.opened in
             OnOk result (self.new ≡ record self.old { opened = opened }) }
         ensures err { OnErr result (self.new ≡ self.old) }
@@ -205,28 +227,47 @@ impl Code {
         let Some(routine) = &mut self.routine else {
             return Ok(());
         };
-        routine.emit(&mut self.area, &self.refs, instruction)
+        let refs = listed(self.is_lost, &self.spare, &self.refs);
+        routine.emit(&mut self.area, refs, instruction)
+    }
+
+    /// Marks the place of a label in the open routine, if there is one.
+    ///
+    /// Where it is refused the routine is as it was. It is refused where it would pass the limit of labels, and else only for want of memory.
+    pub fn label(&mut self, label: Label) -> Result<(), GrowFault>
+        ensures ok { OnOk result (self.new ≡ record self.old { opened = with_label label self.old.opened }) }
+        ensures err { OnErr result (self.new ≡ self.old) }
+        ensures fault { let full = full_label self.old in
+            MatchResult result (λ _. full ≡ None) (λ fault. fault ≡ refusal full) }
+    {
+        let Some(routine) = &mut self.routine else {
+            return Ok(());
+        };
+        routine.label(&self.area, label)
     }
 
     /// Closes the open routine, if there is one: it is the last of the finished ones, filled up with
-    /// zeros to a multiple of 4.
+    /// zeros to a multiple of 4; but one that is lost is given up.
     ///
-    /// Where it is refused the finished routines are as they were, and the open one is given up. It is
-    /// refused where what returns at its end or the zeros behind it would pass the limit of bytes, or all references theirs, and else
-    /// only for want of memory.
-    pub fn close(&mut self, kind: RoutineKind) -> Result<(), GrowFault>
+    /// Where it is refused the finished routines are as they were, and the open one is given up. It is refused where a label is missing or
+    /// stands twice, where a branch or jump is too far, where what returns at its end or the zeros behind it would pass the limit of bytes, or
+    /// all references theirs, in this order, and else only for want of memory.
+    pub fn close(&mut self, kind: RoutineKind) -> Result<(), CloseFault>
         ensures ok { OnOk result (self.new ≡ with_closed kind self.old) }
         ensures err { OnErr result (self.new ≡ with_none_open self.old) }
-        ensures fault { let full = full_closed kind self.old in
-            MatchResult result (λ _. full ≡ None) (λ fault. (fault ≡ grow_fault.Memory) ⊎ (fault ≡ refusal full)) }
+        ensures fault { let wrong = fault_closed kind self.old in
+            MatchResult result (λ _. wrong ≡ None) (λ fault. (fault ≡ close_fault.Memory) ⊎ (wrong ≡ Some fault)) }
     {
         let Some(routine) = self.routine.take() else {
             return Ok(());
         };
+        if self.is_lost {
+            return close_lost(&mut self.area, &mut self.spare, routine, kind);
+        }
         let before = self.refs.len();
         let closed = match routine.close(&mut self.area, &mut self.refs, kind) {
             Ok(closed) => closed,
-            Err(fault) => return Err(lacking(fault)),
+            Err(fault) => return Err(fault),
         };
         if let Err(fault) = fill_up(&mut self.area, closed.len, self.limits.room().code) {
             self.refs.keep(before);
@@ -258,31 +299,63 @@ impl Code {
     }
 }
 
+/// Where the references of a routine are listed that is lost or not.
+fn listed<'a>(is_lost: bool, spare: &'a Refs, refs: &'a Refs) -> &'a Refs
+    ensures { result.now ≡ if is_lost then spare.now else refs.now }
+{
+    if is_lost { spare } else { refs }
+}
+
+/// Closes a routine that is lost, at the end of an area, and gives it up. What was to be listed of it is not kept.
+fn close_lost(
+    area: &mut FlatArea,
+    spare: &mut Refs,
+    routine: Routine,
+    kind: RoutineKind,
+) -> Result<(), CloseFault>
+    requires open_still { IsOpen routine area.old }
+    requires none { IsSpare spare.old }
+    ensures front { take routine.start area.new ≡ take routine.start area.old }
+    ensures within { routine.start ≤ length area.new }
+    ensures none { IsSpare spare.new }
+    ensures fault { let wrong = fault_behind (record { labels = routine.limits.labels; code = routine.limits.code; refs = spare.old.limit }) routine.start 0 (contents_of routine area.old) in
+        MatchResult result (λ _. wrong ≡ None) (λ fault. (fault ≡ close_fault.Memory) ⊎ (wrong ≡ Some fault)) }
+{
+    routine.close(area, spare, kind)?;
+    spare.keep(0);
+    Ok(())
+}
+
 /// Appends the zeros behind a routine of this length that fill it up to a multiple of 4.
 ///
 /// It is refused where the area would have more bytes than its limit, and else only for want of memory; the area then stays as it was.
-fn fill_up(area: &mut FlatArea, len: usize, limit: usize) -> Result<(), GrowFault>
+fn fill_up(area: &mut FlatArea, len: usize, limit: usize) -> Result<(), CloseFault>
     ensures ok { OnOk result (area.new ≡ area.old ++ zeros_behind len) }
     ensures room { OnOk result (length area.new ≤ limit) }
     ensures err { OnErr result (area.new ≡ area.old) }
     ensures fault { let full = nat_lt limit (length area.old + length (zeros_behind len)) in
-        MatchResult result (λ _. full ≡ false) (λ fault. (fault ≡ grow_fault.Memory) ⊎ ((full ≡ true) × (fault ≡ grow_fault.Full code_setting.Code))) }
+        MatchResult result (λ _. full ≡ false) (λ fault. (fault ≡ close_fault.Memory) ⊎ ((full ≡ true) × (fault ≡ close_fault.Full code_setting.Code))) }
 {
     let zeros: &[u8] = &[0, 0, 0];
     let behind = &zeros[..(4 - len % 4) % 4];
     let end = area.len();
     if limit < end || limit - end < behind.len() {
-        return Err(GrowFault::Full(Setting::Code));
+        return Err(CloseFault::Full(Setting::Code));
     }
-    area.append(behind)?;
+    if area.append(behind).is_err() {
+        return Err(CloseFault::Memory);
+    }
     Ok(())
 }
 
-/// The number of a reference, or 0 where the list is too short.
+/// The number of what is known later, by the numbers of names; 0 where the list is too short.
 fn number_in(numbers: &[u16], target: Target) -> u16
     ensures { result ≡ number_in numbers.now target }
 {
-    numbers.get(target.number).copied().unwrap_or(0)
+    match target {
+        Target::Name(name) => numbers.get(name).copied().unwrap_or(0),
+        Target::Place(..) | Target::Part(..) | Target::Word(_) | Target::System(_) => 0,
+    }
 }
 
 /// Keeps the first bytes of an area, which has so many.
@@ -293,19 +366,4 @@ fn cut_back(area: &mut FlatArea, len: usize)
 {
     let end = area.len();
     area.cut(len, end - len);
-}
-
-/// What is lacking where a routine without labels is not closed.
-fn lacking(fault: CloseFault) -> GrowFault
-    requires { IsTrue (is_of_room fault) }
-    ensures full { (setting : Setting) → fault ≡ close_fault.Full setting → result ≡ grow_fault.Full setting }
-    ensures memory { fault ≡ close_fault.Memory → result ≡ grow_fault.Memory }
-{
-    match fault {
-        CloseFault::Full(setting) => GrowFault::Full(setting),
-        CloseFault::Memory => GrowFault::Memory,
-        CloseFault::LabelMissing(_) | CloseFault::LabelTwice(_) | CloseFault::TooFar => {
-            unreachable!()
-        }
-    }
 }

@@ -1,15 +1,15 @@
 -- Each fixup is a reference that is awaited.
 use Rattle.std.proofs.Common.{◌+◌, ◌∙◌, cond, take, ap, sym, arith}
-use Rattle.inf_layout.specs.Code.{awaited, cells_from, reference_count}
-use Rattle.inf_layout.proofs.Full.{awaited-cells_from}
-use Rattle.inf_layout.proofs.code.Code.references.Goals as goal
+use Rattle.inf_code.specs.Code.{awaited, cells_from, reference_count}
+use Rattle.inf_code.proofs.Full.{awaited-cells_from}
+use Rattle.inf_code.proofs.code.Code.references.Goals as goal
 
 pub overflow_add-result : goal.overflow_add-result
-overflow_add-result c = let has = c.self.invariant.1.1 c.if-self.true in
-    omega (arith, has.1, c.self.invariant.1.0.1, c.len.ensures.limited, c.self.invariant.0.limit)
+overflow_add-result c = let has = c.self.invariant.1.0.1 c.if-self.true in
+    omega (arith, has.1, c.self.invariant.1.0.0.1, c.len.ensures.limited, c.self.invariant.0.limit)
 
 pub overflow_add-result-else-self : goal.overflow_add-result-else-self
-overflow_add-result-else-self c = omega (arith, c.self.invariant.1.0.1, c.len-else-self.ensures.limited, c.self.invariant.0.limit)
+overflow_add-result-else-self c = omega (arith, c.self.invariant.1.0.0.1, c.len-else-self.ensures.limited, c.self.invariant.0.limit)
 
 pub returns-then-self-clause-value : goal.returns-then-self-clause-value
 returns-then-self-clause-value c =

@@ -14,7 +14,7 @@ use Rattle.inf_assembler.specs.declared.routines.RoutineKind.{RoutineKind}
 use Rattle.inf_assembler.specs.Places.{Places, size_at, with_some, closed_special, joined, closed_bytes, fixup_at, closed_fixups}
 use Rattle.inf_assembler.specs.Routines.{Contents, long_places, places, closing, body_bytes, routine_fixups}
 use Rattle.inf_assembler.proofs.Passes.{closed_size}
-use Rattle.inf_layout.specs.Code.{CodeCell, Known, Awaited, known, size, padded, number_in, cell_bytes, code_bytes, cells_from, AreInOrder, whole_bytes, cells_with, routine_cells, zeros_behind}
+use Rattle.inf_code.specs.Code.{CodeCell, Known, Awaited, known, size, padded, number_in, cell_bytes, code_bytes, cells_from, AreInOrder, whole_bytes, cells_with, routine_cells, zeros_behind}
 
 -- bytes whose fixups are filled with the numbers of their references
 abbrev pub filled : (Target → ℕ) → List Fixup → List ℕ → List ℕ

@@ -4,9 +4,12 @@ use Rattle.std.specs.List.{flat_map}
 use Rattle.std.specs.Option.{unwrap_or}
 use Rattle.inf_area.specs.declared.fixups.Fixup.{Fixup}
 use Rattle.inf_area.specs.declared.targets.Target.{Target}
+use Rattle.inf_area.specs.declared.targets.Target.TheVariants as target
 use Rattle.inf_area.specs.Fixups.{Fixups}
 use Rattle.inf_area.specs.Words.{word}
-use Rattle.inf_opcode.specs.Cells.{Cell, long_bytes, label_count, fixup_count}
+use Rattle.inf_opcode.specs.Cells.{Cell, Of, long_bytes, label_count, fixup_count}
+use Rattle.inf_opcode.specs.declared.cells.Special.TheVariants.{Marks}
+use Rattle.inf_opcode.specs.declared.instructions.Label.{Label}
 use Rattle.inf_opcode.specs.Instructions.{Parts, instruction_cells}
 use Rattle.inf_opcode.specs.Opcodes.{row_of}
 use Rattle.inf_assembler.specs.declared.routines.CloseFault.{CloseFault}
@@ -15,8 +18,9 @@ use Rattle.inf_assembler.specs.declared.routines.Limits.{Limits}
 use Rattle.inf_assembler.specs.declared.routines.RoutineKind.{RoutineKind}
 use Rattle.inf_assembler.specs.declared.routines.Setting.{Setting}
 use Rattle.inf_assembler.specs.declared.routines.Setting.TheVariants as setting
-use Rattle.inf_assembler.specs.Routines.{State, Contents, IsOpen, contents_of, fresh, with_cells, body_bytes, closing, routine_fixups, is_full}
-use Rattle.inf_layout.specs.declared.code.CodeLimits.{CodeLimits}
+use Rattle.inf_assembler.specs.Places.{missing, twice_behind}
+use Rattle.inf_assembler.specs.Routines.{State, Contents, IsOpen, contents_of, fresh, with_cells, body_bytes, closing, routine_fixups, is_full, long_places, missing_fault, twice_fault, body_fault}
+use Rattle.inf_code.specs.declared.code.CodeLimits.{CodeLimits}
 
 -- a byte, or the two bytes that a reference's number takes
 pub data CodeCell : Type 0 where
@@ -47,9 +51,10 @@ padding size = known (zeros_behind size)
 abbrev pub padded : List CodeCell → List CodeCell
 padded cells = cells ++ padding (size cells)
 
--- the number of a reference, by a list of numbers; 0 where the list is too short
+-- the number of what is known later, by a list of the numbers of names; 0 where the list is too short
 abbrev pub number_in : List ℕ → Target → ℕ
-number_in numbers target = unwrap_or (slice_get numbers target.number) 0
+number_in numbers (target.Name name) = unwrap_or (slice_get numbers name) 0
+number_in numbers _ = 0
 
 -- the bytes of a cell, and of cells, whose references have these numbers
 abbrev pub cell_bytes : List ℕ → CodeCell → List ℕ
@@ -84,13 +89,18 @@ cells_with place kind contents (Some body) = cells_from place (routine_fixups pl
 abbrev pub routine_cells : ℕ → RoutineKind → Contents → List CodeCell
 routine_cells place kind contents = cells_with place kind contents (body_bytes place contents)
 
+-- An open routine: what it has so far, and whether it is lost: then it gives no code, and only its labels and offsets are looked at.
+pub record Opened : Type 0 where
+  pub contents : Contents
+  pub is_lost : Bool
+
 -- The routines of a story: what it may hold, whether its code has begun, the finished routines of its source, and the one
 -- that is open, if any. Code begins with a first routine that the source does not have: it calls the source's Main.
 pub record Routines : Type 0 where
   pub limits : CodeLimits
   pub has_begun : Bool
   pub finished : List CodeCell
-  pub opened : Option Contents
+  pub opened : Option Opened
 
 -- none, under these limits
 abbrev pub no_routines : CodeLimits → Routines
@@ -105,14 +115,22 @@ room limits = record { labels = limits.labels; code = limits.code - 8; refs = li
 abbrev pub with_instruction : Parts → Contents → Contents
 with_instruction parts contents = with_cells (instruction_cells parts) (row_of parts.opcode).is_final contents
 
-abbrev pub with_item : Parts → Option Contents → Option Contents
+abbrev pub with_item : Parts → Option Opened → Option Opened
 with_item parts None = None
-with_item parts (Some contents) = Some (with_instruction parts contents)
+with_item parts (Some o) = Some (record o { contents = with_instruction parts o.contents })
 
--- the cells that the open routine becomes behind so many bytes, filled up to a multiple of 4
-abbrev pub closed_cells : RoutineKind → ℕ → Option Contents → List CodeCell
+-- a label that is marked there
+abbrev pub with_mark : Label → Contents → Contents
+with_mark label contents = with_cells (Of (Marks label) ∷ []) false contents
+
+abbrev pub with_label : Label → Option Opened → Option Opened
+with_label label None = None
+with_label label (Some o) = Some (record o { contents = with_mark label o.contents })
+
+-- the cells that the open routine becomes behind so many bytes, filled up to a multiple of 4; none, where it is lost
+abbrev pub closed_cells : RoutineKind → ℕ → Option Opened → List CodeCell
 closed_cells kind place None = []
-closed_cells kind place (Some contents) = padded (routine_cells place kind contents)
+closed_cells kind place (Some o) = if o.is_lost then [] else padded (routine_cells place kind o.contents)
 
 -- the routines after the open one is closed
 abbrev pub with_closed : RoutineKind → Routines → Routines
@@ -123,10 +141,10 @@ with_closed kind routines =
 abbrev pub with_none_open : Routines → Routines
 with_none_open routines = record routines { opened = None }
 
--- the items of an open routine, by the bytes of its area
-abbrev pub open_in : List ℕ → Option State → Option Contents
-open_in bytes None = None
-open_in bytes (Some routine) = Some (contents_of routine bytes)
+-- an open routine, by the bytes of its area
+abbrev pub open_in : List ℕ → Bool → Option State → Option Opened
+open_in bytes is_lost None = None
+open_in bytes is_lost (Some routine) = Some (record { contents = contents_of routine bytes; is_lost = is_lost })
 
 -- the references of cells
 abbrev pub awaited : List CodeCell → ℕ
@@ -138,8 +156,19 @@ awaited ((Awaited target) ∷ cells) = 1 + awaited cells
 abbrev pub bytes_with : List CodeCell → Contents → ℕ
 bytes_with finished contents = size finished + 1 + length (long_bytes contents.cells)
 
-abbrev pub references_with : List CodeCell → Contents → ℕ
-references_with finished contents = awaited finished + fixup_count contents.cells
+-- a lost routine's references are counted alone
+abbrev pub references_before : Bool → List CodeCell → ℕ
+references_before is_lost finished = if is_lost then 0 else awaited finished
+
+abbrev pub references_with : Bool → List CodeCell → Contents → ℕ
+references_with is_lost finished contents = references_before is_lost finished + fixup_count contents.cells
+
+-- A lost routine is bounded by its labels alone: no number of the program is above this.
+abbrev pub unlimited : ℕ
+unlimited = 18446744073709551615
+
+abbrev pub most : Bool → CodeLimits → CodeLimits
+most is_lost limits = if is_lost then record { labels = limits.labels; code = unlimited; refs = unlimited } else limits
 
 -- the first limit that the beginning of code would pass
 abbrev pub full_first : CodeLimits → Option Setting
@@ -170,71 +199,95 @@ abbrev pub reference_count : Routines → ℕ
 reference_count routines = (if routines.has_begun then 5 else 4) + awaited routines.finished
 
 -- the first limit that another routine would pass behind so many bytes: it begins with the number of its locals, and code begins with it
-abbrev pub full_behind_bytes : CodeLimits → Bool → ℕ → Option Setting
-full_behind_bytes limits has_begun place =
-    if nat_lt (room limits).code (place + 1) then Some setting.Code else full_unless has_begun limits
+abbrev pub full_behind_bytes : CodeLimits → Bool → Bool → ℕ → Option Setting
+full_behind_bytes limits is_lost has_begun place =
+    if nat_lt (most is_lost (room limits)).code (place + 1) then Some setting.Code else full_unless has_begun limits
 
-abbrev pub full_opened : Routines → Option Setting
-full_opened routines = full_behind_bytes routines.limits routines.has_begun (size routines.finished)
+abbrev pub full_opened : Bool → Routines → Option Setting
+full_opened is_lost routines = full_behind_bytes routines.limits is_lost routines.has_begun (size routines.finished)
 
--- another routine of so many locals is open
-abbrev pub with_opened : ℕ → Routines → Routines
-with_opened locals routines = record routines { has_begun = true; opened = Some (fresh locals) }
+-- another routine of so many locals is open, which is lost or not
+abbrev pub with_opened : ℕ → Bool → Routines → Routines
+with_opened locals is_lost routines = record routines { has_begun = true; opened = Some (record { contents = fresh locals; is_lost = is_lost }) }
 
 -- The first limit that more cells in the open routine would pass: that of its labels, branches and jumps, of all bytes, and of all references.
-abbrev pub full_behind : CodeLimits → List CodeCell → List Cell → Option Contents → Option Setting
-full_behind limits finished cells None = None
-full_behind limits finished cells (Some contents) =
+abbrev pub full_cells : Bool → CodeLimits → List CodeCell → List Cell → Contents → Option Setting
+full_cells is_lost limits finished cells contents =
     if nat_lt limits.labels (label_count contents.cells + label_count cells) then Some setting.Labels else
     if nat_lt limits.code (bytes_with finished contents + length (long_bytes cells)) then Some setting.Code else
-    if nat_lt limits.refs (references_with finished contents + fixup_count cells) then Some setting.Refs else None
+    if nat_lt limits.refs (references_with is_lost finished contents + fixup_count cells) then Some setting.Refs else None
+
+abbrev pub full_behind : CodeLimits → List CodeCell → List Cell → Option Opened → Option Setting
+full_behind limits finished cells None = None
+full_behind limits finished cells (Some o) = full_cells o.is_lost (most o.is_lost limits) finished cells o.contents
 
 abbrev pub full_with : Parts → Routines → Option Setting
 full_with parts routines = full_behind (room routines.limits) routines.finished (instruction_cells parts) routines.opened
 
--- the first limit that the open routine would pass with what returns at its end, or all references would, or the routine with the
--- zeros behind it
-abbrev pub full_end : CodeLimits → RoutineKind → List CodeCell → Option Contents → Option Setting
-full_end limits kind finished None = None
-full_end limits kind finished (Some contents) =
-    if is_full contents.is_final limits.code (bytes_with finished contents) then Some setting.Code else
-    if nat_lt limits.refs (references_with finished contents) then Some setting.Refs else
-    if nat_lt limits.code (size (finished ++ padded (routine_cells (size finished) kind contents))) then Some setting.Code else None
+-- the limit that one more label would pass
+abbrev pub full_marked : CodeLimits → Option Opened → Option Setting
+full_marked limits None = None
+full_marked limits (Some o) = if nat_lt limits.labels (label_count o.contents.cells + 1) then Some setting.Labels else None
 
-abbrev pub full_closed : RoutineKind → Routines → Option Setting
-full_closed kind routines = full_end (room routines.limits) kind routines.finished routines.opened
+abbrev pub full_label : Routines → Option Setting
+full_label routines = full_marked (room routines.limits) routines.opened
+
+-- What is wrong with a routine behind so many bytes and references: a label that is missing or stands twice, an offset that does not fit, the
+-- first limit that it would pass with what returns at its end, or that all references would.
+abbrev pub limit_fault : CodeLimits → ℕ → Contents → ℕ → Option CloseFault
+limit_fault limits references contents len =
+    if is_full contents.is_final limits.code len then Some (close_fault.Full setting.Code) else
+    if nat_lt limits.refs (references + fixup_count contents.cells) then Some (close_fault.Full setting.Refs) else None
+
+abbrev pub fault_behind : CodeLimits → ℕ → ℕ → Contents → Option CloseFault
+fault_behind limits start references contents =
+    missing_fault
+    (twice_fault (body_fault (λ body. limit_fault limits references contents (start + 1 + length body)) (body_bytes start contents)) (twice_behind [] contents.cells))
+    (missing (long_places start contents) contents.cells)
+
+-- or the routine with the zeros behind it would pass the limit of bytes
+abbrev pub zeros_fault : Bool → ℕ → ℕ → Option CloseFault
+zeros_fault is_lost limit len = if is_lost then None else if nat_lt limit len then Some (close_fault.Full setting.Code) else None
+
+abbrev pub first_fault : Option CloseFault → Option CloseFault → Option CloseFault
+first_fault None later = later
+first_fault (Some fault) later = Some fault
+
+abbrev pub fault_end : CodeLimits → RoutineKind → List CodeCell → Option Opened → Option CloseFault
+fault_end limits kind finished None = None
+fault_end limits kind finished (Some o) =
+    first_fault (fault_behind (most o.is_lost limits) (size finished) (references_before o.is_lost finished) o.contents)
+    (zeros_fault o.is_lost limits.code (size (finished ++ padded (routine_cells (size finished) kind o.contents))))
+
+abbrev pub fault_closed : RoutineKind → Routines → Option CloseFault
+fault_closed kind routines = fault_end (room routines.limits) kind routines.finished routines.opened
 
 -- the limits of each routine
 abbrev pub routine_limits : CodeLimits → Limits
 routine_limits limits = record { labels = limits.labels; code = limits.code }
 
--- that an open routine stands behind so many bytes, up to the end of the area, and has no label, branch or jump
-pub record StandsBehind (most : CodeLimits) (place : ℕ) (bytes : List ℕ) (routine : State) : Type 0 where
+-- that an open routine stands behind so many bytes, up to the end of the area
+pub record StandsBehind (bound : CodeLimits) (place : ℕ) (bytes : List ℕ) (routine : State) : Type 0 where
   pub start : routine.start ≡ place
   pub open_still : IsOpen routine bytes
-  pub straight : label_count (contents_of routine bytes).cells ≡ 0
-  pub limits : routine.limits ≡ routine_limits most
+  pub limits : routine.limits ≡ routine_limits bound
 
 abbrev pub IsBehind : CodeLimits → ℕ → List ℕ → Option State → Type 0
 IsBehind limits place bytes None = Unit {0}
 IsBehind limits place bytes (Some routine) = StandsBehind limits place bytes routine
 
--- what code is: finished routines of so many bytes, fixups in them, and an open routine
-pub record IsCode (limits : CodeLimits) (finished : ℕ) (refs : Fixups) (bytes : List ℕ) (routine : Option State) : Type 0 where
+-- what code is: finished routines of so many bytes, fixups in them, and an open routine, which is lost or not
+pub record IsCode (limits : CodeLimits) (finished : ℕ) (refs : Fixups) (bytes : List ℕ) (is_lost : Bool) (routine : Option State) : Type 0 where
   pub within : finished ≤ length bytes
   pub in_order : AreInOrder 0 refs.list finished
   pub limit : refs.limit ≡ limits.refs
   pub few : finished ≤ limits.code
-  pub behind : IsBehind limits finished bytes routine
+  pub behind : IsBehind (most is_lost limits) finished bytes routine
+
+-- no fixups, and any number of them may come
+abbrev pub IsSpare : Fixups → Type 0
+IsSpare refs = refs ≡ record { list = []; limit = unlimited }
 
 -- code that has begun has room for its beginning; limits are numbers of the program
 abbrev pub HasRoom : Bool → CodeLimits → Type 0
 HasRoom has_begun limits = ((limits.code < 2 ^ 64) × (limits.refs < 2 ^ 64)) × (has_begun ≡ true → (8 ≤ limits.code) × (5 ≤ limits.refs))
-
--- whether a routine that has no label, branch or jump may be refused so: for want of room
-abbrev pub is_of_room : CloseFault → Bool
-is_of_room (close_fault.LabelMissing label) = false
-is_of_room (close_fault.LabelTwice label) = false
-is_of_room close_fault.TooFar = false
-is_of_room (close_fault.Full setting) = true
-is_of_room close_fault.Memory = true
