@@ -20,24 +20,37 @@ crates_below() {
         !/^#/ && NF { names[++count] = $1; line[$1] = $0 }
         END {
             needed[top] = 1
-            for (i = count; i > 0; i--)
-                if (names[i] in needed) {
-                    n = split(line[names[i]], deps, "[: ]+")
-                    for (j = 2; j <= n; j++) needed[deps[j]] = 1
-                }
+            for (round = 1; round <= count; round++)
+                for (i = count; i > 0; i--)
+                    if (names[i] in needed) {
+                        n = split(line[names[i]], deps, "[: ]+")
+                        for (j = 2; j <= n; j++) needed[deps[j]] = 1
+                    }
             for (i = 1; i <= count; i++) if (names[i] in needed) print names[i]
         }' "$root/crates.txt"
 }
 
-# Whether a crate was proved for those above it, and none of its files is newer.
-is_proved() {
-    local stamp=$root/crates/$1/out/rlib/stamp newer
-    [[ -e $stamp ]] || return 1
-    newer=$(find "$root/crates/$1" \( -name out -o -name must-fail \) -prune -o -type f -newer "$stamp" -print -quit)
-    [[ -z $newer ]]
+# The files that the compiler is proved and built from, a line each: the list of crates, the handles, and the sources,
+# definitions and proofs of its crates.
+source_files() {
+    local folders
+    mapfile -t folders < <(crates_below inform | sed 's|^|crates/|')
+    printf '%s\n' crates.txt HANDLES
+    (cd "$root" && find "${folders[@]}" \( -name out -o -name must-fail \) -prune -o -type f -print) | LC_ALL=C sort
 }
 
-# Whether the compiler is there, and nothing that it is made of is newer than its proof.
+# The sum of these files.
+sum_of_sources() {
+    source_files | (cd "$root" && xargs -d '\n' sha256sum) | sha256sum | cut -d ' ' -f 1
+}
+
+# Whether the program in release/ was built from the sources at hand.
+is_released() {
+    [[ -x $root/release/inform && -e $root/release/sources.sha256 ]] &&
+        [[ $(cat "$root/release/sources.sha256") == "$(sum_of_sources)" ]]
+}
+
+# Whether a compiler was built here, and nothing that it is made of is newer than it.
 is_built() {
     local out=$root/crates/inform/out newer folders
     [[ -x $out/inform && -e $out/built ]] || return 1
@@ -50,4 +63,16 @@ is_built() {
 # Notes that the compiler was built of what stood there when this file was made.
 mark_built() {
     touch -r "$1" "$root/crates/inform/out/built"
+}
+
+# Copies these crates, without the edits that must be refused, with their lines of crates.txt, to a folder.
+copy_crates() {
+    local to=$1 name
+    shift
+    mkdir -p "$to/crates"
+    cp "$root/HANDLES" "$to"
+    for name in "$@"; do
+        grep "^$name:" "$root/crates.txt" >>"$to/crates.txt"
+        tar -C "$root/crates" -c --exclude="$name/out" --exclude="$name/must-fail" "$name" | tar -C "$to/crates" -x
+    done
 }

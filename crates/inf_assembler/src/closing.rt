@@ -9,7 +9,7 @@ ghost use Rattle.inf_assembler.specs.Closing.{found, saving, kept_place, kept_mi
 
 use arrayvec::ArrayVec;
 use inf_area::{AddFault, Area, AreaName, Fixup, Refs};
-use inf_opcode::{Kept, Label, Special, Destination, sense_bit};
+use inf_opcode::{Destination, Kept, Label, Special, sense_bit};
 use std::alloc::{AllocError, Global};
 
 // The place of a label in a table, which is none where the table ends before it.

@@ -2,7 +2,7 @@
 use crate::fixups::called;
 use crate::items::{Item, Parsed};
 use crate::words::word;
-use inf_opcode::{Branch, Label, Opcode, Operand, Destination};
+use inf_opcode::{Branch, Destination, Label, Opcode, Operand};
 use std::alloc::{AllocError, Global};
 
 /// A number, or the turn where it is spelled `+`.

@@ -2,9 +2,9 @@
 
 use crate::expecting::expect;
 use inf_area::Target;
-use inf_assembler::{GrowFault, RoutineKind, Setting};
+use inf_assembler::{CloseFault, GrowFault, RoutineKind, Setting};
 use inf_code::code::{Code, CodeLimits};
-use inf_opcode::{Instruction, Opcode, Operand};
+use inf_opcode::{Branch, Destination, Instruction, Label, Opcode, Operand};
 use std::alloc::Global;
 use std::process::Abort;
 
@@ -13,6 +13,12 @@ use std::process::Abort;
 enum Addition {
     /// The beginning of a routine of so many locals, at most 15.
     Open(u8),
+    /// The same of a routine that is lost.
+    OpenLost(u8),
+    /// A branch to the label of this number, where the first local is not 0.
+    BranchTo(u32),
+    /// The place of the label of this number.
+    MarkAt(u32),
     /// A call of the routine of this number with the first local.
     Call(usize),
     /// A return of the number of this routine.
@@ -31,6 +37,8 @@ enum Step {
     Adds(Addition),
     /// This is refused, as it would pass a limit.
     Refuses(Addition, Setting),
+    /// The end of a routine is refused for this.
+    Fails(CloseFault),
     GivesUp,
     /// Code begins, or would pass this limit.
     Begins(Option<Setting>),
@@ -68,10 +76,28 @@ fn emit_return(code: &mut Code, number: usize) -> Result<(), GrowFault> {
 }
 
 /// Adds a routine of one local, which calls a routine with it.
-fn add_whole(alloc: Global, code: &mut Code, number: usize) -> Result<(), GrowFault> {
-    code.open(alloc, 1)?;
-    emit_call(code, number)?;
+fn add_whole(alloc: Global, code: &mut Code, number: usize) -> Result<(), CloseFault> {
+    grown(code.open(alloc, 1, false))?;
+    grown(emit_call(code, number))?;
     code.close(RoutineKind::Plain)
+}
+
+/// A branch where the first local is not 0.
+fn emit_branch(code: &mut Code, number: u32) -> Result<(), GrowFault> {
+    let branch = Branch {
+        sense: false,
+        target: Destination::To(Label { number }),
+    };
+    code.emit(&Instruction::new(Opcode::Jz, &[Operand::Variable(1)], Some(branch)))
+}
+
+/// What refuses to grow, as the end of a routine would say it.
+fn grown(grown: Result<(), GrowFault>) -> Result<(), CloseFault> {
+    match grown {
+        Ok(()) => Ok(()),
+        Err(GrowFault::Full(setting)) => Err(CloseFault::Full(setting)),
+        Err(GrowFault::Memory) => Err(CloseFault::Memory),
+    }
 }
 
 /// Adds this.
@@ -80,16 +106,18 @@ fn add(
     alloc: Global,
     code: &mut Code,
     addition: &Addition,
-) -> Result<(), GrowFault> {
+) -> Result<(), CloseFault> {
     match addition {
-        Open(locals) => {
+        Open(locals) | OpenLost(locals) => {
             assert!(rt; *locals <= 15);
-            code.open(alloc, *locals)
+            grown(code.open(alloc, *locals, matches!(addition, OpenLost(_))))
         }
-        Call(number) => emit_call(code, *number),
-        Return(number) => emit_return(code, *number),
-        NewLine => code.emit(&Instruction::bare(Opcode::NewLine)),
-        Quit => code.emit(&Instruction::bare(Opcode::Quit)),
+        BranchTo(number) => grown(emit_branch(code, *number)),
+        MarkAt(number) => grown(code.label(Label { number: *number })),
+        Call(number) => grown(emit_call(code, *number)),
+        Return(number) => grown(emit_return(code, *number)),
+        NewLine => grown(code.emit(&Instruction::bare(Opcode::NewLine))),
+        Quit => grown(code.emit(&Instruction::bare(Opcode::Quit))),
         Close => code.close(RoutineKind::Plain),
         Whole(number) => add_whole(alloc, code, *number),
     }
@@ -100,9 +128,10 @@ fn take(rt: &impl Abort, alloc: Global, code: &mut Code, step: &Step, at: (&str,
     match step {
         Adds(addition) => expect(rt, &at, &add(rt, alloc, code, addition), &Ok(())),
         Refuses(addition, setting) => {
-            let refused = Err(GrowFault::Full(*setting));
+            let refused = Err(CloseFault::Full(*setting));
             expect(rt, &at, &add(rt, alloc, code, addition), &refused);
         }
+        Fails(fault) => expect(rt, &at, &code.close(RoutineKind::Plain), &Err(*fault)),
         GivesUp => code.give_up(),
         Begins(full) => expect(rt, &at, &code.begin(), full),
         Len(bytes) => expect(rt, &at, &code.len(), bytes),
@@ -121,7 +150,7 @@ fn take_all(rt: &impl Abort, alloc: Global, code: &mut Code, case: &str, steps: 
 }
 
 /// What a case shows, its steps, the numbers that are known at the end, and the bytes of the finished routines.
-const WRITTEN: [(&str, &[Step], &[u16], &[u8]); 4] = [
+const WRITTEN: [(&str, &[Step], &[u16], &[u8]); 6] = [
     (
         "a call takes its number",
         &[Counts(0, 4), Adds(Whole(1)), Len(8), Counts(16, 6)],
@@ -143,6 +172,46 @@ const WRITTEN: [(&str, &[Step], &[u16], &[u8]); 4] = [
             0x01, 0xDA, 0x2F, 0xAB, 0xCD, 0x01, 0xB0, 0x00, 0x01, 0xDA, 0x2F, 0x12, 0x34, 0x01,
             0xB0, 0x00, 0x01, 0xDA, 0x2F, 0x00, 0x00, 0x01, 0xB0, 0x00,
         ],
+    ),
+    (
+        // A short branch over `new_line`, and one label for two branches.
+        "branches go to labels",
+        &[
+            Adds(Open(1)),
+            Adds(BranchTo(4)),
+            Adds(NewLine),
+            Adds(BranchTo(4)),
+            Adds(NewLine),
+            Adds(MarkAt(4)),
+            Adds(Close),
+            Len(12),
+        ],
+        &[],
+        &[
+            0x01, 0xA0, 0x01, 0x47, 0xBB, 0xA0, 0x01, 0x43, 0xBB, 0xB0, 0x00, 0x00,
+        ],
+    ),
+    (
+        // Of a lost one nothing is left, but what is wrong with its labels is told.
+        "a lost routine gives nothing",
+        &[
+            Adds(OpenLost(1)),
+            Adds(Call(1)),
+            Adds(BranchTo(0)),
+            Fails(CloseFault::LabelMissing(Label { number: 0 })),
+            Adds(OpenLost(1)),
+            Adds(MarkAt(3)),
+            Adds(MarkAt(3)),
+            Fails(CloseFault::LabelTwice(Label { number: 3 })),
+            Adds(OpenLost(2)),
+            Adds(Call(1)),
+            Adds(Close),
+            Len(0),
+            Counts(8, 5),
+            Adds(Whole(0)),
+        ],
+        &[0x1234],
+        &[0x01, 0xDA, 0x2F, 0x12, 0x34, 0x01, 0xB0, 0x00],
     ),
     (
         "a routine that is given up leaves nothing",
@@ -182,7 +251,40 @@ fn routines_are_written_out(rt: HostRuntime) {
 }
 
 /// What a case shows, the most bytes and references, and the steps.
-const LIMITED: [(&str, usize, usize, &[Step]); 11] = [
+const LIMITED: [(&str, usize, usize, &[Step]); 13] = [
+    // Its bytes and references are counted for nothing, its labels are counted.
+    (
+        "a lost routine is bounded by its labels",
+        8,
+        5,
+        &[
+            Adds(OpenLost(1)),
+            Adds(Call(1)),
+            Adds(Call(1)),
+            Adds(BranchTo(0)),
+            Adds(BranchTo(0)),
+            Adds(MarkAt(0)),
+            Refuses(MarkAt(1), Setting::Labels),
+            Adds(Close),
+            Counts(8, 5),
+        ],
+    ),
+    (
+        "labels and branches count together",
+        1_000,
+        100,
+        &[
+            Adds(Open(1)),
+            Adds(BranchTo(0)),
+            Adds(MarkAt(0)),
+            Adds(BranchTo(0)),
+            Refuses(BranchTo(0), Setting::Labels),
+            Refuses(MarkAt(1), Setting::Labels),
+            Adds(Close),
+            Adds(Open(1)),
+            Adds(BranchTo(0)),
+        ],
+    ),
     // The first routine; the number of locals, the five bytes of a call, what returns, and a zero.
     (
         "a routine takes the last byte",
@@ -215,7 +317,7 @@ const LIMITED: [(&str, usize, usize, &[Step]); 11] = [
         &[Begins(Some(Setting::Code))],
     ),
     (
-        "the first routine takes a target",
+        "the first routine takes a reference",
         8,
         4,
         &[Begins(Some(Setting::Refs))],
@@ -266,7 +368,7 @@ const LIMITED: [(&str, usize, usize, &[Step]); 11] = [
         ],
     ),
     (
-        "the last target is the limit",
+        "the last reference is the limit",
         1_000,
         7,
         &[
@@ -296,9 +398,9 @@ const LIMITED: [(&str, usize, usize, &[Step]); 11] = [
 fn each_limit_is_reached_and_not_passed(rt: HostRuntime) {
     for (case, bytes, refs, steps) in LIMITED {
         let limits = CodeLimits {
+            labels: 3,
             code: bytes,
             refs,
-            ..ROOMY
         };
         let mut code = Code::new(rt.alloc(), limits);
         take_all(&rt, rt.alloc(), &mut code, case, steps);

@@ -5,10 +5,12 @@ use Rattle.std.specs.List.{flat_map}
 use Rattle.std.proofs.lemmas.Grind.{flat_map-append}
 use Rattle.byteorder.specs.Endian.{big_bytes}
 use Rattle.inf_area.specs.Words.{word as two_bytes}
+use Rattle.inf_area.specs.declared.targets.Target.{Target as CodeTarget}
+use Rattle.inf_area.specs.declared.targets.Target.TheVariants as target
 use Rattle.inf_text.specs.Packing.{packed, longest, character_zs}
-use Rattle.inf_code.specs.Code.{CodeCell, Known, Awaited, cell_bytes, code_bytes}
+use Rattle.inf_code.specs.Code.{CodeCell, Known, Awaited, cell_bytes, code_bytes, number_in}
 use Rattle.inf_layout.specs.Addresses.{Value, Number, RoutineAt, number_of, packed_address}
-use Rattle.inf_layout.specs.Areas.{AreaName, Cell, Target, cell_bytes as area_cell_bytes, value_cells, cells_of, size, start_routine, gap, fill, word, code_areas, bytes_from, Code}
+use Rattle.inf_layout.specs.Areas.{AreaName, Cell, Target, cell_bytes as area_cell_bytes, value_cells, target_value, cells_of, size, start_routine, gap, fill, word, code_areas, bytes_from, Code}
 use Rattle.inf_layout.specs.Fixed.{repeated, fixed_bytes, header_front, header_sizes, header_bytes, start_bytes, body_bytes, story_bytes, is_over_long}
 use Rattle.inf_layout.specs.Story.{is_too_long, base_of, body, story, most_bytes}
 
@@ -21,6 +23,13 @@ numbered : (values : List Value) (n : ℕ) → slice_get (map number_of values) 
 numbered [] n = refl
 numbered (v ∷ values) zero = refl
 numbered (v ∷ values) (suc n) = numbered values n
+
+target_numbered : (values : List Value) (t : CodeTarget) → number_in (map number_of values) t ≡ unwrap_or (option_map number_of (target_value values t)) 0
+target_numbered values (target.Name name) = ap (λ o. unwrap_or o 0) (numbered values name)
+target_numbered values (target.Place area place) = refl
+target_numbered values (target.Part area part) = refl
+target_numbered values (target.Word text) = refl
+target_numbered values (target.System what) = refl
 
 -- the number behind which a routine lies, as it is written
 in_two_bytes : (base : AreaName → ℕ) (place : ℕ) → base Code ≡ 960 → area_cell_bytes base (Target Code (8 + place) 4) ≡ two_bytes (packed_address place)
@@ -39,9 +48,9 @@ numbered_bytes base None e = refl
 -- a cell of the code is written as the bytes that it takes
 cell_written : (base : AreaName → ℕ) (values : List Value) (c : CodeCell) → base Code ≡ 960 → flat_map (area_cell_bytes base) (cells_of values c) ≡ cell_bytes (map number_of values) c
 cell_written base values (Known b) e = refl
-cell_written base values (Awaited r) e =
-    numbered_bytes base (slice_get values r.number) e
-    ∙ ap (λ o. two_bytes (unwrap_or o 0)) (sym (numbered values r.number))
+cell_written base values (Awaited t) e =
+    numbered_bytes base (target_value values t) e
+    ∙ ap two_bytes (sym (target_numbered values t))
 
 flat_cells : (base : AreaName → ℕ) (values : List Value) (code : List CodeCell) → base Code ≡ 960 → flat_map (area_cell_bytes base) (flat_map (cells_of values) code) ≡ code_bytes (map number_of values) code
 flat_cells base values [] e = refl
@@ -61,7 +70,7 @@ size_numbered None = refl
 
 size_cell : (values : List Value) (c : CodeCell) → size (cells_of values c) ≡ length (cell_bytes (map number_of values) c)
 size_cell values (Known b) = refl
-size_cell values (Awaited r) = size_numbered (slice_get values r.number)
+size_cell values (Awaited t) = size_numbered (target_value values t)
 
 size_cells : (values : List Value) (code : List CodeCell) → size (flat_map (cells_of values) code) ≡ length (code_bytes (map number_of values) code)
 size_cells values [] = refl

@@ -5,6 +5,8 @@ use Rattle.std.specs.List.{flat_map}
 use Rattle.byteorder.specs.Endian.{big_bytes}
 use Rattle.inf_text.specs.Packing.{packed}
 use Rattle.inf_area.specs.Words.{word as two_bytes}
+use Rattle.inf_area.specs.declared.targets.Target.{Target as CodeTarget}
+use Rattle.inf_area.specs.declared.targets.Target.TheVariants as target
 use Rattle.inf_layout.specs.Addresses.{Value, Number, RoutineAt}
 use Rattle.inf_code.specs.Code.{CodeCell, Known, Awaited}
 use Rattle.inf_characters.specs.declared.texts.TextItem.TheVariants.{Character}
@@ -169,10 +171,15 @@ value_cells (Some (Number number)) = bytes_cells (two_bytes number)
 value_cells (Some (RoutineAt place)) = Target Code (8 + place) 4 ∷ []
 value_cells None = bytes_cells (0 ∷ 0 ∷ [])
 
+-- what a target is, with what all names are
+abbrev pub target_value : List Value → CodeTarget → Option Value
+target_value values (target.Name name) = slice_get values name
+target_value values _ = None
+
 -- a cell of the code, with what all names are
 abbrev pub cells_of : List Value → CodeCell → List Cell
 cells_of values (Known byte) = Byte byte ∷ []
-cells_of values (Awaited r) = value_cells (slice_get values r.number)
+cells_of values (Awaited t) = value_cells (target_value values t)
 
 -- The code with the routines of the source, the first routine calling the one at a place among them, and the strings.
 -- Both begin at multiples of 4 (section 1.2.3).

@@ -3,14 +3,15 @@ use Rattle.std.proofs.Common.{refl}
 use Rattle.std.specs.Fmt.{digits}
 use Rattle.inf_grammar.specs.Language as language
 use Rattle.inf_names.specs.SystemNames as system
+use Rattle.inf_work.specs.Units as units
 use Rattle.inf_reader.specs.Constants.{ConstantsAreRefused, NumbersAreKnown, NumbersAreWritten}
 
 pub numbers_are_known : NumbersAreKnown
-unfolding language.grammar language.known system.system_names
+unfolding units.returning language.grammar language.known system.system_names
 numbers_are_known = refl
 
 pub numbers_are_written : NumbersAreWritten
-unfolding language.grammar language.known system.system_names
+unfolding units.returning language.grammar language.known system.system_names
 numbers_are_written = refl
 
 pub constants_are_refused : ConstantsAreRefused

@@ -26,11 +26,11 @@ NumbersAreKnown =
     bytes_of (codes "[ Main; F(K); ]; Constant K = 3; [ F x; return K; ];")
     ≡ 0x00 ∷ 0xDA ∷ 0x0F ∷ 0x00 ∷ 0xF4 ∷ 0x00 ∷ 0x03 ∷ 0xB0 ∷ 0x01 ∷ 0x9B ∷ 0x03 ∷ 0x00 ∷ []
 
--- `ret` with 256 in two bytes, and with 0 where no number is given; `call_1n` with a constant that is called
+-- `ret` with 256 in two bytes, and `rfalse` for 0, where no number is given; `call_1n` with a constant that is called
 abbrev pub NumbersAreWritten : Type 0
 NumbersAreWritten =
     bytes_of (codes "Constant K 256; #Constant Z; [ Main; return K; ]; [ F; return Z; ]; [ G; z(); ];")
-    ≡ 0x00 ∷ 0x8B ∷ 0x01 ∷ 0x00 ∷ 0x00 ∷ 0x9B ∷ 0x00 ∷ 0x00 ∷ 0x00 ∷ 0x9F ∷ 0x00 ∷ 0xB0 ∷ []
+    ≡ 0x00 ∷ 0x8B ∷ 0x01 ∷ 0x00 ∷ 0x00 ∷ 0xB1 ∷ 0x00 ∷ 0x00 ∷ 0x00 ∷ 0x9F ∷ 0x00 ∷ 0xB0 ∷ []
 
 -- a name that stands already, one that the language has, and what does not stand behind a number
 abbrev pub ConstantsAreRefused : Type 0

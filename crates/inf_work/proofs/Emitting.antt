@@ -1,19 +1,15 @@
--- The instructions that statements make are those that the instruction set has, and have no label, branch or jump.
-use Rattle.std.specs.Prelude.{IsTrue, nat_le}
+-- The instructions that statements make are those that the instruction set has.
+use Rattle.std.specs.Prelude.{IsTrue, nat_le, ◌==◌}
 use Rattle.std.proofs.lemmas.Bool.{leb-true, leb-false}
-use Rattle.std.proofs.Common.{◌≡◌, ℕ, ◌≤◌, arith, false, List, [], ◌∷◌, ◌++◌, length, refl, ◌∙◌}
+use Rattle.std.proofs.Common.{◌≡◌, ℕ, ◌≤◌, arith, List, [], ◌∷◌, ◌++◌, length, refl, ◌∙◌}
 use Rattle.inf_opcode.specs.declared.opcodes.Opcode.{Opcode}
 use Rattle.inf_opcode.specs.declared.opcodes.Opcode.TheVariants as opcode
 use Rattle.inf_opcode.specs.declared.instructions.Operand.{Operand}
 use Rattle.inf_opcode.specs.declared.instructions.Operand.TheVariants as operand
-use Rattle.inf_opcode.specs.Cells.{label_count}
 use Rattle.inf_text.specs.Words.{are_words}
-use Rattle.inf_opcode.specs.Instructions.{Parts, IsProper, bare, has_no_offset, instruction_cells}
-use Rattle.inf_opcode.specs.Opcodes.{row_of}
-use Rattle.inf_opcode.proofs.Counting.{labels-plain}
-use Rattle.inf_layout.proofs.Straight.{straight_is}
+use Rattle.inf_opcode.specs.Instructions.{Parts, IsProper, bare, has_no_offset}
 use Rattle.inf_unit.proofs.Cases.{of_both}
-use Rattle.inf_work.specs.Units.{call_opcode, calling, returning}
+use Rattle.inf_work.specs.Units.{calling, returning, returning_small}
 use Rattle.inf_work.proofs.TextWords.{text_is_words}
 
 -- no operand is an offset to a label
@@ -24,16 +20,6 @@ no_offset_more ((operand.Small byte) ∷ operands) more none last = no_offset_mo
 no_offset_more ((operand.Variable number) ∷ operands) more none last = no_offset_more operands more none last
 no_offset_more ((operand.Later target) ∷ operands) more none last = no_offset_more operands more none last
 no_offset_more ((operand.Offset label) ∷ operands) more none last = cc
-
--- the opcodes of calls
-abbrev pub IsStraight : Opcode → Type 0
-IsStraight o = ((row_of o).branches ≡ false) × ((row_of o).jumps ≡ false)
-
-call_is_straight : (operands : ℕ) → IsStraight (call_opcode operands)
-call_is_straight operands =
-    of_both IsStraight (nat_le operands 1) opcode.Call1n _ (λ _. (refl, refl))
-    (λ _. of_both IsStraight (nat_le operands 2) opcode.Call2n _ (λ _. (refl, refl))
-    (λ _. of_both IsStraight (nat_le operands 4) opcode.CallVn opcode.CallVn2 (λ _. (refl, refl)) (λ _. (refl, refl))))
 
 -- what calls need
 abbrev pub ProperWith : List Operand → Opcode → Type 0
@@ -49,16 +35,24 @@ call_is_proper operands some few none =
     (λ e. record { enough = omega arith; few = leb-true (length operands) 4 e; variable = refl; jump = none; store = refl; branch = refl; text = refl })
     (λ e. record { enough = omega arith; few = few; variable = refl; jump = none; store = refl; branch = refl; text = refl })))
 
-pub return_is_proper : (operands : List Operand) → length operands ≡ 1 → IsTrue (has_no_offset operands) → IsProper (returning operands)
-return_is_proper operands one none =
+-- a return of a number that is known as 1 or 0 has no operand
+ret_is_proper : (operands : List Operand) → length operands ≡ 1 → IsTrue (has_no_offset operands) → IsProper (record (bare opcode.Ret) { operands = operands })
+ret_is_proper operands one none =
     record { enough = omega (arith, one); few = omega (arith, one); variable = refl; jump = none; store = refl; branch = refl; text = refl }
 
-pub straight_call : (operands : List Operand) → IsProper (calling operands) → label_count (instruction_cells (calling operands)) ≡ 0
-straight_call operands proper =
-    let straight = call_is_straight (length operands) in straight_is (calling operands) proper straight.0 straight.1
+bare_is_proper : (number : ℕ) (operands : List Operand) → IsProper (record (bare opcode.Ret) { operands = operands }) → IsProper (returning_small number operands)
+bare_is_proper number operands ret =
+    of_both IsProper (number == 1) (bare opcode.Rtrue) _ (λ _. record { enough = omega arith; few = omega arith; variable = refl; jump = refl; store = refl; branch = refl; text = refl })
+    (λ _. of_both IsProper (number == 0) (bare opcode.Rfalse) _ (λ _. record { enough = omega arith; few = omega arith; variable = refl; jump = refl; store = refl; branch = refl; text = refl }) (λ _. ret))
 
-pub straight_return : (operands : List Operand) → IsProper (returning operands) → label_count (instruction_cells (returning operands)) ≡ 0
-straight_return operands proper = straight_is (returning operands) proper refl refl
+pub return_is_proper : (operands : List Operand) → length operands ≡ 1 → IsTrue (has_no_offset operands) → IsProper (returning operands)
+unfolding returning
+return_is_proper [] one none = ret_is_proper [] one none
+return_is_proper ((operand.Large number) ∷ operands) one none = ret_is_proper (operand.Large number ∷ operands) one none
+return_is_proper ((operand.Small number) ∷ operands) one none = bare_is_proper number (operand.Small number ∷ operands) (ret_is_proper (operand.Small number ∷ operands) one none)
+return_is_proper ((operand.Variable number) ∷ operands) one none = ret_is_proper (operand.Variable number ∷ operands) one none
+return_is_proper ((operand.Later target) ∷ operands) one none = ret_is_proper (operand.Later target ∷ operands) one none
+return_is_proper ((operand.Offset label) ∷ operands) one none = ret_is_proper (operand.Offset label ∷ operands) one none
 
 -- the instruction that prints some bytes
 abbrev pub printing_bytes : List ℕ → Parts
@@ -67,6 +61,3 @@ printing_bytes bytes = record (bare opcode.Print) { text = bytes }
 pub print_is_proper : (bytes : List ℕ) → IsTrue (are_words bytes) → IsProper (printing_bytes bytes)
 print_is_proper bytes words =
     record { enough = omega arith; few = omega arith; variable = refl; jump = refl; store = refl; branch = refl; text = text_is_words bytes ∙ words }
-
-pub straight_print : (bytes : List ℕ) → label_count (instruction_cells (printing_bytes bytes)) ≡ 0
-straight_print bytes = labels-plain bytes

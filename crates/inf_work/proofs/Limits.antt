@@ -1,5 +1,5 @@
 -- No action changes what there may be of names and of code.
-use Rattle.std.proofs.Common.{◌≡◌, ℕ, Bool, true, false, List, [], ◌∷◌, Option, Some, None, is_some, refl, ◌∙◌}
+use Rattle.std.proofs.Common.{◌≡◌, ℕ, Bool, false, List, [], ◌∷◌, Option, Some, None, is_some, refl, ◌∙◌}
 use Rattle.inf_characters.specs.declared.texts.TextItem.{TextItem}
 use Rattle.inf_scanner.specs.declared.tokens.Place.{Place}
 use Rattle.inf_opcode.specs.declared.opcodes.Opcode.TheVariants as opcode
@@ -7,7 +7,7 @@ use Rattle.inf_opcode.specs.declared.instructions.Operand.{Operand}
 use Rattle.inf_opcode.specs.Instructions.{Parts, bare}
 use Rattle.inf_assembler.specs.declared.routines.RoutineKind.TheVariants as routine_kind
 use Rattle.inf_assembler.specs.declared.routines.Setting.{Setting as CodeSetting}
-use Rattle.inf_names.specs.Symbols.{Table, found_in, refer_fault, declare_fault, with_used, with_used_by, with_declared}
+use Rattle.inf_names.specs.Symbols.{Table, found_in, refer_fault, declare_fault, with_used, with_used_by}
 use Rattle.inf_names.specs.declared.meanings.Meaning.{Meaning}
 use Rattle.inf_names.specs.declared.symbols.DeclareFault.{DeclareFault}
 use Rattle.inf_names.specs.declared.symbols.Found.{Found}
@@ -17,8 +17,7 @@ use Rattle.inf_settings.specs.declared.setting.Setting.{Setting}
 use Rattle.inf_symbol.specs.Spellings.{Name}
 use Rattle.inf_symbol.specs.Locals.{Local, Headed, number_of, with_all_named}
 use Rattle.inf_unit.specs.Names.{constant_in}
-use Rattle.inf_code.specs.declared.code.CodeLimits.{CodeLimits}
-use Rattle.inf_code.specs.Code.{Routines, begun_unless, full_begun, full_opened, full_closed, with_closed, with_none_open}
+use Rattle.inf_code.specs.Code.{Routines, begun_unless, full_begun, full_opened, fault_closed, with_closed, with_none_open}
 use Rattle.inf_syntax.specs.declared.actions.Action.{Action}
 use Rattle.inf_syntax.specs.declared.actions.Action.TheVariants as action
 use Rattle.inf_unit.specs.declared.directives.Directive.{Directive}
@@ -31,7 +30,7 @@ use Rattle.inf_unit.specs.Messages.{FileNames, Blame}
 use Rattle.inf_unit.specs.Statements.{Unit}
 use Rattle.inf_unit.proofs.Cases.{of_both}
 use Rattle.inf_work.specs.Units.{Operands, call_fault, calling, operand_fault, printing, returning, used, with_constant_by, with_name, with_operand, with_operand_by, with_operands}
-use Rattle.inf_work.specs.Actions.{Grown, Output, Work, act, acted, begun, begun_at, behind_by, call, carried_out, close, close_open, closed, constant, directive_end, emitted, finish, grown, header, header_with, instructed, opened, printed, referred, replace, return_of, statement_end, with_instruction, with_operands_by, is_replaced}
+use Rattle.inf_work.specs.Actions.{Grown, Output, Work, act, acted, begun_at, behind_by, call, carried_out, close, close_open, closed, constant, directive_end, emitted, finish, grown, header, header_with, instructed, opened, printed, referred, replace, return_of, statement_end, with_instruction, with_operands_by, is_replaced}
 use Rattle.inf_work.specs.Limits.{SameLimits}
 
 -- Names
@@ -87,12 +86,11 @@ begun_by_same None r = refl
 begun_by_same (Some s) r = refl
 
 opened_same : (locals : ℕ) (is_lost : Bool) (o : Output) → SameCode o (opened locals is_lost o).output
-opened_same locals true o = begun_by_same (full_begun o.code) (record o.code { opened = None })
-opened_same locals false o = grown_same o (full_opened o.code) _ _ refl refl
+opened_same locals is_lost o = grown_same o (full_opened is_lost o.code) _ _ refl refl
 
-closed_same : (o : Output) → SameCode o (closed o).output
+closed_same : (o : Output) → SameCode o (closed o)
 closed_same o =
-    grown_same o (full_closed routine_kind.Plain o.code) (record o { code = with_closed routine_kind.Plain o.code }) (record o { code = with_none_open o.code }) refl refl
+    of_both (λ (r : Routines). r.limits ≡ o.code.limits) (is_some (fault_closed routine_kind.Plain o.code)) (with_none_open o.code) (with_closed routine_kind.Plain o.code) (λ _. refl) (λ _. refl)
 
 behind_same : (full : Option CodeSetting) (next : Output → Grown) (g : Grown) (o : Output) → SameCode g.output (next g.output).output → SameCode o g.output → SameCode o (behind_by full next g).output
 behind_same None next g o after before = after ∙ before

@@ -7,6 +7,8 @@ use Rattle.inf_opcode.specs.declared.opcodes.Opcode.TheVariants as opcode
 use Rattle.inf_opcode.specs.declared.instructions.Operand.{Operand}
 use Rattle.inf_opcode.specs.Instructions.{Parts, bare}
 use Rattle.inf_assembler.specs.declared.routines.RoutineKind.TheVariants as routine_kind
+use Rattle.inf_assembler.specs.declared.routines.CloseFault.{CloseFault}
+use Rattle.inf_assembler.specs.declared.routines.CloseFault.TheVariants as close_fault
 use Rattle.inf_assembler.specs.declared.routines.Setting.{Setting as CodeSetting}
 use Rattle.inf_settings.specs.Settings.{number_of}
 use Rattle.inf_settings.specs.declared.setting.Setting.{Setting}
@@ -16,12 +18,12 @@ use Rattle.inf_names.specs.Symbols.{Table, declare_fault, found_in, refer_fault,
 use Rattle.inf_names.specs.declared.symbols.Found.{Found}
 use Rattle.inf_names.specs.declared.symbols.Found.TheVariants as found
 use Rattle.inf_names.specs.declared.meanings.Meaning.TheVariants as meaning
-use Rattle.inf_report.specs.Messages.{UnusedLocal}
+use Rattle.inf_report.specs.Messages.{BranchTooFar, UnusedLocal}
 use Rattle.inf_report.specs.OwnWords.{Words}
 use Rattle.inf_symbol.specs.Spellings.{Name}
 use Rattle.inf_symbol.specs.Locals.{Local, Headed, with_all_named, with_locals, no_locals}
 use Rattle.inf_code.specs.declared.code.CodeLimits.{CodeLimits}
-use Rattle.inf_code.specs.Code.{Routines, begun as code_begun, full_begun, no_routines, size, with_item, with_closed, with_none_open, with_opened, full_opened, full_with, full_closed}
+use Rattle.inf_code.specs.Code.{Routines, begun as code_begun, full_begun, no_routines, size, with_item, with_closed, with_none_open, with_opened, full_opened, full_with, fault_closed}
 use Rattle.inf_syntax.specs.declared.actions.Action.{Action}
 use Rattle.inf_syntax.specs.declared.actions.Action.TheVariants as action
 use Rattle.inf_unit.specs.Directives.{Asked, Nothing, Include, End, weight_of}
@@ -136,22 +138,26 @@ emitted item o = grown (full_with item o.code) (record o { code = record o.code 
 abbrev pub begun : Output → Grown
 begun o = record { output = record o { code = code_begun o.code }; full = full_begun o.code }
 
--- A routine is opened with so many locals. One whose header had an error has no code, and none is open.
-abbrev pub lost : Output → Grown
-lost o = begun (record o { code = with_none_open o.code })
-
-abbrev pub opened_whole : ℕ → Output → Grown
-opened_whole locals o =
-    grown (full_opened o.code) (record o { code = with_opened locals o.code }) (record o { code = with_none_open o.code })
-
+-- A routine is opened with so many locals. One whose header had an error is lost.
 abbrev pub opened : ℕ → Bool → Output → Grown
-opened locals true o = lost o
-opened locals false o = opened_whole locals o
+opened locals is_lost o =
+    grown (full_opened is_lost o.code) (record o { code = with_opened locals is_lost o.code }) (record o { code = with_none_open o.code })
 
--- the open routine, if there is one, is finished
-abbrev pub closed : Output → Grown
-closed o =
-    grown (full_closed routine_kind.Plain o.code) (record o { code = with_closed routine_kind.Plain o.code }) (record o { code = with_none_open o.code })
+-- the setting that is full where a routine can't be closed, if it is for that
+abbrev pub full_of : Option CloseFault → Option CodeSetting
+full_of (Some (close_fault.Full setting)) = Some setting
+full_of _ = None
+
+-- whether it can't be closed for its labels or offsets
+abbrev pub is_far : Option CloseFault → Bool
+is_far (Some (close_fault.LabelMissing label)) = true
+is_far (Some (close_fault.LabelTwice label)) = true
+is_far (Some close_fault.TooFar) = true
+is_far _ = false
+
+-- the open routine, if there is one, is finished, unless something is wrong with it: then it is given up
+abbrev pub closed : Output → Output
+closed o = record o { code = if is_some (fault_closed routine_kind.Plain o.code) then with_none_open o.code else with_closed routine_kind.Plain o.code }
 
 -- some texts are printed one after the other
 abbrev pub printed : List (List TextItem) → Output → Grown
@@ -216,9 +222,19 @@ abbrev pub with_all_unused : FileNames → Place → List Local → Reported →
 with_all_unused files place [] r = r
 with_all_unused files place (l ∷ locals) r = with_all_unused files place locals (with_unused files place l r)
 
--- The end of a routine, at a place: its unused locals are told. Of one that is passed over nothing is.
+-- that a branch goes too far, where it does
+abbrev pub with_far : FileNames → Place → Option CloseFault → Reported → Reported
+with_far files place fault r = if is_far fault then with_error (location files place) (location files place) BranchTooFar r else r
+
+-- The end of a routine, at a place: what is wrong with it is told, and its unused locals. Of one that is passed over nothing is.
+abbrev pub close_by : FileNames → Place → Option CloseFault → Work → Work
+close_by files place fault w = record w {
+  output = closed w.output;
+  report = with_full files place (option_map setting_of (full_of fault)) (with_all_unused files place w.locals (with_far files place fault w.report));
+}
+
 abbrev pub close_open : FileNames → Place → Work → Work
-close_open files place w = checked files place (closed w.output) (record w { report = with_all_unused files place w.locals w.report })
+close_open files place w = close_by files place (fault_closed routine_kind.Plain w.output.code) w
 
 abbrev pub close : FileNames → Place → Work → Work
 close files place w = if w.is_passed_over then w else close_open files place w

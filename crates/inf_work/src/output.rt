@@ -1,16 +1,16 @@
 //! The code that was compiled so far.
 ghost use Rattle.std.specs.Prelude.{◌≡◌, ◌≤◌, None, Some, Err, IfOk, OnErr, MatchResult};
-ghost use Rattle.inf_opcode.specs.Cells.{label_count};
-ghost use Rattle.inf_opcode.specs.Instructions.{IsProper, bare, instruction_cells};
+ghost use Rattle.inf_opcode.specs.Instructions.{IsProper, bare};
 ghost use Rattle.inf_opcode.specs.PartsOf.{parts_of};
 ghost use Rattle.inf_assembler.specs.declared.routines.GrowFault.TheVariants as grow_fault;
 ghost use Rattle.inf_assembler.specs.declared.routines.Setting.{Setting as CodeSetting};
-ghost use Rattle.inf_work.specs.Actions.{begun, no_output, opened, opened_whole, emitted, printed, closed};
+ghost use Rattle.inf_work.specs.Actions.{begun, no_output, opened, emitted, printed, closed};
+ghost use Rattle.inf_code.specs.Code.{fault_closed};
 ghost use Rattle.inf_work.specs.Works.{output};
 ghost use Rattle.inf_work.specs.Units.{printing};
 
 use crate::instructions::printing;
-use inf_assembler::{GrowFault, RoutineKind, Setting as CodeSetting};
+use inf_assembler::{CloseFault, GrowFault, RoutineKind, Setting as CodeSetting};
 use inf_code::code::{Code, CodeLimits};
 use inf_opcode::{Instruction, Opcode};
 use inf_settings::setting::Setting;
@@ -50,8 +50,7 @@ impl Output {
         self.code.begin()
     }
 
-    /// Opens a routine of so many locals, at most 15, whose header had an error or not. One that is lost so has no code, and no
-    /// routine is open then.
+    /// Opens a routine of so many locals, at most 15. One whose header had an error is lost.
     pub fn open(
         &mut self,
         alloc: Global,
@@ -62,36 +61,21 @@ impl Output {
         ensures output { IfOk result (λ _. output self.new ≡ (opened locals is_lost (output self.old)).output) }
         ensures full { IfOk result (λ full. full ≡ (opened locals is_lost (output self.old)).full) }
     {
-        if is_lost {
-            self.code.give_up();
-            return Ok(self.code.begin());
-        }
-        self.open_whole(alloc, locals)
+        full_in(self.code.open(alloc, locals, is_lost))
     }
 
-    /// Opens a routine of so many locals, at most 15.
-    fn open_whole(&mut self, alloc: Global, locals: u8) -> Result<Option<CodeSetting>, AllocError>
-        requires { locals ≤ 15 }
-        ensures output { IfOk result (λ _. output self.new ≡ (opened_whole locals (output self.old)).output) }
-        ensures full { IfOk result (λ full. full ≡ (opened_whole locals (output self.old)).full) }
-    {
-        full_in(self.code.open(alloc, locals))
-    }
-
-    /// Appends an instruction without a branch or jump to the open routine, if there is one.
+    /// Appends an instruction to the open routine, if there is one.
     pub fn emit(&mut self, instruction: &Instruction<'_>) -> Result<Option<CodeSetting>, AllocError>
-        requires proper { IsProper (parts_of instruction.now) }
-        requires straight { label_count (instruction_cells (parts_of instruction.now)) ≡ 0 }
+        requires { IsProper (parts_of instruction.now) }
         ensures output { IfOk result (λ _. output self.new ≡ (emitted (parts_of instruction.now) (output self.old)).output) }
         ensures full { IfOk result (λ full. full ≡ (emitted (parts_of instruction.now) (output self.old)).full) }
     {
         full_in(self.code.emit(instruction))
     }
 
-    /// Appends the instruction of an opcode alone, which has no branch or jump.
+    /// Appends the instruction of an opcode alone.
     pub fn emit_bare(&mut self, opcode: Opcode) -> Result<Option<CodeSetting>, AllocError>
-        requires proper { IsProper (bare opcode) }
-        requires straight { label_count (instruction_cells (bare opcode)) ≡ 0 }
+        requires { IsProper (bare opcode) }
         ensures output { IfOk result (λ _. output self.new ≡ (emitted (bare opcode) (output self.old)).output) }
         ensures full { IfOk result (λ full. full ≡ (emitted (bare opcode) (output self.old)).full) }
     {
@@ -124,12 +108,16 @@ impl Output {
         self.emit(&printing(packed.as_slice()))
     }
 
-    /// Finishes the open routine, if there is one.
-    pub fn close(&mut self) -> Result<Option<CodeSetting>, AllocError>
-        ensures output { IfOk result (λ _. output self.new ≡ (closed (output self.old)).output) }
-        ensures full { IfOk result (λ full. full ≡ (closed (output self.old)).full) }
+    /// Finishes the open routine, if there is one. Answers what is wrong with it, if anything is: it is given up then.
+    pub fn close(&mut self) -> Result<Option<CloseFault>, AllocError>
+        ensures output { IfOk result (λ _. output self.new ≡ closed (output self.old)) }
+        ensures fault { IfOk result (λ fault. fault ≡ fault_closed RoutineKind.Plain (output self.old).code) }
     {
-        full_in(self.code.close(RoutineKind::Plain))
+        match self.code.close(RoutineKind::Plain) {
+            Ok(()) => Ok(None),
+            Err(CloseFault::Memory) => Err(AllocError),
+            Err(fault) => Ok(Some(fault)),
+        }
     }
 }
 

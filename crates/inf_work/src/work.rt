@@ -3,20 +3,19 @@ ghost use Rattle.std.specs.Prelude.{◌≡◌, ◌≤◌, [], IfOk, IsTrue, OnOk
 ghost use Rattle.inf_symbol.specs.Spellings.{as_name};
 ghost use Rattle.inf_symbol.specs.LocalList.{headed as as_headed, listed, repeated as repeated_of};
 ghost use Rattle.inf_symbol.specs.Locals.{no_locals, with_all_named, with_locals};
-ghost use Rattle.inf_opcode.specs.Cells.{label_count};
-ghost use Rattle.inf_opcode.specs.Instructions.{IsProper, bare, has_no_offset, instruction_cells};
+ghost use Rattle.inf_opcode.specs.Instructions.{IsProper, bare, has_no_offset};
 ghost use Rattle.inf_opcode.specs.PartsOf.{parts_of};
 ghost use Rattle.inf_names.specs.Symbols.{declare_fault, refer_fault};
-ghost use Rattle.inf_work.specs.Actions.{first_full, referred, with_all_unused};
+ghost use Rattle.inf_work.specs.Actions.{first_full, full_of, is_far, referred, with_all_unused};
 ghost use Rattle.inf_unit.specs.Blames.{blamed};
 ghost use Rattle.inf_unit.specs.Messages.{location, setting_of, with_full, with_words};
-ghost use Rattle.inf_work.specs.Units.{Operands, again, header_fault, local_fault, name_fault, name_full, with_name, with_operands};
+ghost use Rattle.inf_work.specs.Units.{Operands, again, header_fault, local_fault, name_fault, name_full, returning, with_name, with_operands};
 
 use crate::instructions::{calling, returning};
 use crate::operands::{add_operands, call_fault, operand_fault};
 use crate::output::Output;
 use arrayvec::ArrayVec;
-use inf_assembler::Setting as CodeSetting;
+use inf_assembler::{CloseFault, Setting as CodeSetting};
 use inf_lexer::{Place, Stack};
 use inf_names::meanings::Meaning;
 use inf_names::symbols::{DeclareFault, Found, ReferFault, Symbols};
@@ -354,9 +353,13 @@ impl Work {
         if self.is_passed_over {
             return Ok(());
         }
+        let fault = self.output.close()?;
+        if is_far(fault) {
+            let at = location(files, place);
+            self.report.error(at, at, &Message::BranchTooFar)?;
+        }
         tell_unused(&self.locals, files, place, &mut self.report)?;
-        let full = self.output.close()?;
-        self.check(files, place, full)
+        self.check(files, place, full_of(fault))
     }
 
     /// A statement ends that began so.
@@ -491,25 +494,23 @@ impl Work {
         self.report.full(files, unit, full.map(setting_of))
     }
 
-    /// The instruction of an opcode alone, which has no branch or jump.
+    /// The instruction of an opcode alone.
     fn emit_bare(&mut self, files: &Stack, unit: Place, opcode: Opcode) -> Result<(), AllocError>
-        requires proper { IsProper (bare opcode) }
-        requires straight { label_count (instruction_cells (bare opcode)) ≡ 0 }
+        requires { IsProper (bare opcode) }
         ensures { OnOk result (work self.new ≡ with_instruction files.now.names unit (bare opcode) (work self.old)) }
     {
         let full = self.output.emit_bare(opcode)?;
         self.check(files, unit, full)
     }
 
-    /// An instruction without a branch or jump.
+    /// An instruction.
     fn emit(
         &mut self,
         files: &Stack,
         unit: Place,
         instruction: &Instruction<'_>,
     ) -> Result<(), AllocError>
-        requires proper { IsProper (parts_of instruction.now) }
-        requires straight { label_count (instruction_cells (parts_of instruction.now)) ≡ 0 }
+        requires { IsProper (parts_of instruction.now) }
         ensures { OnOk result (work self.new ≡ with_instruction files.now.names unit (parts_of instruction.now) (work self.old)) }
     {
         let full = self.output.emit(instruction)?;
@@ -566,8 +567,42 @@ impl Work {
         if full.is_some() {
             return self.report.full(files, unit, full);
         }
-        self.emit(files, unit, &returning(operands.as_slice()))
+        self.emit_return(files, unit, operands.as_slice())
     }
+
+    /// Returns an operand, which is the only one.
+    fn emit_return(
+        &mut self,
+        files: &Stack,
+        unit: Place,
+        operands: &[Operand],
+    ) -> Result<(), AllocError>
+        requires one { length operands.now ≡ 1 }
+        requires plain { IsTrue (has_no_offset operands.now) }
+        ensures { OnOk result (work self.new ≡ with_instruction files.now.names unit (returning operands.now) (work self.old)) }
+    {
+        self.emit(files, unit, &returning(operands))
+    }
+}
+
+/// The setting that is full where a routine can't be closed, if it is for that.
+fn full_of(fault: Option<CloseFault>) -> Option<CodeSetting>
+    ensures { result ≡ full_of fault }
+{
+    match fault {
+        Some(CloseFault::Full(setting)) => Some(setting),
+        _ => None,
+    }
+}
+
+/// Whether a routine can't be closed for its labels or offsets.
+fn is_far(fault: Option<CloseFault>) -> bool
+    ensures { result ≡ is_far fault }
+{
+    matches!(
+        fault,
+        Some(CloseFault::LabelMissing(_) | CloseFault::LabelTwice(_) | CloseFault::TooFar)
+    )
 }
 
 /// The locals that the names behind a routine's name declare.

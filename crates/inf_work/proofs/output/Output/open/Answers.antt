@@ -1,6 +1,6 @@
 -- What code answers is what the output comes to.
 use Rattle.inf_work.proofs.Growing.{refuses, grew_output, grew_full}
-use Rattle.inf_work.proofs.output.Output.open_whole.Goals as goal
+use Rattle.inf_work.proofs.output.Output.open.Goals as goal
 
 pub returns-clause-output : goal.returns-clause-output
 returns-clause-output c =
