@@ -1,5 +1,6 @@
 -- What a story's sink takes of what was compiled.
-use Rattle.std.proofs.Common.{◌≡◌, inl, inr, ℕ, Bool, List, Option, Some, None, ap, subst, sym, ◌∙◌}
+use Rattle.std.specs.Prelude.{Result, Ok, Err, IfOk, IfErr, MatchResult, option_map}
+use Rattle.std.proofs.Common.{◌≡◌, inl, inr, ℕ, Bool, List, Option, Some, None, refl, ap, subst, sym, ◌∙◌}
 use Rattle.inf_characters.specs.declared.characters.CharSet.{CharSet}
 use Rattle.inf_settings.specs.declared.settings.Settings.{Settings}
 use Rattle.inf_token.specs.Files.{Openings, Sources}
@@ -12,7 +13,12 @@ use Rattle.inf_session.proofs.Leadings.{front_same}
 use Rattle.inf_outcome.proofs.OutcomeLaws.{outcomes_are_unique}
 use Rattle.inf_session.specs.declared.compiled.Compiled.{Compiled}
 use Rattle.inf_session.specs.declared.compiled.Status.{Status}
-use Rattle.inf_compile.specs.Compiling.{Compiles, DeliversPart, TakesPart, TakesStory, story_in}
+use Rattle.inf_session.specs.declared.compiled.Status.TheVariants as status
+use Rattle.inf_session.specs.declared.faults.Fault.{Fault}
+use Rattle.inf_session.specs.declared.faults.Fault.TheVariants as fault
+use Rattle.inf_session.specs.Delivered.{EndsClean}
+use Rattle.inf_session.specs.Faults.{IfStory}
+use Rattle.inf_compile.specs.Compiling.{Compiles, DeliversPart, OnlyStory, TakesPart, TakesStory, story_in}
 
 -- what was compiled was delivered
 pub compiles : (s : Sources) (o : Choices) (serial name : List ℕ) (old new : Openings) (before after story_old story_new : Option (List ℕ)) (c : Compiled) (status : Status)
@@ -72,3 +78,17 @@ pub chosen_is : (a b : CharSet) (v w : Bool) (s t : Settings) (d e : List (List 
 chosen_is a b v w s t d e of_set of_warnings of_settings of_directories =
     ap (λ (x : CharSet). made x v s d) of_set ∙ ap (λ (x : Bool). made b x s d) of_warnings
     ∙ ap (λ (x : Settings). made b w x d) of_settings ∙ ap (λ (x : List (List ℕ)). made b w t x) of_directories
+
+-- where a story came, whole or in part, the messages end with the line that tells of no error
+pub clean_where_delivered : (P : ℕ → Type 0) (r : Result Status Fault) (c : Compiled) (after story_old story_new : Option (List ℕ)) → IfOk r (λ s. s ≡ c.status)
+    → IfErr r (λ fault. OnlyStory fault (λ n. P n × TakesPart (story_in c) n story_old story_new)) → (c.status ≡ status.Errors → c.story ≡ None) → (c.status ≡ status.Success → EndsClean after)
+    → MatchResult r (λ s. s ≡ status.Success → EndsClean after) (λ fault. IfStory fault (λ n. EndsClean after))
+clean_where_delivered P (Ok s) c after story_old story_new is told none clean = λ success. clean (sym is ∙ success)
+clean_where_delivered P (Err fault.Memory) c after story_old story_new is told none clean = tt
+clean_where_delivered P (Err (fault.Read name)) c after story_old story_new is told none clean = tt
+clean_where_delivered P (Err fault.Messages) c after story_old story_new is told none clean = tt
+clean_where_delivered P (Err (fault.Story n)) c after story_old story_new is told none clean = by_status c.status refl
+  where
+    by_status : (s : Status) → c.status ≡ s → EndsClean after
+    by_status status.Success e = clean e
+    by_status status.Errors e = absurd (subst (λ (o : Option (List ℕ)). TakesPart o n story_old story_new) (ap (option_map (λ v. v.items)) (none e)) told.1)

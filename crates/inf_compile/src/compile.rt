@@ -1,7 +1,8 @@
-ghost use Rattle.std.specs.Prelude.{◌≡◌, IsTrue, IfOk, IfErr, Ok, OnOk, OnErr};
+ghost use Rattle.std.specs.Prelude.{◌≡◌, IsTrue, IfOk, IfErr, MatchResult, Ok, OnOk, OnErr};
 ghost use Rattle.inf_token.specs.Files.{Rose};
 ghost use Rattle.inf_words.specs.FileNames.{source_name};
 ghost use Rattle.inf_outcome.specs.Comes.{Begins, Heard, IsUnread, OpenedBy, OpenedPart};
+ghost use Rattle.inf_session.specs.Delivered.{EndsClean};
 ghost use Rattle.inf_session.specs.Session.{start};
 ghost use Rattle.inf_session.specs.Faults.{IfMessages, IfRead, IfStory, UnlessStory};
 ghost use Rattle.inf_compile.specs.Compiling.{Compiles, DeliversPart, OnlyStory, TakesPart, TakesStory, chosen_by, story_in};
@@ -73,9 +74,12 @@ pub fn compile<F: Files, M: Sink, S: Sink>(
         (start (F.sources files.old) (chosen_by options.now) name) (F.given files.old) (F.given files.new)
         (F.openings files.old) (F.openings files.new) (M.taken messages.old) (M.taken messages.new))) }
 
-    // With any reader nothing is left open, and no story comes with an error.
+    // With any reader nothing is left open, no story comes with an error, and where a story came, whole or in part, the messages end
+    // with the line that tells of no error.
     ensures depth { F.depth files.new ≡ F.depth files.old }
     ensures errors { result ≡ Ok Status.Errors → S.taken story.new ≡ S.taken story.old }
+    ensures clean { MatchResult result (λ status. status ≡ Status.Success → EndsClean (M.taken messages.new))
+        (λ fault. IfStory fault (λ n. EndsClean (M.taken messages.new))) }
 
     // A fault has its cause.
     ensures read { IfErr result (λ fault. IfRead fault (λ name.

@@ -88,7 +88,8 @@ fn emit_branch(code: &mut Code, number: u32) -> Result<(), GrowFault> {
         sense: false,
         target: Destination::To(Label { number }),
     };
-    code.emit(&Instruction::new(Opcode::Jz, &[Operand::Variable(1)], Some(branch)))
+    let operands = [Operand::Variable(1)];
+    code.emit(&Instruction::new(Opcode::Jz, &operands, None).with_branch(branch))
 }
 
 /// What refuses to grow, as the end of a routine would say it.

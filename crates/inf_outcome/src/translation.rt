@@ -3,6 +3,7 @@ ghost use Rattle.std.specs.Prelude.{◌≡◌, ℕ, ◌+◌, ◌<◌, ◌≤◌,
 ghost use Rattle.inf_token.specs.Files.{Openings, Rose};
 ghost use Rattle.inf_sources.specs.Open.{AllGiven, IsNested, NamesAreOpened, opened_since};
 ghost use Rattle.inf_session.specs.Choices.{chosen};
+ghost use Rattle.inf_session.specs.Delivered.{EndsClean};
 ghost use Rattle.inf_session.specs.Given.{GivesAtLeast, IsUnreadable};
 ghost use Rattle.inf_session.specs.Standing.{IsSet, state};
 ghost use Rattle.inf_lexer.specs.Unread.{unread as unread_now};
@@ -54,6 +55,7 @@ pub fn translate<F: Files, M: Sink>(
     // With any reader nothing is left open, no story comes with an error, and a fault has its cause.
     ensures depth { F.depth files.new ≡ F.depth files.old }
     ensures errors { IfOk result (λ compiled. compiled.status ≡ Status.Errors → compiled.story ≡ None) }
+    ensures clean { IfOk result (λ compiled. compiled.status ≡ Status.Success → EndsClean (M.taken messages.new)) }
     ensures read { IfErr result (λ fault. IfRead fault (λ name. IsUnread (F.faults files.old) (F.faults files.new) (F.given files.old) (F.given files.new)
         (F.is_honest files.old) (F.openings files.old) (F.openings files.new))) }
     ensures messages { IfErr result (λ fault. IfMessages fault (Rose (M.failures messages.old) (M.failures messages.new))) }
@@ -110,6 +112,7 @@ fn read_out<F: Files, M: Sink>(
         OnErr result.1 ((turns : ℕ) × OpensAll (run (F.sources files.old) (chosen session.entry.setup) turns)
         (state (F.sources files.old) start (F.openings files.old) session.entry) (opened_since start (F.openings files.new))) }
     ensures errors { IfOk result.1 (λ compiled. compiled.status ≡ Status.Errors → compiled.story ≡ None) }
+    ensures clean { IfOk result.1 (λ compiled. compiled.status ≡ Status.Success → EndsClean (M.taken messages.new)) }
     ensures cause { IfErr result.1 (λ fault. IfRead fault (λ name. IsUnreadable (F.faults files.old) (F.faults files.new) result.0)) }
     ensures messages { IfErr result.1 (λ fault. IfMessages fault (Rose (M.failures messages.old) (M.failures messages.new))) }
     ensures story { IfErr result.1 (λ fault. IfStory fault (λ n. ⊥)) }

@@ -2,7 +2,7 @@
 ghost use Rattle.std.specs.Prelude.{◌≡◌, ◌≤◌, None, IfOk, IfErr, OnErr};
 ghost use Rattle.inf_token.specs.Files.{Rose};
 ghost use Rattle.inf_work.specs.Works.{work as work_of};
-ghost use Rattle.inf_session.specs.Delivered.{Delivers, TakesFront};
+ghost use Rattle.inf_session.specs.Delivered.{Delivers, EndsClean, TakesFront};
 ghost use Rattle.inf_session.specs.Ending.{finished, seen};
 ghost use Rattle.inf_session.specs.Faults.{IfMessages, IfRead, IfStory};
 
@@ -41,6 +41,7 @@ pub(crate) fn conclude<M: Sink>(
         (M.taken messages.old) (M.taken messages.new)) }
     ensures err { OnErr result (TakesFront (finished serial.now names.now.names (work_of work)).messages (M.taken messages.old) (M.taken messages.new)) }
     ensures errors { IfOk result (λ compiled. compiled.status ≡ Status.Errors → compiled.story ≡ None) }
+    ensures clean { IfOk result (λ compiled. compiled.status ≡ Status.Success → EndsClean (M.taken messages.new)) }
     ensures kind { IfErr result (λ fault. IfRead fault (λ name. ⊥) × IfStory fault (λ n. ⊥)) }
     ensures messages { IfErr result (λ fault. IfMessages fault (Rose (M.failures messages.old) (M.failures messages.new))) }
     ensures failures { M.failures messages.old ≤ M.failures messages.new }

@@ -8,7 +8,7 @@ ghost use Rattle.inf_sources.specs.Cursors.{Unfinished};
 ghost use Rattle.inf_sources.specs.Open.{AllGiven, IsNested, NamesAreOpened, nesting, opened_since};
 ghost use Rattle.inf_session.specs.Choices.{chosen, most_quoted};
 ghost use Rattle.inf_session.specs.Faults.{IfMessages, IfRead, IfStory, IsOfReading};
-ghost use Rattle.inf_session.specs.Delivered.{Delivers, TakesFront};
+ghost use Rattle.inf_session.specs.Delivered.{Delivers, EndsClean, TakesFront};
 ghost use Rattle.inf_session.specs.Given.{GivesAtLeast, IsUnreadable};
 ghost use Rattle.inf_session.specs.Ending.{finished};
 ghost use Rattle.inf_settings.specs.Settings.{all_settings};
@@ -153,7 +153,7 @@ impl<'a> Session<'a> {
     }
 
     /// Reads one part: a directive, with the side that it leaves out; what of a bad one is passed over; or the end of a file. Each
-    /// message is written as soon as it is found. Behind the end, or a fatal message, nothing is read.
+    /// message is written as soon as it is found. Behind the end, or a fatal message, nothing is read, and nothing changes.
     ///
     /// The faults are those of `translate`, but for that of the story.
     pub fn step<F: Files, M: Sink>(
@@ -183,6 +183,7 @@ impl<'a> Session<'a> {
             (state (F.sources files.old) start (F.openings files.old) self.old) (opened_since start (F.openings files.new))) }
 
         // With any reader.
+        ensures over { ended self.old ≡ true → (self.new ≡ self.old) × ((files.new ≡ files.old) × (messages.new ≡ messages.old)) }
         ensures parted { OnOk result (parted self.new ≡ true) }
         ensures came { IfOk result (λ step. step ≡ came_to (ended self.old) self.new) }
         ensures bounded { IsBounded self.old → OnOk result (IsBounded self.new) }
@@ -235,6 +236,7 @@ impl<'a> Session<'a> {
         ensures err { OnErr result.1 (TakesFront (finished serial.now self.entry.open_files.nest.names (work_of self.entry.progress.work)).messages
             (M.taken messages.old) (M.taken messages.new)) }
         ensures errors { IfOk result.1 (λ compiled. compiled.status ≡ Status.Errors → compiled.story ≡ None) }
+        ensures clean { IfOk result.1 (λ compiled. compiled.status ≡ Status.Success → EndsClean (M.taken messages.new)) }
         ensures kind { IfErr result.1 (λ fault. IfRead fault (λ name. ⊥) × IfStory fault (λ n. ⊥)) }
         ensures messages { IfErr result.1 (λ fault. IfMessages fault (Rose (M.failures messages.old) (M.failures messages.new))) }
         ensures failures { M.failures messages.old ≤ M.failures messages.new }

@@ -2,7 +2,7 @@ use Rattle.std.proofs.Common.{map, ap, ◌∙◌}
 use Rattle.inf_opcode.proofs.Growing.{on_err}
 use Rattle.inf_words.specs.Directories.{directories_of}
 use Rattle.inf_compile.specs.Compiling.{chosen_by}
-use Rattle.inf_compile.proofs.Delivering.{begins_whole, chosen_is, opened_whole}
+use Rattle.inf_compile.proofs.Delivering.{begins_whole, chosen_is, clean_where_delivered, opened_whole}
 use Rattle.inf_compile.proofs.compile.compile.Goals as goal
 
 pub returns-clause-begins : goal.returns-clause-begins
@@ -28,3 +28,8 @@ returns-clause-opened g c = λ honest.
     c.set.ensures c.has_warnings.ensures c.settings.ensures (ap (map (λ d. d.now)) c.as_slice.ensures.value ∙ c.in_ok-directories.ensures))
     (c.as_str.ensures.value ∙ c.in_ok-name.ensures.bytes)
     (c.in_ok-compiled.ensures.comes honest))
+
+pub returns-clause-clean : goal.returns-clause-clean
+returns-clause-clean g c =
+    clean_where_delivered _ c.deliver.result c.in_ok-compiled.compiled (g.M.Sink.taken c.translate.new.messages) (g.S.Sink.taken c.args.story.now) (g.S.Sink.taken c.deliver.new.story)
+    c.deliver.ensures.status c.deliver.ensures.story c.in_ok-compiled.ensures.errors c.in_ok-compiled.ensures.clean
