@@ -30,18 +30,17 @@ crates_below() {
         }' "$root/crates.txt"
 }
 
-# The files that the compiler is proved and built from, a line each: the list of crates, the handles, and the sources,
-# definitions and proofs of its crates.
-source_files() {
-    local folders
-    mapfile -t folders < <(crates_below inform | sed 's|^|crates/|')
-    printf '%s\n' crates.txt HANDLES
-    (cd "$root" && find "${folders[@]}" \( -name out -o -name must-fail \) -prune -o -type f -print) | LC_ALL=C sort
-}
-
-# The sum of these files.
+# The sum of what the compiler is proved and built from: the handles, and of its crates the lines of the list of crates, and the
+# sources, definitions and proofs.
 sum_of_sources() {
-    source_files | (cd "$root" && xargs -d '\n' sha256sum) | sha256sum | cut -d ' ' -f 1
+    local names name
+    mapfile -t names < <(crates_below inform)
+    (
+        cd "$root"
+        for name in "${names[@]}"; do grep "^$name:" crates.txt; done
+        find HANDLES "${names[@]/#/crates/}" \( -name out -o -name must-fail \) -prune -o -type f -print |
+            LC_ALL=C sort | xargs -d '\n' sha256sum
+    ) | sha256sum | cut -d ' ' -f 1
 }
 
 # Whether the program in release/ was built from the sources at hand.
