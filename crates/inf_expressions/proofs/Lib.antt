@@ -1,0 +1,4 @@
+pub mod NodeLemmas
+pub mod Roots
+pub mod Reading
+pub mod SourceLaws

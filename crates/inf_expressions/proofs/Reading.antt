@@ -1,0 +1,121 @@
+-- Symbols are read one by one into a state. What a state does at each kind of symbol is all that has to be known to read an expression from
+-- its symbols: that is said once, for any state.
+use Rattle.std.proofs.Common.{◌≡◌, ℕ, zero, suc, List, [], ◌∷◌, ◌++◌, refl, sym, ◌∙◌, ap, append_assoc}
+use Rattle.inf_expressions.specs.declared.operators.Unary.{Unary}
+use Rattle.inf_expressions.specs.declared.operators.Binary.{Binary}
+use Rattle.inf_expressions.specs.declared.symbols.Symbol.{Symbol}
+use Rattle.inf_expressions.specs.declared.symbols.Symbol.TheVariants as symbol
+use Rattle.inf_expressions.specs.Sources.{Source, Leaf, Brackets, Prefix, Suffix, Two, Then, Call, Alone, closed, opened, postfix, postfixes}
+
+abbrev pub run : {S : Type 0} → (Symbol → S → S) → List Symbol → S → S
+run act [] state = state
+run act (s ∷ symbols) state = run act symbols (act s state)
+
+abbrev pub joints : {S : Type 0} → (S → S) → ℕ → S → S
+joints joint zero state = state
+joints joint (suc n) state = joint (joints joint n state)
+
+-- how a state takes symbols, and how it has an expression more
+pub record Reads {S : Type 0} (act : Symbol → S → S) (joint : S → S) (have : Source → S → S) : Type 0 where
+  pub leaf : (first token leaf : ℕ) (state : S) → act (symbol.Leaf first token leaf) state ≡ have (Leaf first token leaf) state
+  pub brackets : (order : ℕ) (a : Source) (state : S) → act (symbol.Bracketed order) (have a state) ≡ have (Brackets order a) state
+  pub prefix : (order : ℕ) (op : Unary) (a : Source) (state : S) → act (symbol.Prefix order op) (have a state) ≡ have (Prefix order op a) state
+  pub suffix : (op : Unary) (a : Source) (state : S) → act (symbol.Suffix op) (have a state) ≡ have (Suffix op a) state
+  pub two : (op : Binary) (a b : Source) (state : S) → act (symbol.Two op) (have b (have a state)) ≡ have (Two op a b) state
+  pub next : (a b : Source) (state : S) → joint (have b (have a state)) ≡ have (Then a b) state
+  pub list : (n : ℕ) (state : S) → act (symbol.List (suc n)) state ≡ joints joint (suc n) state
+  pub alone : (f : Source) (state : S) → act (symbol.Call zero) (have f state) ≡ have (Alone f) state
+  pub call : (n : ℕ) (f list : Source) (state given : S) → n ≡ (opened list).1 → joints joint n given ≡ have list (have f state) →
+      act (symbol.Call (suc n)) given ≡ have (Call f list) state
+
+-- the members of a list, one behind the other
+abbrev pub spread : {S : Type 0} → (Source → S → S) → Source → S → S
+spread have (Then a b) state = spread have b (have a state)
+spread have (Leaf first token leaf) state = have (Leaf first token leaf) state
+spread have (Brackets order a) state = have (Brackets order a) state
+spread have (Prefix order op a) state = have (Prefix order op a) state
+spread have (Suffix op a) state = have (Suffix op a) state
+spread have (Two op a b) state = have (Two op a b) state
+spread have (Call f list) state = have (Call f list) state
+spread have (Alone f) state = have (Alone f) state
+
+-- its joints make the list of them
+gathers : {S : Type 0} {act : Symbol → S → S} {joint : S → S} {have : Source → S → S} (reads : Reads act joint have)
+    (a : Source) (state : S) → joints joint (opened a).1 (spread have a state) ≡ have a state
+gathers {joint = joint} {have = have} reads (Then a b) state = ap joint (gathers reads b (have a state)) ∙ reads.next a b state
+gathers reads (Leaf first token leaf) state = refl
+gathers reads (Brackets order a) state = refl
+gathers reads (Prefix order op a) state = refl
+gathers reads (Suffix op a) state = refl
+gathers reads (Two op a b) state = refl
+gathers reads (Call f list) state = refl
+gathers reads (Alone f) state = refl
+
+-- a list that is closed
+closes : {S : Type 0} {act : Symbol → S → S} {joint : S → S} {have : Source → S → S} (reads : Reads act joint have)
+    (symbols : List Symbol) (n : ℕ) (rest : List Symbol) (before members after : S) →
+    ((more : List Symbol) → run act (symbols ++ more) before ≡ run act more members) → joints joint n members ≡ after →
+    run act (closed symbols n ++ rest) before ≡ run act rest after
+closes {act = act} reads symbols zero rest before members after opens is = opens rest ∙ ap (run act rest) is
+closes {act = act} reads symbols (suc n) rest before members after opens is =
+    ap (λ s. run act s before) (append_assoc symbols (symbol.List (suc n) ∷ []) rest)
+    ∙ opens (symbol.List (suc n) ∷ rest)
+    ∙ ap (run act rest) (reads.list n members ∙ is)
+
+-- a whole expression, where its symbols without that of the list are read as its members
+whole : {S : Type 0} {act : Symbol → S → S} {joint : S → S} {have : Source → S → S} (reads : Reads act joint have) (a : Source) →
+    ((more : List Symbol) (state : S) → run act ((opened a).0 ++ more) state ≡ run act more (spread have a state)) →
+    (rest : List Symbol) (state : S) → run act (postfix a ++ rest) state ≡ run act rest (have a state)
+whole {have = have} reads a opens rest state =
+    closes reads (opened a).0 (opened a).1 rest state (spread have a state) (have a state) (λ more. opens more state) (gathers reads a state)
+
+-- an expression, and one symbol behind it
+behind : {S : Type 0} {act : Symbol → S → S} {joint : S → S} {have : Source → S → S} (reads : Reads act joint have) (a : Source) →
+    ((more : List Symbol) (state : S) → run act ((opened a).0 ++ more) state ≡ run act more (spread have a state)) →
+    (s : Symbol) (rest : List Symbol) (state after : S) → act s (have a state) ≡ after →
+    run act ((postfix a ++ s ∷ []) ++ rest) state ≡ run act rest after
+behind {act = act} reads a opens s rest state after is =
+    ap (λ symbols. run act symbols state) (append_assoc (postfix a) (s ∷ []) rest)
+    ∙ whole reads a opens (s ∷ rest) state
+    ∙ ap (run act rest) is
+
+opening : {S : Type 0} {act : Symbol → S → S} {joint : S → S} {have : Source → S → S} (reads : Reads act joint have)
+    (a : Source) (rest : List Symbol) (state : S) → run act ((opened a).0 ++ rest) state ≡ run act rest (spread have a state)
+opening {act = act} reads (Leaf first token leaf) rest state = ap (run act rest) (reads.leaf first token leaf state)
+opening reads (Brackets order a) rest state =
+    behind reads a (λ more st. opening reads a more st) (symbol.Bracketed order) rest state _ (reads.brackets order a state)
+opening reads (Prefix order op a) rest state =
+    behind reads a (λ more st. opening reads a more st) (symbol.Prefix order op) rest state _ (reads.prefix order op a state)
+opening reads (Suffix op a) rest state =
+    behind reads a (λ more st. opening reads a more st) (symbol.Suffix op) rest state _ (reads.suffix op a state)
+opening {act = act} {have = have} reads (Two op a b) rest state =
+    ap (λ symbols. run act symbols state) (append_assoc (postfix a) (postfix b ++ symbol.Two op ∷ []) rest)
+    ∙ whole reads a (λ more st. opening reads a more st) ((postfix b ++ symbol.Two op ∷ []) ++ rest) state
+    ∙ behind reads b (λ more st. opening reads b more st) (symbol.Two op) rest (have a state) _ (reads.two op a b state)
+opening {act = act} {have = have} reads (Then a b) rest state =
+    ap (λ symbols. run act symbols state) (append_assoc (postfix a) (opened b).0 rest)
+    ∙ whole reads a (λ more st. opening reads a more st) ((opened b).0 ++ rest) state
+    ∙ opening reads b rest (have a state)
+opening {act = act} {have = have} reads (Call f list) rest state =
+    ap (λ symbols. run act symbols state) (append_assoc (postfix f) ((opened list).0 ++ symbol.Call (suc (opened list).1) ∷ []) rest)
+    ∙ whole reads f (λ more st. opening reads f more st) (((opened list).0 ++ symbol.Call (suc (opened list).1) ∷ []) ++ rest) state
+    ∙ ap (λ symbols. run act symbols (have f state)) (append_assoc (opened list).0 (symbol.Call (suc (opened list).1) ∷ []) rest)
+    ∙ opening reads list (symbol.Call (suc (opened list).1) ∷ rest) (have f state)
+    ∙ ap (run act rest) (reads.call (opened list).1 f list state (spread have list (have f state)) refl (gathers reads list (have f state)))
+opening reads (Alone f) rest state =
+    behind reads f (λ more st. opening reads f more st) (symbol.Call zero) rest state _ (reads.alone f state)
+
+-- An expression is read from its symbols, whatever follows them.
+pub reading : {S : Type 0} {act : Symbol → S → S} {joint : S → S} {have : Source → S → S} (reads : Reads act joint have)
+    (a : Source) (rest : List Symbol) (state : S) → run act (postfix a ++ rest) state ≡ run act rest (have a state)
+reading reads a rest state = whole reads a (λ more st. opening reads a more st) rest state
+
+abbrev pub all : {S : Type 0} → (Source → S → S) → List Source → S → S
+all have [] state = state
+all have (a ∷ sources) state = all have sources (have a state)
+
+-- and so are several
+pub reading_all : {S : Type 0} {act : Symbol → S → S} {joint : S → S} {have : Source → S → S} (reads : Reads act joint have)
+    (sources : List Source) (state : S) → run act (postfixes sources) state ≡ all have sources state
+reading_all reads [] state = refl
+reading_all {have = have} reads (a ∷ sources) state = reading reads a (postfixes sources) state ∙ reading_all reads sources (have a state)

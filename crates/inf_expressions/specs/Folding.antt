@@ -1,0 +1,85 @@
+-- The tree of an operator. Of known numbers it is the number that the operator gives.
+use Rattle.std.specs.Prelude.{ℕ, ◌==◌, Bool, true, false, not, ◌&&◌, ◌||◌, Option, Some, None}
+use Rattle.inf_expressions.specs.declared.operators.Operand.TheVariants as operand
+use Rattle.inf_expressions.specs.declared.operators.Function.{Function}
+use Rattle.inf_expressions.specs.declared.operators.Function.TheVariants as function
+use Rattle.inf_expressions.specs.declared.operators.Relative.TheVariants as relative
+use Rattle.inf_expressions.specs.declared.operators.Single.TheVariants as single
+use Rattle.inf_expressions.specs.declared.operators.Test.{Test}
+use Rattle.inf_expressions.specs.declared.operators.Unary.{Unary}
+use Rattle.inf_expressions.specs.declared.operators.Unary.TheVariants as unary
+use Rattle.inf_expressions.specs.declared.operators.Binary.{Binary}
+use Rattle.inf_expressions.specs.declared.operators.Binary.TheVariants as binary
+use Rattle.inf_expressions.specs.Trees.{Tree, Leaf, One, Two}
+use Rattle.inf_expressions.specs.Numbers.{computed, computed_single, holds, same, truth}
+
+-- what is no value stands as 0
+abbrev pub known : Tree → Option ℕ
+known (Leaf (operand.Known n)) = Some n
+known (Leaf (operand.Function f)) = Some 0
+known (Leaf operand.Unknown) = Some 0
+known _ = None
+
+abbrev pub function_of : Tree → Option Function
+function_of (Leaf (operand.Function f)) = Some f
+function_of _ = None
+
+abbrev pub or_known : Option Bool → Option Bool → Option Bool
+or_known (Some a) (Some b) = Some (a || b)
+or_known _ _ = None
+
+abbrev pub holds_known : Test → ℕ → Option ℕ → Option Bool
+holds_known t n (Some m) = holds t n m
+holds_known t n None = None
+
+-- whether a test holds of a number and any of a list, beside what was found of those before
+abbrev pub any_holds : Option Bool → Test → ℕ → Tree → Option Bool
+any_holds found t n (Two binary.Then a others) = any_holds (or_known found (holds_known t n (known a))) t n others
+any_holds found t n a = or_known found (holds_known t n (known a))
+
+abbrev pub any_known : Test → Option ℕ → Tree → Option Bool
+any_known t (Some n) list = any_holds (Some false) t n list
+any_known t None list = None
+
+abbrev pub sensed : Bool → Option Bool → Option ℕ
+sensed sense (Some found) = Some (truth (same found sense))
+sensed sense None = None
+
+abbrev pub folded_two : Binary → Option ℕ → Option ℕ → Option ℕ
+folded_two (binary.Operation operation) (Some a) (Some b) = computed operation a b
+folded_two binary.And (Some a) (Some b) = Some (truth (not (a == 0) && not (b == 0)))
+folded_two binary.Or (Some a) (Some b) = Some (truth (not (a == 0) || not (b == 0)))
+folded_two _ _ _ = None
+
+-- the number that an operator gives, if it is known
+abbrev pub folded : Binary → Tree → Tree → Option ℕ
+folded (binary.Test t) a b = sensed true (any_known t (known a) b)
+folded (binary.Fails t) a b = sensed false (any_known t (known a) b)
+folded op a b = folded_two op (known a) (known b)
+
+abbrev pub folded_single : Unary → Option ℕ → Option ℕ
+folded_single op (Some a) = computed_single op a
+folded_single op None = None
+
+-- what a call of a function of the system is
+abbrev pub operator_of : Function → Unary
+operator_of function.Child = unary.Relative relative.Child
+operator_of function.Sibling = unary.Relative relative.Sibling
+operator_of function.Parent = unary.Single single.Parent
+operator_of function.Random = unary.Single single.Random
+operator_of function.Children = unary.Children
+operator_of function.Indirect = unary.Indirect
+
+abbrev pub built : Binary → Option Function → Tree → Tree → Tree
+built binary.Call (Some f) a b = One (operator_of f) b
+built op _ a b = Two op a b
+
+abbrev pub number_or : Option ℕ → Tree → Tree
+number_or (Some n) t = Leaf (operand.Known n)
+number_or None t = t
+
+abbrev pub joined : Binary → Tree → Tree → Tree
+joined op a b = number_or (folded op a b) (built op (function_of a) a b)
+
+abbrev pub joined_single : Unary → Tree → Tree
+joined_single op a = number_or (folded_single op (known a)) (One op a)

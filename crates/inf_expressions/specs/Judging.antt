@@ -1,0 +1,128 @@
+-- What is found of an expression, operator by operator: the least of what was found before and of what is found now.
+use Rattle.std.specs.Prelude.{ℕ, nat_lt, ◌==◌, Bool, true, false, ◌&&◌, Option, Some, None, if◌then◌else◌}
+use Rattle.inf_expressions.specs.declared.findings.Finding.{Finding}
+use Rattle.inf_expressions.specs.declared.operators.Operand.{Operand}
+use Rattle.inf_expressions.specs.declared.operators.Operand.TheVariants as operand
+use Rattle.inf_expressions.specs.declared.operators.Function.TheVariants as function
+use Rattle.inf_expressions.specs.declared.operators.Operation.TheVariants as operation
+use Rattle.inf_expressions.specs.declared.operators.Unary.{Unary}
+use Rattle.inf_expressions.specs.declared.operators.Unary.TheVariants as unary
+use Rattle.inf_expressions.specs.declared.operators.Binary.{Binary}
+use Rattle.inf_expressions.specs.declared.operators.Binary.TheVariants as binary
+use Rattle.inf_expressions.specs.declared.kinds.Kind.{Kind}
+use Rattle.inf_expressions.specs.declared.kinds.Kind.TheVariants as kind
+use Rattle.inf_expressions.specs.declared.kinds.Seen.{Seen}
+use Rattle.inf_expressions.specs.declared.origins.Lead.{Lead}
+use Rattle.inf_expressions.specs.declared.units.Wanted.{Wanted}
+use Rattle.inf_expressions.specs.declared.units.Wanted.TheVariants as wanted
+use Rattle.inf_expressions.specs.Findings.{least, no_constant, out_of_range, too_many_arguments, wrong_kind}
+
+-- what is wrong by itself
+abbrev pub leaf_finding : Operand → ℕ → Option Finding → Option Finding
+leaf_finding operand.Unknown token found = least found (wrong_kind token)
+leaf_finding (operand.Known n) token found = found
+leaf_finding (operand.Variable v) token found = found
+leaf_finding (operand.Later target) token found = found
+leaf_finding (operand.Function f) token found = found
+
+-- a function of the system is no value
+abbrev pub value_finding_of : Kind → ℕ → Option Finding → Option Finding
+value_finding_of (kind.Function f) token found = least found (wrong_kind token)
+value_finding_of _ token found = found
+
+abbrev pub value_finding : Seen → Option Finding → Option Finding
+value_finding s found = value_finding_of s.kind s.origin.token found
+
+-- only variables, entries of arrays and properties are assigned and stepped
+abbrev pub target_finding_of : Kind → ℕ → Option Finding → Option Finding
+target_finding_of kind.Variable first found = found
+target_finding_of kind.Entry first found = found
+target_finding_of kind.Property first found = found
+target_finding_of _ first found = least found (wrong_kind first)
+
+abbrev pub target_finding : Seen → Option Finding → Option Finding
+target_finding s found = target_finding_of s.kind s.origin.first found
+
+-- a constant must stand
+abbrev pub constant_finding : ℕ → Kind → Option Finding → Option Finding
+constant_finding unit (kind.Number n) found = found
+constant_finding unit kind.Constant found = found
+constant_finding unit (kind.Function f) found = found
+constant_finding unit _ found = least found (no_constant unit)
+
+-- a known number; what is no value stands as 0
+abbrev pub is_known : Kind → Bool
+is_known (kind.Number n) = true
+is_known (kind.Function f) = true
+is_known _ = false
+
+abbrev pub is_zero : Kind → Bool
+is_zero (kind.Number n) = n == 0
+is_zero (kind.Function f) = true
+is_zero _ = false
+
+-- a known number is not divided by 0
+abbrev pub division_finding : ℕ → Kind → Kind → Option Finding → Option Finding
+division_finding unit a b found = if is_known a && is_zero b then least found (out_of_range unit) else found
+
+-- an operator of one expression
+abbrev pub unary_finding : Unary → Seen → Option Finding → Option Finding
+unary_finding (unary.Before step) a found = target_finding a (value_finding a found)
+unary_finding (unary.Behind step) a found = target_finding a (value_finding a found)
+unary_finding _ a found = value_finding a found
+
+abbrev pub values_finding : Seen → Seen → Option Finding → Option Finding
+values_finding a b found = value_finding b (value_finding a found)
+
+-- an operator of two, in a unit that begins at an order
+abbrev pub two_finding : Binary → ℕ → Seen → Seen → Option Finding → Option Finding
+two_finding binary.Assign unit a b found = target_finding a (values_finding a b found)
+two_finding (binary.Operation operation.Divide) unit a b found = division_finding unit a.kind b.kind (values_finding a b found)
+two_finding (binary.Operation operation.Remainder) unit a b found = division_finding unit a.kind b.kind (values_finding a b found)
+two_finding binary.To unit a b found = constant_finding unit b.kind (constant_finding unit a.kind (values_finding a b found))
+two_finding _ unit a b found = values_finding a b found
+
+-- The most arguments of a call. Of a message an object and a property stand before them, and of `indirect` the routine that it calls.
+abbrev pub most_arguments : Kind → ℕ
+most_arguments (kind.Function function.Indirect) = 8
+most_arguments (kind.Function _) = 1
+most_arguments kind.Property = 5
+most_arguments _ = 7
+
+-- a call with so many arguments, which are a list
+abbrev pub call_finding : ℕ → ℕ → Seen → Seen → Option Finding → Option Finding
+call_finding unit given callee list found =
+    if nat_lt (most_arguments callee.kind) given then least (value_finding list found) (too_many_arguments unit) else value_finding list found
+
+abbrev pub number_finding : ℕ → Kind → Option Finding → Option Finding
+number_finding unit k found = if is_known k then found else least found (no_constant unit)
+
+-- an operand of an instruction is a constant or a variable
+abbrev pub operand_finding : ℕ → Kind → Option Finding → Option Finding
+operand_finding unit kind.Variable found = found
+operand_finding unit k found = constant_finding unit k found
+
+-- a value of a case is a constant or a range
+abbrev pub case_finding : ℕ → Kind → Option Finding → Option Finding
+case_finding unit kind.Range found = found
+case_finding unit k found = constant_finding unit k found
+
+-- a loop over objects begins with its variable
+abbrev pub lead_finding_of : Option ℕ → ℕ → Option Finding → Option Finding
+lead_finding_of (Some v) first found = found
+lead_finding_of None first found = least found (wrong_kind first)
+
+abbrev pub lead_finding : Lead → Option Finding → Option Finding
+lead_finding lead found = lead_finding_of lead.variable lead.first found
+
+abbrev pub wanted_finding : Wanted → ℕ → Seen → Option Finding → Option Finding
+wanted_finding wanted.Value unit s found = found
+wanted_finding wanted.Constant unit s found = constant_finding unit s.kind found
+wanted_finding wanted.Number unit s found = number_finding unit s.kind found
+wanted_finding wanted.Operand unit s found = operand_finding unit s.kind found
+wanted_finding wanted.Case unit s found = case_finding unit s.kind found
+wanted_finding wanted.Loop unit s found = lead_finding s.origin.lead found
+
+-- a whole expression, as a unit wants it
+abbrev pub root_finding : Wanted → ℕ → Seen → Option Finding → Option Finding
+root_finding w unit s found = wanted_finding w unit s (value_finding s found)

@@ -1,0 +1,13 @@
+pub mod Findings
+pub mod Folding
+pub mod Forests
+pub mod Judging
+pub mod Nodes
+pub mod Numbers
+pub mod Origins
+pub mod Questions
+pub mod Rooted
+pub mod Sources
+pub mod TreeCode
+pub mod Trees
+pub mod Units

@@ -1,0 +1,33 @@
+-- What is asked of a tree.
+use Rattle.std.specs.Prelude.{Bool, true, false, not, Option, Some, None, is_some, if◌then◌else◌, ◌&&◌}
+use Rattle.inf_area.specs.declared.targets.Value.{Value}
+use Rattle.inf_area.specs.declared.targets.Value.TheVariants as value
+use Rattle.inf_expressions.specs.declared.operators.Operand.{Operand}
+use Rattle.inf_expressions.specs.declared.operators.Operand.TheVariants as operand
+use Rattle.inf_expressions.specs.declared.operators.Test.TheVariants as test
+use Rattle.inf_expressions.specs.declared.operators.Binary.TheVariants as binary
+use Rattle.inf_expressions.specs.Trees.{Tree, Leaf, One, Two}
+
+-- the operand that it is without code
+abbrev pub operand_of : Tree → Option Operand
+operand_of (Leaf operand) = Some operand
+operand_of _ = None
+
+abbrev pub constant_of : Tree → Option Value
+constant_of (Leaf (operand.Known n)) = Some (value.Known n)
+constant_of (Leaf (operand.Later target)) = Some (value.Later target)
+constant_of _ = None
+
+-- the ends of a range
+abbrev pub range_of : Tree → Option (Tree × Tree)
+range_of (Two binary.To least greatest) = Some (least, greatest)
+range_of _ = None
+
+abbrev pub is_list : Tree → Bool
+is_list (Two binary.Then a others) = true
+is_list _ = false
+
+-- e of `v in e`, where that is one value
+abbrev pub children_of : Tree → Option Tree
+children_of (Two (binary.Test test.In) (Leaf v) e) = if is_list e then None else Some e
+children_of _ = None

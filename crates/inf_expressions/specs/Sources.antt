@@ -1,0 +1,82 @@
+-- Expressions as they are written, the order of their symbols, and what they come to: a law above the symbols.
+use Rattle.std.specs.Prelude.{ℕ, zero, suc, List, [], ◌∷◌, ◌++◌, Option, Some, None}
+use Rattle.inf_expressions.specs.declared.findings.Finding.{Finding}
+use Rattle.inf_expressions.specs.declared.operators.Operand.{Operand}
+use Rattle.inf_expressions.specs.declared.operators.Unary.{Unary}
+use Rattle.inf_expressions.specs.declared.operators.Unary.TheVariants as unary
+use Rattle.inf_expressions.specs.declared.operators.Binary.{Binary}
+use Rattle.inf_expressions.specs.declared.operators.Binary.TheVariants as binary
+use Rattle.inf_expressions.specs.declared.symbols.Symbol.{Symbol}
+use Rattle.inf_expressions.specs.declared.symbols.Symbol.TheVariants as symbol
+use Rattle.inf_expressions.specs.Origins.{bracketed, followed, of_leaf, prefixed}
+use Rattle.inf_expressions.specs.Trees as tree
+use Rattle.inf_expressions.specs.Folding.{joined, joined_single}
+use Rattle.inf_expressions.specs.Rooted.{Rooted, seen}
+use Rattle.inf_expressions.specs.Judging.{call_finding, leaf_finding, two_finding, unary_finding}
+use Rattle.inf_expressions.specs.Units.{operand_at}
+
+pub data Source : Type 0 where
+  -- its first token, the token that it is told by, and its place among the operands
+  Leaf : ℕ → ℕ → ℕ → Source
+  Brackets : ℕ → Source → Source
+  Prefix : ℕ → Unary → Source → Source
+  Suffix : Unary → Source → Source
+  Two : Binary → Source → Source → Source
+  -- an expression, and the list of those that follow it
+  Then : Source → Source → Source
+  -- a call with a list of arguments
+  Call : Source → Source → Source
+  -- and one without
+  Alone : Source → Source
+
+-- The symbols of an expression. Those of a list stand behind one another; the symbol of the list comes where it is closed.
+abbrev pub closed : List Symbol → ℕ → List Symbol
+closed symbols zero = symbols
+closed symbols (suc n) = symbols ++ symbol.List (suc n) ∷ []
+
+-- the symbols without that of the list, and how many joints the list has
+abbrev pub opened : Source → List Symbol × ℕ
+opened (Leaf first token leaf) = (symbol.Leaf first token leaf ∷ [], zero)
+opened (Brackets order a) = (closed (opened a).0 (opened a).1 ++ symbol.Bracketed order ∷ [], zero)
+opened (Prefix order op a) = (closed (opened a).0 (opened a).1 ++ symbol.Prefix order op ∷ [], zero)
+opened (Suffix op a) = (closed (opened a).0 (opened a).1 ++ symbol.Suffix op ∷ [], zero)
+opened (Two op a b) = (closed (opened a).0 (opened a).1 ++ (closed (opened b).0 (opened b).1 ++ symbol.Two op ∷ []), zero)
+opened (Then a b) = (closed (opened a).0 (opened a).1 ++ (opened b).0, suc (opened b).1)
+opened (Call f list) = (closed (opened f).0 (opened f).1 ++ ((opened list).0 ++ symbol.Call (suc (opened list).1) ∷ []), zero)
+opened (Alone f) = (closed (opened f).0 (opened f).1 ++ symbol.Call zero ∷ [], zero)
+
+abbrev pub postfix : Source → List Symbol
+postfix a = closed (opened a).0 (opened a).1
+
+abbrev pub postfixes : List Source → List Symbol
+postfixes [] = []
+postfixes (a ∷ sources) = postfix a ++ postfixes sources
+
+-- The tree of an expression, and where its text begins.
+abbrev pub meant : List Operand → Source → Rooted
+meant operands (Leaf first token leaf) = record { tree = tree.Leaf (operand_at operands leaf); origin = of_leaf first token leaf (operand_at operands leaf) }
+meant operands (Brackets order a) = record { tree = (meant operands a).tree; origin = bracketed order (meant operands a).origin }
+meant operands (Prefix order op a) = record { tree = joined_single op (meant operands a).tree; origin = prefixed order (meant operands a).origin }
+meant operands (Suffix op a) = record { tree = joined_single op (meant operands a).tree; origin = followed (meant operands a).origin }
+meant operands (Two op a b) = record { tree = joined op (meant operands a).tree (meant operands b).tree; origin = followed (meant operands a).origin }
+meant operands (Then a b) = record { tree = joined binary.Then (meant operands a).tree (meant operands b).tree; origin = followed (meant operands a).origin }
+meant operands (Call f list) = record { tree = joined binary.Call (meant operands f).tree (meant operands list).tree; origin = followed (meant operands f).origin }
+meant operands (Alone f) = record { tree = joined_single unary.Call (meant operands f).tree; origin = followed (meant operands f).origin }
+
+-- What is found of it, beside what was found before, in a unit that begins at an order.
+abbrev pub found_in : ℕ → List Operand → Source → Option Finding → Option Finding
+found_in unit operands (Leaf first token leaf) found = leaf_finding (operand_at operands leaf) token found
+found_in unit operands (Brackets order a) found = found_in unit operands a found
+found_in unit operands (Prefix order op a) found = unary_finding op (seen (meant operands a)) (found_in unit operands a found)
+found_in unit operands (Suffix op a) found = unary_finding op (seen (meant operands a)) (found_in unit operands a found)
+found_in unit operands (Two op a b) found =
+    two_finding op unit (seen (meant operands a)) (seen (meant operands b)) (found_in unit operands b (found_in unit operands a found))
+found_in unit operands (Then a b) found =
+    two_finding binary.Then unit (seen (meant operands a)) (seen (meant operands b)) (found_in unit operands b (found_in unit operands a found))
+found_in unit operands (Call f list) found =
+    call_finding unit (suc (opened list).1) (seen (meant operands f)) (seen (meant operands list)) (found_in unit operands list (found_in unit operands f found))
+found_in unit operands (Alone f) found = unary_finding unary.Call (seen (meant operands f)) (found_in unit operands f found)
+
+abbrev pub found_in_all : ℕ → List Operand → List Source → Option Finding → Option Finding
+found_in_all unit operands [] found = found
+found_in_all unit operands (a ∷ sources) found = found_in_all unit operands sources (found_in unit operands a found)

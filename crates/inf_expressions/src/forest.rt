@@ -1,0 +1,24 @@
+//! The trees of a unit, in order.
+ghost use Rattle.std.specs.Prelude.{◌≡◌, slice_get, option_map};
+ghost use Rattle.inf_expressions.specs.Nodes.{rooted_at};
+ghost use Rattle.inf_expressions.specs.Forests.{trees_in};
+
+use crate::nodes::Nodes;
+use crate::trees::Root;
+
+/// The trees of a unit: their nodes, and where each tree has its own, in the order of their texts.
+#[derive(Drop)]
+pub struct Forest {
+    pub nodes: Nodes,
+    pub roots: Vec<Root>,
+}
+
+impl Forest {
+    /// The tree with this number, counted from 0, if there is one.
+    #[tactic(auto, using(crate::proofs::Roots::root_at))]
+    pub fn root(&self, number: usize) -> Option<Root>
+        ensures { option_map (rooted_at self.now.nodes) result ≡ slice_get (trees_in self.now) number }
+    {
+        self.roots.get(number).copied()
+    }
+}

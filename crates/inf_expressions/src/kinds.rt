@@ -1,0 +1,49 @@
+//! What judging sees of an expression.
+ghost use Rattle.std.specs.Prelude.{◌≡◌};
+ghost use Rattle.inf_expressions.specs.Nodes.{tree_at};
+ghost use Rattle.inf_expressions.specs.Rooted.{kind_of};
+
+use crate::nodes::{Node, Nodes};
+use crate::operators::{Binary, Function, Operand, Operation, PropertyPart};
+use crate::origins::Origin;
+
+/// What a tree is.
+#[derive(Clone, Copy, Debug, PartialEq, Eq)]
+pub(crate) enum Kind {
+    Number(u16),
+    /// A constant that is known when the story is laid out.
+    Constant,
+    Variable,
+    Function(Function),
+    /// An entry of an array, which can be assigned.
+    Entry,
+    /// A property's value, which can be assigned, and called.
+    Property,
+    /// The values of a case from one to another.
+    Range,
+    Code,
+}
+
+/// A tree's kind, and where its text begins.
+#[derive(Clone, Copy, Debug, PartialEq, Eq)]
+pub(crate) struct Seen {
+    pub kind: Kind,
+    pub origin: Origin,
+}
+
+/// The kind of the tree at a place.
+pub(crate) fn kind_of(nodes: &Nodes, place: usize) -> Kind
+    ensures { result ≡ kind_of (tree_at nodes.now place) }
+{
+    match nodes.node(place) {
+        Node::Leaf(Operand::Known(number)) => Kind::Number(number),
+        Node::Leaf(Operand::Variable(_)) => Kind::Variable,
+        Node::Leaf(Operand::Later(_)) => Kind::Constant,
+        Node::Leaf(Operand::Function(function)) => Kind::Function(function),
+        Node::Leaf(Operand::Unknown) => Kind::Number(0),
+        Node::Two(Binary::Operation(Operation::Byte | Operation::Word), _, _) => Kind::Entry,
+        Node::Two(Binary::Property(PropertyPart::Value), _, _) => Kind::Property,
+        Node::Two(Binary::To, _, _) => Kind::Range,
+        _ => Kind::Code,
+    }
+}

@@ -1,0 +1,36 @@
+//! Expressions as trees.
+//!
+//! What the grammar reads of an expression is a list of symbols, each operator behind its parts. When the unit that they stand in ends,
+//! its operands are looked up, and `judge` says the least error of the symbols with these operands, or that there is none;
+//! `build` makes their trees, in which operators of known numbers are computed and brackets are gone.
+#![tactic(auto)]
+
+mod findings;
+mod folding;
+mod forest;
+mod judging;
+mod kinds;
+mod laws;
+mod nodes;
+mod numbers;
+mod operators;
+mod origins;
+mod questions;
+mod symbols;
+mod trees;
+mod units;
+
+pub use findings::{
+    Finding, NOT_CONSTANT, OUT_OF_RANGE, TOO_MANY_ARGUMENTS, WRONG_KIND, least, least_of_both,
+};
+pub use forest::Forest;
+pub use laws::{expressions_have_one_order, symbols_are_read_as_their_trees};
+pub use nodes::{Node, Nodes};
+pub use operators::{
+    Binary, Function, Operand, Operation, PropertyPart, Relative, Single, Step, Test, Unary,
+};
+pub use origins::{Lead, Origin};
+pub use questions::{children_of, constant, operand, range};
+pub use symbols::Symbol;
+pub use trees::Root;
+pub use units::{Wanted, build, judge};
