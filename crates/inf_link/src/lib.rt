@@ -1,0 +1,16 @@
+//! The story: areas that are laid out one behind the other, with the numbers in them that are known then, and its header
+//! (Z-Machine Standard 1.1, sections 1 and 11).
+#![tactic(auto)]
+
+mod areas;
+mod bytes;
+mod filling;
+mod header;
+mod link;
+mod memory_map;
+mod targets;
+
+pub use areas::Areas;
+pub use header::{HeaderFields, Scale};
+pub use link::{Link, LinkFault, Sizes, Story};
+pub use targets::Targets;
