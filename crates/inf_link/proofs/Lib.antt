@@ -3,3 +3,7 @@ pub mod Fillings
 pub mod Ranks
 pub mod Looking
 pub mod Linking
+pub mod Apart
+pub mod FillingLaws
+pub mod StoryLaws
+pub mod CellLaws

@@ -6,3 +6,5 @@ pub mod Targets
 pub mod Filling
 pub mod Bodies
 pub mod Stories
+pub mod StoryLaws
+pub mod FillingLaws
