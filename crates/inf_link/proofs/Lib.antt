@@ -1,0 +1,9 @@
+pub mod Names
+pub mod Fillings
+pub mod Ranks
+pub mod Looking
+pub mod Linking
+pub mod Apart
+pub mod FillingLaws
+pub mod StoryLaws
+pub mod CellLaws

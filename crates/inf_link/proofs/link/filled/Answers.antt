@@ -1,0 +1,27 @@
+-- The order of the words does not matter.
+use Rattle.std.proofs.Common.{◌∙◌, ap, refl}
+use Rattle.inf_link.specs.Areas.{contents}
+use Rattle.inf_link.specs.Filling.{filled}
+use Rattle.inf_link.specs.Targets.{number_of}
+use Rattle.inf_link.proofs.Fillings.{filled-same}
+use Rattle.inf_link.proofs.Looking.{AreAlike, number_alike}
+use Rattle.inf_link.proofs.Ranks.{rank_of-permutation}
+use Rattle.inf_link.proofs.link.filled.Goals as goal
+
+pub returns : goal.returns
+returns g c =
+    let targets = c.args.targets in
+    let others = record targets { words = c.sort_unstable.new.self } in
+    let alike : AreAlike targets others = record {
+      names = refl;
+      property_tables = refl;
+      individual_tables = refl;
+      verbs = refl;
+      ranks = λ text. rank_of-permutation text targets.words.items others.words.items c.sort_unstable.ensures.permutation;
+      last_object = refl;
+    } in
+    let bases = c.args.bases.now in
+    let areas = contents g.A.Area.bytes c.args.areas in
+    c.fill_all.ensures
+    ∙ ap (λ fixups. filled (number_of others c.args.scale bases) fixups areas) c.as_slice.ensures
+    ∙ filled-same (number_of others c.args.scale bases) (number_of targets c.args.scale bases) (number_alike targets others alike c.args.scale bases) c.args.refs.list areas

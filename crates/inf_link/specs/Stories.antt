@@ -1,0 +1,49 @@
+-- The story: its header and the bytes of its areas. Z-Machine Standard 1.1, sections 1.1 and 11.
+use Rattle.std.specs.Prelude.{ℕ, List, ◌++◌, length, Option, Some, None}
+use Rattle.inf_area.specs.declared.fixups.Fixup.{Fixup}
+use Rattle.inf_link.specs.declared.areas.Areas.{Areas}
+use Rattle.inf_link.specs.declared.header.HeaderFields.{HeaderFields}
+use Rattle.inf_link.specs.declared.link.LinkFault.{LinkFault}
+use Rattle.inf_link.specs.declared.link.LinkFault.TheVariants as link_fault
+use Rattle.inf_link.specs.declared.link.Sizes.{Sizes}
+use Rattle.inf_link.specs.declared.targets.Targets.{Targets}
+use Rattle.inf_link.specs.Areas.{lengths}
+use Rattle.inf_link.specs.Bodies.{body}
+use Rattle.inf_link.specs.Filling.{filled}
+use Rattle.inf_link.specs.Header.{header}
+use Rattle.inf_link.specs.MemoryMaps.{map_of}
+use Rattle.inf_link.specs.Targets.{number_of}
+
+-- a story's bytes, and how many of them are what
+pub record Linked : Type 0 where
+  pub bytes : List ℕ
+  pub sizes : Sizes
+
+-- areas with zeros at their fixups, filled with the numbers of these
+unfoldable pub filled_areas : Areas (List ℕ) → List Fixup → Targets → HeaderFields → Areas (List ℕ)
+filled_areas contents fixups targets fields =
+    filled (number_of targets fields.scale (map_of (lengths contents) fields.scale).bases) fixups contents
+
+-- the story of areas whose fixups are filled
+unfoldable pub story_of : Areas (List ℕ) → HeaderFields → List ℕ
+story_of contents fields =
+    let behind = body fields.scale contents in
+    header fields (map_of (lengths contents) fields.scale).bases behind ++ behind
+
+-- the story of areas with zeros at their fixups
+abbrev pub story : Areas (List ℕ) → List Fixup → Targets → HeaderFields → List ℕ
+story contents fixups targets fields = story_of (filled_areas contents fixups targets fields) fields
+
+-- how many bytes it and its parts have
+abbrev pub sizes : Areas (List ℕ) → HeaderFields → List ℕ → Sizes
+sizes contents fields bytes = record {
+  code = length contents.code;
+  strings = length contents.strings;
+  readable = (map_of (lengths contents) fields.scale).bases.code;
+  story = length bytes;
+}
+
+-- what is told where this is why there is no story
+abbrev pub refusal : Option LinkFault → LinkFault
+refusal None = link_fault.Memory
+refusal (Some fault) = fault

@@ -1,0 +1,158 @@
+//! A story is made of its areas.
+ghost use Rattle.std.specs.Prelude.{◌≡◌, ◌⊎◌, None, Some, IfOk, MatchResult};
+ghost use Rattle.inf_link.specs.Areas.{contents, lengths};
+ghost use Rattle.inf_link.specs.Filling.{filled};
+ghost use Rattle.inf_link.specs.MemoryMaps.{too_long};
+ghost use Rattle.inf_link.specs.Targets.{number_of};
+ghost use Rattle.inf_link.specs.declared.link.LinkFault.TheVariants.{Memory};
+
+use crate::areas::Areas;
+use crate::bytes::body;
+use crate::header::{HEADER_SIZE, HeaderFields, Scale, append_header};
+use crate::memory_map::MemoryMap;
+use crate::targets::Targets;
+use inf_area::{Area, Refs};
+use std::alloc::{AllocError, Global};
+use std::marker::Model;
+
+/// Why there is no story.
+#[derive(Clone, Copy, Debug, PartialEq, Eq)]
+pub enum LinkFault {
+    /// Code would begin at an address over 65,534.
+    ReadableTooLong,
+    /// The story would have more bytes than one of its version may have: 262,144 in version 5, 524,288 in version 8
+    /// (Z-Machine Standard 1.1, section 1.1.4).
+    StoryTooLong,
+    /// No memory was left.
+    Memory,
+}
+
+impl From<AllocError> for LinkFault {
+    ghost from_gives = { λ _ fault. fault ≡ Memory };
+
+    fn from(_error: AllocError) -> LinkFault {
+        LinkFault::Memory
+    }
+}
+
+/// How many bytes a story and its parts have.
+#[derive(Clone, Copy, Debug, PartialEq, Eq)]
+pub struct Sizes {
+    pub code: usize,
+    pub strings: usize,
+    /// What stands before the code.
+    pub readable: usize,
+    pub story: usize,
+}
+
+/// A story that is done.
+#[derive(Debug, Drop)]
+pub struct Story {
+    bytes: Vec<u8>,
+    sizes: Sizes,
+}
+
+impl Model for Story {
+    ghost use Rattle.inf_link.specs.Stories.{Linked};
+
+    ghost Value = { Linked };
+
+    ghost view = { λ story. record { bytes = story.bytes.items; sizes = story.sizes } };
+}
+
+impl Story {
+    /// Its bytes, in order.
+    pub fn as_slice(&self) -> &[u8]
+        ensures { result.now ≡ self.now.bytes }
+    {
+        self.bytes.as_slice()
+    }
+
+    /// How many bytes it and its parts have.
+    pub fn sizes(&self) -> Sizes
+        ensures { result ≡ self.now.sizes }
+    {
+        self.sizes
+    }
+}
+
+/// What a story is made of: its areas, with two zeros at each fixup; the fixups of all areas, in any order; what these are looked
+/// up in; and what its header tells.
+#[derive(Debug, Drop)]
+pub struct Link<A> {
+    pub alloc: Global,
+    pub areas: Areas<A>,
+    pub refs: Refs,
+    pub targets: Targets,
+    pub fields: HeaderFields,
+}
+
+impl<A: Area + Drop> Link<A> {
+    ghost use Rattle.inf_link.specs.Stories.{refusal, sizes, story};
+
+    /// What a story is made of. It takes no memory.
+    pub fn new(
+        alloc: Global,
+        areas: Areas<A>,
+        refs: Refs,
+        targets: Targets,
+        fields: HeaderFields,
+    ) -> Self
+        ensures { result ≡ record { alloc = alloc; areas = areas; refs = refs; targets = targets; fields = fields } }
+    {
+        Link {
+            alloc,
+            areas,
+            refs,
+            targets,
+            fields,
+        }
+    }
+
+    /// The story. Refuses first where code would begin at an address over 65,534, then where the story would be longer than one of
+    /// its version may be, then where no memory is left. A fixup that does not lie within its area is left out.
+    pub fn link(self) -> Result<Story, LinkFault>
+        ensures bytes { IfOk result (λ s. s.bytes ≡ story (contents A.bytes self.areas) self.refs.list self.targets self.fields) }
+        ensures sizes { IfOk result (λ s. s.sizes ≡ sizes (contents A.bytes self.areas) self.fields s.bytes) }
+        ensures fault { let long = too_long (lengths (contents A.bytes self.areas)) self.fields.scale in
+            MatchResult result (λ _. long ≡ None) (λ fault. fault ≡ refusal long) }
+    {
+        let fields = self.fields;
+        let map = MemoryMap::of(self.areas.lengths(), fields.scale)?;
+        let areas = filled(
+            self.areas,
+            self.refs,
+            self.targets,
+            fields.scale,
+            &map.bases,
+        );
+        let body = body(self.alloc, map.end - HEADER_SIZE, &areas, fields.scale)?;
+        let mut bytes = Vec::with_capacity(self.alloc, map.end)?;
+        append_header(&mut bytes, fields, &map.bases, &body)?;
+        bytes.extend_from_slice(&body)?;
+        let sizes = Sizes {
+            code: areas.code.len(),
+            strings: areas.strings.len(),
+            readable: map.bases.code,
+            story: bytes.len(),
+        };
+        Ok(Story { bytes, sizes })
+    }
+}
+
+/// Areas whose fixups are filled, where they begin at these places.
+fn filled<A: Area>(
+    areas: Areas<A>,
+    refs: Refs,
+    targets: Targets,
+    scale: Scale,
+    bases: &Areas<usize>,
+) -> Areas<A>
+    ensures { contents A.bytes result ≡ filled (number_of targets scale bases.now) refs.list (contents A.bytes areas) }
+{
+    let mut areas = areas;
+    let mut targets = targets;
+    targets.words.sort_unstable();
+    areas.fill_all(refs.as_slice(), &targets, scale, bases);
+    areas
+}
