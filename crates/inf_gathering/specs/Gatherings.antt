@@ -1,0 +1,98 @@
+-- What a unit gathers while it is read.
+use Rattle.std.specs.Prelude.{ℕ, ◌+◌, ◌-◌, ◌==◌, List, [], ◌∷◌, ◌++◌, length, take, drop, Bool, true, false, if◌then◌else◌, Option, Some, None}
+use Rattle.inf_expressions.specs.declared.symbols.Symbol.{Symbol}
+use Rattle.inf_expressions.specs.declared.symbols.Symbol.TheVariants as symbol
+use Rattle.inf_expressions.specs.declared.operators.Unary.{Unary}
+use Rattle.inf_expressions.specs.declared.operators.Binary.{Binary}
+use Rattle.inf_expressions.specs.declared.operators.Binary.TheVariants as binary
+use Rattle.inf_expressions.specs.declared.operators.Test.{Test}
+use Rattle.inf_gathering.specs.declared.gathering.Leaf.{Leaf}
+
+-- The leaves of the unit's expressions, their symbols, each operator behind its parts; the order of the first token of each expression that is whole, the latest
+-- first; of each list that is open how many parts it has; and the order of each opening bracket that is open, the latest first.
+pub record Gathering : Type 0 where
+  pub leaves : List Leaf
+  pub symbols : List Symbol
+  pub firsts : List ℕ
+  pub counts : List ℕ
+  pub brackets : List ℕ
+
+abbrev pub nothing_gathered : Gathering
+nothing_gathered = record { leaves = []; symbols = []; firsts = []; counts = []; brackets = [] }
+
+-- a leaf whose first token has an order, and which is told by a token with another or the same
+abbrev pub with_leaf : ℕ → ℕ → Leaf → Gathering → Gathering
+with_leaf first token leaf g = record g {
+  leaves = g.leaves ++ leaf ∷ [];
+  symbols = g.symbols ++ symbol.Leaf first token (length g.leaves) ∷ [];
+  firsts = first ∷ g.firsts;
+}
+
+-- the order of the first token of the latest expression
+abbrev pub latest : List ℕ → ℕ
+latest [] = 0
+latest (first ∷ firsts) = first
+
+-- the latest expression begins with another token
+abbrev pub beginning : ℕ → List ℕ → List ℕ
+beginning order [] = []
+beginning order (first ∷ firsts) = order ∷ firsts
+
+-- an operator of the latest expression, in front of it: its token is the one before
+abbrev pub with_prefix : Unary → Gathering → Gathering
+with_prefix op g =
+    let order = latest g.firsts - 1 in
+    record g { symbols = g.symbols ++ symbol.Prefix order op ∷ []; firsts = beginning order g.firsts }
+
+-- one behind it
+abbrev pub with_suffix : Unary → Gathering → Gathering
+with_suffix op g = record g { symbols = g.symbols ++ symbol.Suffix op ∷ [] }
+
+-- an operator of the latest two
+abbrev pub with_two : Binary → Gathering → Gathering
+with_two op g = record g { symbols = g.symbols ++ symbol.Two op ∷ []; firsts = drop 1 g.firsts }
+
+-- A comma: in brackets it is the operator.
+abbrev pub comma : List ℕ → Symbol
+comma [] = symbol.Comma
+comma (bracket ∷ brackets) = symbol.Two binary.Comma
+
+abbrev pub with_comma : Gathering → Gathering
+with_comma g = record g { symbols = g.symbols ++ comma g.brackets ∷ []; firsts = drop 1 g.firsts }
+
+-- A list begins, and has one part more. No list of a source has so many parts that their count stays.
+abbrev pub with_list : Gathering → Gathering
+with_list g = record g { counts = 0 ∷ g.counts }
+
+abbrev pub counted : ℕ → ℕ
+counted count = if count == 4294967295 then count else count + 1
+
+abbrev pub one_more : List ℕ → List ℕ
+one_more [] = []
+one_more (count ∷ counts) = counted count ∷ counts
+
+abbrev pub with_part : Gathering → Gathering
+with_part g = record g { counts = one_more g.counts }
+
+-- a call with the parts of the open list as arguments
+abbrev pub with_call : Gathering → Gathering
+with_call g =
+    let given = latest g.counts in
+    record g { symbols = g.symbols ++ symbol.Call given ∷ []; firsts = drop given g.firsts; counts = drop 1 g.counts }
+
+-- a test of an expression against the parts of the open list
+abbrev pub with_test : Binary → Gathering → Gathering
+with_test op g =
+    let parts = latest g.counts in
+    record g { symbols = g.symbols ++ symbol.List (parts - 1) ∷ symbol.Two op ∷ []; firsts = drop parts g.firsts; counts = drop 1 g.counts }
+
+-- a bracket is opened by a token with an order, and closed
+abbrev pub with_bracket : ℕ → Gathering → Gathering
+with_bracket order g = record g { brackets = order ∷ g.brackets }
+
+abbrev pub closed_by : List ℕ → Gathering → Gathering
+closed_by [] g = g
+closed_by (order ∷ brackets) g = record g { symbols = g.symbols ++ symbol.Bracketed order ∷ []; firsts = beginning order g.firsts; brackets = brackets }
+
+abbrev pub with_closed_bracket : Gathering → Gathering
+with_closed_bracket g = closed_by g.brackets g
