@@ -1,6 +1,7 @@
 # shellcheck shell=bash
 # What the commands of this repository share: the toolchain, the crates, and whether the compiler is built.
 # It is read by `source`, with the repository's folder in `root`.
+: "${root:?}"
 
 # The toolchain's command.
 find_rt() {
@@ -30,23 +31,33 @@ crates_below() {
         }' "$root/crates.txt"
 }
 
-# The sum of what the compiler is proved and built from: the handles, and of its crates the lines of the list of crates, and the
-# sources, definitions and proofs.
+# The lines of the list of crates for these crates.
+lines_of() {
+    local IFS='|'
+    grep -E "^($*):" "$root/crates.txt"
+}
+
+# The sum of what the compiler is proved and built from: of its crates the lines of the list of crates, the handles, and all
+# files of these crates but their edits.
 sum_of_sources() {
-    local names name
+    local names
     mapfile -t names < <(crates_below inform)
     (
-        cd "$root"
-        for name in "${names[@]}"; do grep "^$name:" crates.txt; done
+        cd "$root" || exit
+        lines_of "${names[@]}"
         find HANDLES "${names[@]/#/crates/}" \( -name out -o -name must-fail \) -prune -o -type f -print |
             LC_ALL=C sort | xargs -d '\n' sha256sum
     ) | sha256sum | cut -d ' ' -f 1
 }
 
 # Whether the program in release/ was built from the sources at hand.
+is_of_these_sources() {
+    [[ -e $root/release/sources.sha256 && $(cat "$root/release/sources.sha256") == "$(sum_of_sources)" ]]
+}
+
+# Whether it was, and is one for a machine of this kind.
 is_released() {
-    [[ -x $root/release/inform && -e $root/release/sources.sha256 ]] &&
-        [[ $(cat "$root/release/sources.sha256") == "$(sum_of_sources)" ]]
+    [[ -x $root/release/inform && $(uname -sm) == "Linux x86_64" ]] && is_of_these_sources
 }
 
 # Whether a compiler was built here, and nothing that it is made of is newer than it.
@@ -70,8 +81,8 @@ copy_crates() {
     shift
     mkdir -p "$to/crates"
     cp "$root/HANDLES" "$to"
+    lines_of "$@" >"$to/crates.txt"
     for name in "$@"; do
-        grep "^$name:" "$root/crates.txt" >>"$to/crates.txt"
         tar -C "$root/crates" -c --exclude="$name/out" --exclude="$name/must-fail" "$name" | tar -C "$to/crates" -x
     done
 }
