@@ -1,3 +1,4 @@
+pub mod Examples
 pub mod NodeLemmas
 pub mod Roots
 pub mod Reading

@@ -41,6 +41,7 @@ rooted_at trees root = record { tree = tree_at trees root.place; origin = root.o
 abbrev pub rooted : List Tree → List Root → List Rooted
 rooted trees roots = reverse (map (rooted_at trees) roots)
 
+-- all within these trees
 abbrev pub AreRoots : List Tree → List Root → Type 0
 AreRoots trees [] = Unit {0}
 AreRoots trees (root ∷ roots) = (root.place < length trees) × AreRoots trees roots

@@ -1,12 +1,12 @@
 -- What is asked of a tree.
-use Rattle.std.specs.Prelude.{Bool, true, false, not, Option, Some, None, is_some, if◌then◌else◌, ◌&&◌}
+use Rattle.std.specs.Prelude.{Bool, true, false, Option, Some, None, if◌then◌else◌}
 use Rattle.inf_area.specs.declared.targets.Value.{Value}
 use Rattle.inf_area.specs.declared.targets.Value.TheVariants as value
 use Rattle.inf_expressions.specs.declared.operators.Operand.{Operand}
 use Rattle.inf_expressions.specs.declared.operators.Operand.TheVariants as operand
 use Rattle.inf_expressions.specs.declared.operators.Test.TheVariants as test
 use Rattle.inf_expressions.specs.declared.operators.Binary.TheVariants as binary
-use Rattle.inf_expressions.specs.Trees.{Tree, Leaf, One, Two}
+use Rattle.inf_expressions.specs.Trees.{Tree, Leaf, Two}
 
 -- the operand that it is without code
 abbrev pub operand_of : Tree → Option Operand

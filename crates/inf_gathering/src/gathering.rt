@@ -2,8 +2,7 @@
 ghost use Rattle.std.specs.Prelude.{◌≡◌, OnOk, [], drop, reverse};
 ghost use Rattle.inf_gathering.specs.Gatherings.{beginning, comma, counted, latest, nothing_gathered, one_more, with_bracket, with_call, with_closed_bracket, with_comma, with_leaf, with_list, with_part, with_prefix, with_suffix, with_test, with_two};
 
-use inf_expressions::operators::{Binary, Unary};
-use inf_expressions::symbols::Symbol;
+use inf_expressions::{Binary, Symbol, Unary};
 use inf_scanner::DictionaryWord;
 use inf_text::Zscii;
 use std::alloc::{AllocError, Global};
@@ -100,7 +99,7 @@ impl Gathering {
         self.symbols.push(Symbol::Leaf {
             first,
             token,
-            place,
+            leaf: place,
         })?;
         self.firsts.push(first)?;
         Ok(())
