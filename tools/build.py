@@ -1,11 +1,11 @@
 #!/usr/bin/env python3
 """Proves and builds the crates of a folder, and tells on standard error how far it is.
 
-usage: tools/build.py RT FOLDER LOG
+usage: tools/build.py RT FOLDER LOG [--anew]
 
 RT is the toolchain's command. FOLDER has a crates.txt and the crates that it names, and nothing else. What RT says goes to LOG.
 Its gate (`rt ci`) proves crates that do not stand on each other side by side, as many as processors and memory allow, keeps on
-this machine what it proved, and takes what it kept: so a build that was interrupted goes on where it was.
+this machine what it proved, and takes what it kept (but with --anew): so a build that was interrupted goes on where it was.
 
 How many functions a crate has, and how long its proof takes, is taken from the table in docs/GATE.md; it is guessed from the
 sources of a crate that is not there. The time of the whole is that of a plan by these times, as much slower or faster as
@@ -133,10 +133,10 @@ def follow(build, log, progress):
         time.sleep(1)
 
 
-def main(rt, folder, path):
+def main(rt, folder, path, *words):
     progress = Progress(crates_of(Path(folder)), len(os.sched_getaffinity(0)))
     with open(path, "w", encoding="utf-8") as written, open(path, encoding="utf-8", errors="replace") as log:
-        build = subprocess.Popen([rt, "ci"], cwd=folder, stdin=subprocess.DEVNULL, stdout=written, stderr=subprocess.STDOUT)
+        build = subprocess.Popen([rt, "ci", *words], cwd=folder, stdin=subprocess.DEVNULL, stdout=written, stderr=subprocess.STDOUT)
         try:
             return follow(build, log, progress)
         except KeyboardInterrupt:
@@ -149,6 +149,6 @@ def main(rt, folder, path):
 
 
 if __name__ == "__main__":
-    if len(sys.argv) != 4:
+    if len(sys.argv) not in (4, 5) or sys.argv[4:] not in ([], ["--anew"]):
         sys.exit(__doc__)
     sys.exit(main(*sys.argv[1:]))
