@@ -1,9 +1,11 @@
 -- The words of a story: each text once, in rising order, with what all its uses say together.
-use Rattle.std.specs.Prelude.{ℕ, suc, List, [], ◌∷◌, ◌++◌, Option, Some, None, length, bit_or, ◌+◌, ◌-◌, ◌/◌, ◌%◌, ◌==◌, ◌||◌, not, Bool, false, if◌then◌else◌, is_some}
+use Rattle.std.specs.Prelude.{ℕ, suc, List, [], ◌∷◌, ◌++◌, Option, Some, None, length, bit_or, ◌+◌, ◌-◌, ◌/◌, ◌%◌, ◌==◌, ◌||◌, not, Bool, false, if◌then◌else◌, is_some, is_none, nat_le, ◌&&◌}
 use Rattle.std.specs.Ordering.{nat_cmp}
 use Rattle.std.specs.Cmp.Lexicographic.{slice_cmp}
 use Rattle.std.specs.Map.{lookup}
 use Rattle.std.specs.BTreeMap.{is_at, insert_entry}
+use Rattle.inf_dictionary.specs.declared.dictionary.AddFault.{AddFault}
+use Rattle.inf_dictionary.specs.declared.dictionary.AddFault.TheVariants as fault
 use Rattle.inf_dictionary.specs.declared.uses.Word.{Word}
 use Rattle.inf_dictionary.specs.declared.uses.WordUse.{WordUse}
 use Rattle.inf_dictionary.specs.declared.uses.WordUse.TheVariants as word_use
@@ -60,6 +62,12 @@ are_other None new = false
 -- whether a word of a verb would become one of another verb
 abbrev pub is_of_other_verb : Option Word → WordUse → Bool
 is_of_other_verb word how = are_other (verb_in_word word) (verb_in how)
+
+-- why a use cannot be added of a word of which this is known: the word is one of another verb's, or it is new and there are as many
+-- as there may be
+abbrev pub add_fault : Option Word → WordUse → Words → Option AddFault
+add_fault word how words =
+    if is_of_other_verb word how then Some fault.OtherVerb else if is_none word && nat_le words.limit (length words.list) then Some fault.Full else None
 
 -- whether a text cannot become that of a word of a new verb, where some stand before: the word is one of a verb's, or is among these
 unfoldable pub is_misfit : List (Text × Word) → List (Text × Unit { 0 }) → Text → Bool

@@ -1,7 +1,7 @@
 //! The words of a story, and how they are written.
-ghost use Rattle.std.specs.Prelude.{◌≡◌, ◌<◌, ◌≤◌, ◌++◌, ◌∷◌, [], None, true, false, OnOk, OnErr, IfOk, IfErr, IsNone, IsSome, length};
-ghost use Rattle.inf_dictionary.specs.Words.{Words, dictionary_bytes, entry_bytes, first_misfit, is_misfit, is_of_other_verb, verb_of, with_use, word_of};
-ghost use Rattle.inf_dictionary.specs.declared.dictionary.AddFault.TheVariants.{OtherVerb, Full, Memory};
+ghost use Rattle.std.specs.Prelude.{◌≡◌, ◌<◌, ◌≤◌, ◌++◌, ◌∷◌, [], None, OnOk, OnErr, IfOk, IfNone, IsNone, MatchResult, length, unwrap_or};
+ghost use Rattle.inf_dictionary.specs.Words.{add_fault, dictionary_bytes, entry_bytes, first_misfit, is_misfit, verb_of, with_use, word_of};
+ghost use Rattle.inf_dictionary.specs.declared.dictionary.AddFault.TheVariants.{Memory};
 ghost use Rattle.inf_dictionary.specs.Texts.{AreRising, AreWhole, texts_of};
 
 use crate::places::Places;
@@ -102,22 +102,29 @@ impl Dictionary {
     ) -> Result<(), AddFault>
         ensures ok { OnOk result (self.new ≡ with_use text word_use is_plural self.old) }
         ensures err { OnErr result (self.new ≡ self.old) }
-        ensures other_verb { IfErr result (λ fault. fault ≡ OtherVerb → is_of_other_verb (word_of text self.old.list) word_use ≡ true) }
-        ensures own_verb { OnOk result (is_of_other_verb (word_of text self.old.list) word_use ≡ false) }
-        ensures full { IfErr result (λ fault. fault ≡ Full → length self.old.list ≡ self.old.limit) }
-        ensures full_new { IfErr result (λ fault. fault ≡ Full → word_of text self.old.list ≡ None) }
-        ensures room { OnOk result (word_of text self.old.list ≡ None → length self.old.list < self.old.limit) }
-        ensures memory { IfErr result (λ fault. fault ≡ Memory → length self.old.list < self.old.limit) }
+        ensures fault { let fault = add_fault (word_of text self.old.list) word_use self.old in
+            MatchResult result (λ _. fault ≡ None) (λ refused. refused ≡ unwrap_or fault Memory) }
     {
         let before = self.word(&text);
-        if is_of_other_verb(before, word_use) {
-            return Err(AddFault::OtherVerb);
-        }
-        if before.is_none() && self.words.len() >= self.limit {
-            return Err(AddFault::Full);
+        if let Some(fault) = self.add_fault(before, word_use) {
+            return Err(fault);
         }
         self.words.insert(text, joined(before, word_use, is_plural))?;
         Ok(())
+    }
+
+    // Why a use of a word of which this is known cannot be added, whatever memory there is.
+    fn add_fault(&self, before: Option<Word>, word_use: WordUse) -> Option<AddFault>
+        ensures value { result ≡ add_fault before word_use self.now }
+        ensures room { IfNone result (IsNone before → length self.now.list < self.now.limit) }
+    {
+        if is_of_other_verb(before, word_use) {
+            return Some(AddFault::OtherVerb);
+        }
+        if before.is_none() && self.words.len() >= self.limit {
+            return Some(AddFault::Full);
+        }
+        None
     }
 
     // What holds of the words at every moment.
