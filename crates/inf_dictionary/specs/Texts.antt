@@ -1,0 +1,32 @@
+-- Texts of words: six bytes each, in the order of a dictionary (Z-Machine Standard 1.1, section 13.2).
+use Rattle.std.specs.Prelude.{◌≡◌, ℕ, List, [], ◌∷◌, ◌+◌, Bool, length, if◌then◌else◌}
+use Rattle.std.specs.Ordering.{nat_cmp, is_lt}
+use Rattle.std.specs.Cmp.Lexicographic.{slice_cmp}
+use Rattle.std.specs.List.{AllByRecursion}
+use Rattle.std.specs.List.Sorted.{IsStrictlySortedBy}
+use Rattle.std.specs.Map.{keys_of}
+use Rattle.inf_dictionary.specs.declared.uses.Word.{Word}
+
+abbrev pub Text : Type 0
+Text = List ℕ
+
+-- the texts of words
+abbrev pub texts_of : List (Text × Word) → List Text
+texts_of words = keys_of words
+
+-- each text is below the next
+abbrev pub AreRising : List Text → Type 0
+AreRising texts = IsStrictlySortedBy (slice_cmp nat_cmp) texts
+
+-- each has six bytes
+abbrev pub AreWhole : List Text → Type 0
+AreWhole texts = AllByRecursion (λ text. length text ≡ 6) texts
+
+-- where they first differ the byte of the first is lower
+abbrev pub is_below : Text → Text → Bool
+is_below text other = is_lt (slice_cmp nat_cmp text other)
+
+-- how many of some texts are below one
+abbrev pub rank_of : Text → List Text → ℕ
+rank_of text [] = 0
+rank_of text (other ∷ texts) = if is_below other text then rank_of text texts + 1 else rank_of text texts

@@ -1,0 +1,199 @@
+//! The words of a story, and how they are written.
+ghost use Rattle.std.specs.Prelude.{◌≡◌, ◌<◌, ◌≤◌, ◌++◌, ◌∷◌, [], None, OnOk, OnErr, IfOk, IfNone, IsNone, MatchResult, length, unwrap_or};
+ghost use Rattle.inf_dictionary.specs.Words.{add_fault, dictionary_bytes, entry_bytes, first_misfit, is_misfit, verb_of, with_use, word_of};
+ghost use Rattle.inf_dictionary.specs.declared.dictionary.AddFault.TheVariants.{Memory};
+ghost use Rattle.inf_dictionary.specs.Texts.{AreRising, AreWhole, texts_of};
+
+use crate::places::Places;
+use crate::uses::{Word, WordUse, is_of_other_verb, joined};
+use inf_area::Area;
+use std::alloc::{AllocError, AllocFailed, Global};
+use std::collections::BTreeMap;
+use std::marker::Model;
+
+/// Why a use of a word was not added.
+#[derive(Clone, Copy, Debug, PartialEq, Eq)]
+pub enum AddFault {
+    /// The word is one of another verb's.
+    OtherVerb,
+    /// There are as many words as there may be.
+    Full,
+    /// No memory was left.
+    Memory,
+}
+
+impl<T: Drop> From<AllocFailed<T>> for AddFault {
+    ghost from_gives = { λ _ fault. fault ≡ Memory };
+
+    fn from(_error: AllocFailed<T>) -> AddFault {
+        AddFault::Memory
+    }
+}
+
+/// The words that were used so far, and how many there may be.
+#[derive(Drop)]
+pub struct Dictionary {
+    words: BTreeMap<[u8; 6], Word>,
+    limit: usize,
+}
+
+impl Model for Dictionary {
+    ghost use Rattle.std.specs.Prelude.{◌≤◌, length};
+    ghost use Rattle.inf_dictionary.specs.Words.{Words};
+    ghost use Rattle.inf_dictionary.specs.Texts.{AreRising, AreWhole, texts_of};
+
+    ghost Value = { Words };
+
+    ghost view = { λ d. record { list = d.words.entries; limit = d.limit } };
+
+    ghost invariant = { λ d. (length d.words.entries ≤ d.limit) × AreRising (texts_of d.words.entries) × AreWhole (texts_of d.words.entries) };
+}
+
+/// Appends the bytes of a word's entry.
+fn add_entry(bytes: &mut Vec<u8>, text: &[u8; 6], word: Word) -> Result<(), AllocError>
+    ensures { OnOk result (bytes.new.items ≡ bytes.old.items ++ entry_bytes (text.now, word)) }
+{
+    bytes.extend_from_slice(text)?;
+    bytes.extend_from_slice(&[word.flags, word.verb_byte(), 0])
+}
+
+impl Dictionary {
+    /// No words, of which there may be so many. It takes no memory until the first one comes.
+    pub fn new(alloc: Global, limit: usize) -> Dictionary
+        ensures { result ≡ record { list = []; limit = limit } }
+    {
+        Dictionary {
+            words: BTreeMap::new(alloc),
+            limit,
+        }
+    }
+
+    /// How many words there are, which is never more than there may be.
+    pub fn len(&self) -> usize
+        ensures value { result ≡ length self.now.list }
+        ensures limited { result ≤ self.now.limit }
+    {
+        self.words.len()
+    }
+
+    /// What is known of the word with this text, if it was used.
+    pub fn word(&self, text: &[u8; 6]) -> Option<Word>
+        ensures { result ≡ word_of text.now self.now.list }
+    {
+        self.words.get(text).copied()
+    }
+
+    /// The number of the verb that the word with this text is a word of, if it is one of a verb's.
+    pub fn verb_of(&self, text: &[u8; 6]) -> Option<u8>
+        ensures { result ≡ verb_of text.now self.now.list }
+    {
+        self.word(text)?.verb
+    }
+
+    /// A use of the word with this text, which joins what it says of the word to what other uses say.
+    ///
+    /// Refuses first a word of a verb that is one of another verb's, then a new one where there are as many words as there may be,
+    /// then where no memory is left. The words then stay as they were.
+    pub fn add(
+        &mut self,
+        text: [u8; 6],
+        word_use: WordUse,
+        is_plural: bool,
+    ) -> Result<(), AddFault>
+        ensures ok { OnOk result (self.new ≡ with_use text word_use is_plural self.old) }
+        ensures err { OnErr result (self.new ≡ self.old) }
+        ensures fault { let fault = add_fault (word_of text self.old.list) word_use self.old in
+            MatchResult result (λ _. fault ≡ None) (λ refused. refused ≡ unwrap_or fault Memory) }
+    {
+        let before = self.word(&text);
+        if let Some(fault) = self.add_fault(before, word_use) {
+            return Err(fault);
+        }
+        self.words.insert(text, joined(before, word_use, is_plural))?;
+        Ok(())
+    }
+
+    // Why a use of a word of which this is known cannot be added, whatever memory there is.
+    fn add_fault(&self, before: Option<Word>, word_use: WordUse) -> Option<AddFault>
+        ensures value { result ≡ add_fault before word_use self.now }
+        ensures room { IfNone result (IsNone before → length self.now.list < self.now.limit) }
+    {
+        if is_of_other_verb(before, word_use) {
+            return Some(AddFault::OtherVerb);
+        }
+        if before.is_none() && self.words.len() >= self.limit {
+            return Some(AddFault::Full);
+        }
+        None
+    }
+
+    // What holds of the words at every moment.
+    pub(crate) fn is_in_order(&self)
+        ensures rising { AreRising (texts_of self.now.list) }
+        ensures whole { AreWhole (texts_of self.now.list) }
+    {
+        let _words = &self.words;
+    }
+
+    /// The place among some texts of the first that cannot become a word of a new verb: the word is one of a verb's already, or its
+    /// text stands before among these. There is none where all can.
+    pub fn first_misfit(
+        &self,
+        alloc: Global,
+        texts: &[[u8; 6]],
+    ) -> Result<Option<usize>, AllocError>
+        ensures { IfOk result (λ place. place ≡ first_misfit self.now.list 0 [] texts.now) }
+    {
+        let mut before = BTreeMap::new(alloc);
+        let mut place = 0;
+        for text in texts {
+            if self.is_misfit(&before, text) {
+                return Ok(Some(place));
+            }
+            before.insert(*text, ())?;
+            place += 1;
+        }
+        Ok(None)
+    }
+
+    // Whether a text cannot become that of a word of a new verb, behind some others.
+    #[tactic(auto, unfolding(crate::specs::Words::is_misfit))]
+    fn is_misfit(&self, before: &BTreeMap<[u8; 6], ()>, text: &[u8; 6]) -> bool
+        ensures { result ≡ is_misfit self.now.list before.now.entries text.now }
+    {
+        self.verb_of(text).is_some() || before.contains_key(text)
+    }
+
+    /// Puts the dictionary behind an area: how texts are parted into words, the length of an entry, how many words there are, modulo
+    /// 65536, and the entries in rising order of their texts. Where no memory is left the area stays as it was.
+    pub fn write<A: Area>(&self, alloc: Global, area: &mut A) -> Result<(), AllocError>
+        ensures ok { OnOk result (A.bytes area.new ≡ A.bytes area.old ++ dictionary_bytes self.now.list) }
+        ensures err { OnErr result (A.bytes area.new ≡ A.bytes area.old) }
+    {
+        area.append(&self.bytes(alloc)?)
+    }
+
+    /// The bytes of the dictionary.
+    fn bytes(&self, alloc: Global) -> Result<Vec<u8>, AllocError>
+        ensures { IfOk result (λ bytes. bytes.items ≡ dictionary_bytes self.now.list) }
+    {
+        let count = self.words.len();
+        let head = [3, b'.', b',', b'"', 9, (count / 256 % 256) as u8, (count % 256) as u8];
+        let mut bytes = Vec::from_slice(alloc, &head)?;
+        for (text, word) in &self.words {
+            add_entry(&mut bytes, text, *word)?;
+        }
+        Ok(bytes)
+    }
+
+    /// Where each word stands in the dictionary as it is now.
+    pub fn places(&self, alloc: Global) -> Result<Places, AllocError>
+        ensures { IfOk result (λ places. places ≡ texts_of self.now.list) }
+    {
+        let mut texts = Vec::with_capacity(alloc, self.words.len())?;
+        for (text, _) in &self.words {
+            texts.push(*text)?;
+        }
+        Ok(Places::new(texts))
+    }
+}

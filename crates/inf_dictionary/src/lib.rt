@@ -1,0 +1,15 @@
+//! The dictionary of a story (Z-Machine Standard 1.1, section 13).
+//!
+//! A `Dictionary` is made of the uses of words in a source, in any order. Words are told by their six bytes of text, which
+//! `inf_text::dict_word` makes. `write` puts it behind an area; `Places` then tells where each word stands in it.
+#![tactic(auto)]
+
+mod dictionary;
+mod laws;
+mod places;
+mod uses;
+
+pub use dictionary::{AddFault, Dictionary};
+pub use laws::{texts_rise, word_at_its_place};
+pub use places::Places;
+pub use uses::{Word, WordUse};

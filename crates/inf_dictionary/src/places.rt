@@ -1,0 +1,50 @@
+//! Where words stand in a dictionary.
+ghost use Rattle.std.specs.Prelude.{◌≡◌, ◌*◌, ◌+◌};
+ghost use Rattle.inf_dictionary.specs.Texts.{AreRising, is_below, rank_of};
+
+use std::marker::Model;
+
+/// The texts of a dictionary's words, in rising order.
+#[derive(Drop)]
+pub struct Places {
+    texts: Vec<[u8; 6]>,
+}
+
+impl Model for Places {
+    ghost use Rattle.std.specs.Prelude.{List};
+    ghost use Rattle.inf_dictionary.specs.Texts.{AreRising, Text};
+
+    ghost Value = { List Text };
+
+    ghost view = { λ p. p.texts.items };
+
+    ghost invariant = { λ p. AreRising p.texts.items };
+}
+
+/// Whether a text stands before another in a dictionary: where they first differ its byte is the lower one.
+fn is_below(text: &[u8; 6], other: &[u8; 6]) -> bool
+    ensures { result ≡ is_below text.now other.now }
+{
+    text.cmp(other).is_lt()
+}
+
+impl Places {
+    /// Those of texts that rise.
+    pub(crate) fn new(texts: Vec<[u8; 6]>) -> Places
+        requires { AreRising texts.items }
+        ensures { result ≡ texts.items }
+    {
+        Places { texts }
+    }
+
+    /// How many words stand before the one with this text. It is found by halves.
+    pub fn rank(&self, text: [u8; 6]) -> usize
+        ensures { result ≡ rank_of text self.now }
+    {
+        self.texts.partition_point(
+            |other: &[u8; 6]| -> bool
+                ensures { result ≡ is_below other.now text }
+            { is_below(other, &text) },
+        )
+    }
+}
