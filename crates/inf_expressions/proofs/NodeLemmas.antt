@@ -78,3 +78,7 @@ node_below nodes k n below within is =
 
 pub no_tree : (nodes : List Node) (k : ℕ) → length nodes ≤ k → tree_at (trees_from [] nodes) k ≡ Leaf (Known 0)
 no_tree nodes k past = get_or_past (trees_from [] nodes) k (Leaf (Known 0)) (omega (arith, trees_len [] nodes))
+
+pub ruleset one_more = (trees_len, trees_pushed, below_pushed)
+
+pub ruleset at_place = (trees_len, node_tree, node_below, no_tree)

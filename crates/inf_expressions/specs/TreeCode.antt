@@ -1,6 +1,6 @@
--- How a tree is stored: as its leaves and operators, each operator behind its parts.
+-- How a tree is stored: as its leaves and operators, each operator in front of its parts.
 use Rattle.std.specs.Prelude.{◌≡◌, List, [], ◌∷◌, ◌++◌, ◌⊎◌, refl}
-use Rattle.std.proofs.Common.{◌∙◌, ap, inl, inr, append_assoc}
+use Rattle.std.proofs.Common.{◌∙◌, ap, sym, inl, inr, append_assoc, append-nil}
 use Rattle.std.specs.Coded.{Coded, code_by, coded⊎, coded_list}
 use Rattle.inf_expressions.specs.declared.operators.Operand.{Operand}
 use Rattle.inf_expressions.specs.declared.operators.Operand.TheVariants.{Known}
@@ -14,44 +14,40 @@ Piece = Operand ⊎ (Unary ⊎ Binary)
 
 abbrev pub pieces : Tree → List Piece
 pieces (Leaf operand) = inl operand ∷ []
-pieces (One op a) = pieces a ++ inr (inl op) ∷ []
-pieces (Two op a b) = pieces a ++ (pieces b ++ inr (inr op) ∷ [])
+pieces (One op a) = inr (inl op) ∷ pieces a
+pieces (Two op a b) = inr (inr op) ∷ (pieces a ++ pieces b)
 
--- reading them, with the latest trees first
+-- the trees that begin with some pieces, in order
 abbrev pub over_one : Unary → List Tree → List Tree
 over_one op [] = []
 over_one op (a ∷ trees) = One op a ∷ trees
 
 abbrev pub over_two : Binary → List Tree → List Tree
-over_two op (b ∷ a ∷ trees) = Two op a b ∷ trees
+over_two op (a ∷ b ∷ trees) = Two op a b ∷ trees
 over_two op _ = []
 
-abbrev pub reread : List Tree → List Piece → List Tree
-reread trees [] = trees
-reread trees ((inl operand) ∷ rest) = reread (Leaf operand ∷ trees) rest
-reread trees ((inr (inl op)) ∷ rest) = reread (over_one op trees) rest
-reread trees ((inr (inr op)) ∷ rest) = reread (over_two op trees) rest
+abbrev pub reread : List Piece → List Tree
+reread [] = []
+reread ((inl operand) ∷ rest) = Leaf operand ∷ reread rest
+reread ((inr (inl op)) ∷ rest) = over_one op (reread rest)
+reread ((inr (inr op)) ∷ rest) = over_two op (reread rest)
 
-abbrev pub latest : List Tree → Tree
-latest [] = Leaf (Known 0)
-latest (t ∷ trees) = t
+pub reread-pieces : (t : Tree) (rest : List Piece) → reread (pieces t ++ rest) ≡ t ∷ reread rest
+reread-pieces (Leaf operand) rest = refl
+reread-pieces (One op a) rest = ap (over_one op) (reread-pieces a rest)
+reread-pieces (Two op a b) rest =
+    ap (over_two op)
+    (ap reread (append_assoc (pieces a) (pieces b) rest)
+    ∙ reread-pieces a (pieces b ++ rest)
+    ∙ ap (λ trees. a ∷ trees) (reread-pieces b rest))
 
-pub reread-pieces : (t : Tree) (trees : List Tree) (rest : List Piece) → reread trees (pieces t ++ rest) ≡ reread (t ∷ trees) rest
-reread-pieces (Leaf operand) trees rest = refl
-reread-pieces (One op a) trees rest =
-    ap (reread trees) (append_assoc (pieces a) (inr (inl op) ∷ []) rest)
-    ∙ reread-pieces a trees (inr (inl op) ∷ rest)
-reread-pieces (Two op a b) trees rest =
-    ap (reread trees) (append_assoc (pieces a) (pieces b ++ inr (inr op) ∷ []) rest
-    ∙ ap (λ s. pieces a ++ s) (append_assoc (pieces b) (inr (inr op) ∷ []) rest))
-    ∙ reread-pieces a trees (pieces b ++ (inr (inr op) ∷ rest))
-    ∙ reread-pieces b (a ∷ trees) (inr (inr op) ∷ rest)
+abbrev pub first_tree : List Tree → Tree
+first_tree [] = Leaf (Known 0)
+first_tree (t ∷ trees) = t
 
-pub stored : (t : Tree) → latest (reread [] (pieces t)) ≡ t
-stored (Leaf operand) = refl
-stored (One op a) = ap latest (reread-pieces a [] (inr (inl op) ∷ []))
-stored (Two op a b) = ap latest (reread-pieces a [] (pieces b ++ inr (inr op) ∷ []) ∙ reread-pieces b (a ∷ []) (inr (inr op) ∷ []))
+pub stored : (t : Tree) → first_tree (reread (pieces t)) ≡ t
+stored t = ap first_tree (ap reread (sym (append-nil (pieces t))) ∙ reread-pieces t [])
 
 abbrev pub tree_code : Coded Operand → Coded Unary → Coded Binary → Coded Tree
 tree_code operand unary binary =
-    code_by (List Piece) (coded_list (coded⊎ operand (coded⊎ unary binary))) pieces (λ s. latest (reread [] s)) stored
+    code_by (List Piece) (coded_list (coded⊎ operand (coded⊎ unary binary))) pieces (λ p. first_tree (reread p)) stored

@@ -1,7 +1,8 @@
 //! The node of an operator: of known numbers the number that it gives.
 ghost use Rattle.std.specs.Prelude.{◌≡◌, ◌<◌, Option, IfSome, MatchOption, Bool, ℕ};
 ghost use Rattle.inf_expressions.specs.Nodes.{tree_at, tree_of, IsBelow};
-ghost use Rattle.inf_expressions.specs.Folding.{any_holds, any_known, folded, folded_single, folded_two, function_of, holds_known, joined, joined_single, known, operator_of, or_known, sensed};
+ghost use Rattle.inf_expressions.specs.Folding.{any_holds, any_known, folded, folded_single, folded_two, function_of, holds_known};
+ghost use Rattle.inf_expressions.specs.Folding.{joined, joined_single, known, operator_of, or_known, sensed};
 
 use crate::nodes::{Node, Nodes};
 use crate::numbers::{computed, computed_single, holds, truth};
@@ -54,7 +55,8 @@ fn holds_known(test: Test, a: u16, b: Option<u16>) -> Option<bool>
 fn split(nodes: &Nodes, list: usize) -> Option<(usize, usize)>
     ensures parts { (found : Option Bool) (t : Test) (n : ℕ) → MatchOption result
         (any_holds found t n (tree_at nodes.now list) ≡ or_known found (holds_known t n (known (tree_at nodes.now list))))
-        (λ p. any_holds found t n (tree_at nodes.now list) ≡ any_holds (or_known found (holds_known t n (known (tree_at nodes.now p.0)))) t n (tree_at nodes.now p.1)) }
+        (λ p. any_holds found t n (tree_at nodes.now list)
+        ≡ any_holds (or_known found (holds_known t n (known (tree_at nodes.now p.0)))) t n (tree_at nodes.now p.1)) }
     ensures below { IfSome result (λ p. p.1 < list) }
 {
     match nodes.node(list) {

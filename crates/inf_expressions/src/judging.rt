@@ -1,6 +1,8 @@
 //! What is found of an expression, operator by operator. Each function answers the least of what was found before and of what it finds.
 ghost use Rattle.std.specs.Prelude.{◌≡◌, Option};
-ghost use Rattle.inf_expressions.specs.Judging.{call_finding, case_finding, constant_finding, division_finding, is_known, is_zero, lead_finding, leaf_finding, most_arguments, number_finding, operand_finding, root_finding, target_finding, two_finding, unary_finding, value_finding, values_finding, wanted_finding};
+ghost use Rattle.inf_expressions.specs.Judging.{call_finding, case_finding, constant_finding, division_finding, is_known, is_zero};
+ghost use Rattle.inf_expressions.specs.Judging.{lead_finding, leaf_finding, most_arguments, number_finding, operand_finding, root_finding};
+ghost use Rattle.inf_expressions.specs.Judging.{target_finding, two_finding, unary_finding, value_finding, values_finding, wanted_finding};
 
 use crate::findings::{Finding, least};
 use crate::kinds::{Kind, Seen};

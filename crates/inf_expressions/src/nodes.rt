@@ -51,7 +51,7 @@ impl Nodes {
     }
 
     /// One node more, whose parts stand before it. It answers its place.
-    #[tactic(auto, using(crate::proofs::NodeLemmas::trees_len, crate::proofs::NodeLemmas::trees_pushed, crate::proofs::NodeLemmas::below_pushed))]
+    #[tactic(auto, using(crate::proofs::NodeLemmas::one_more))]
     pub(crate) fn add(&mut self, node: Node) -> Result<usize, AllocError>
         requires { IsBelow (length self.old) node }
         ensures value { IfOk result (λ _. self.new ≡ self.old ++ tree_of self.old node ∷ []) }
@@ -64,7 +64,7 @@ impl Nodes {
     }
 
     /// The node at a place, whose parts stand before it; the number 0 where there is none.
-    #[tactic(auto, using(crate::proofs::NodeLemmas::trees_len, crate::proofs::NodeLemmas::node_tree, crate::proofs::NodeLemmas::node_below, crate::proofs::NodeLemmas::no_tree))]
+    #[tactic(auto, using(crate::proofs::NodeLemmas::at_place))]
     pub fn node(&self, place: usize) -> Node
         ensures tree { tree_at self.now place ≡ tree_of self.now result }
         ensures below { IsBelow place result }

@@ -1,7 +1,8 @@
 //! The latest trees of a unit.
 ghost use Rattle.std.specs.Prelude.{◌≡◌, [], List, OnOk, IfOk, reverse, map};
 ghost use Rattle.inf_expressions.specs.Nodes.{rooted_at};
-ghost use Rattle.inf_expressions.specs.Rooted.{begun, bracketed_latest, nobody, seen, seen_latest, seen_two, with_leaf, with_two, with_unary};
+ghost use Rattle.inf_expressions.specs.Rooted.{begun, bracketed_latest, nobody};
+ghost use Rattle.inf_expressions.specs.Rooted.{seen, seen_latest, seen_two, with_leaf, with_two, with_unary};
 
 use crate::folding::{joined, joined_single};
 use crate::forest::Forest;

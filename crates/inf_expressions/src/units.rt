@@ -1,7 +1,9 @@
 //! The expressions of a unit, from their symbols.
 ghost use Rattle.std.specs.Prelude.{◌≡◌, IfOk, OnOk, List, reverse};
 ghost use Rattle.inf_expressions.specs.Forests.{trees_in};
-ghost use Rattle.inf_expressions.specs.Units.{acted, called, call_joined, gathered, judged, listed, nothing_gathered, operand_at, parted, roots_finding, trees_of, with_brackets, with_operand, with_two_of, with_unary_of};
+ghost use Rattle.inf_expressions.specs.Units.{acted, called, call_joined, gathered, judged, listed, nothing_gathered};
+ghost use Rattle.inf_expressions.specs.Units.{operand_at, parted, roots_finding, trees_of};
+ghost use Rattle.inf_expressions.specs.Units.{with_brackets, with_operand, with_two_of, with_unary_of};
 
 use crate::findings::Finding;
 use crate::forest::Forest;
