@@ -24,7 +24,8 @@ checksum body = sum body % 65536
 unfoldable pub header_front : HeaderFields → Areas ℕ → List ℕ
 header_front fields bases =
     (version fields.scale ∷ 0 ∷ [])
-    ++ flat_map number_bytes (fields.release ∷ bases.code ∷ (bases.code + 1) ∷ bases.dictionary ∷ bases.property_defaults ∷ bases.globals ∷ bases.grammar ∷ 0 ∷ [])
+    ++ flat_map number_bytes (
+    fields.release ∷ bases.code ∷ (bases.code + 1) ∷ bases.dictionary ∷ bases.property_defaults ∷ bases.globals ∷ bases.grammar ∷ 0 ∷ [])
     ++ fields.serial
 
 -- From $18 on: abbreviations, the length of the story, divided as packed addresses are, checksum; all else 0.
