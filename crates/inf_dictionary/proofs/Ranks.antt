@@ -30,7 +30,7 @@ parted total text (first ∷ texts) rising zero zero d le lt below = below
 parted total text (first ∷ texts) rising (suc i) zero d le lt below = absurd (omega (arith, le))
 parted total text (first ∷ texts) rising zero (suc j) d le lt below =
     ap is_lt (total.trans first (slice_index_or texts j d) text (All-after_first order first texts rising j d (omega (arith, lt)))
-        (is_less (order (slice_index_or texts j d) text) below))
+    (is_less (order (slice_index_or texts j d) text) below))
 parted total text (first ∷ texts) rising (suc i) (suc j) d le lt below =
     parted total text texts (sorted_tail order first texts rising) i j d (omega (arith, le)) (omega (arith, lt)) below
 
@@ -41,11 +41,11 @@ rank_is text [] i within parts = omega (arith, within)
 rank_is text (first ∷ texts) zero within parts =
     let above : is_below first text ≡ false = parts.1 0 first (omega arith) (omega arith) in
     rw above (rank_is text texts zero (omega arith)
-        ((λ k d from to. absurd (omega (arith, to))), (λ k d from to. parts.1 (suc k) d (omega arith) (omega (arith, to)))))
+    ((λ k d from to. absurd (omega (arith, to))), (λ k d from to. parts.1 (suc k) d (omega arith) (omega (arith, to)))))
 rank_is text (first ∷ texts) (suc i) within parts =
     let below : is_below first text ≡ true = parts.0 0 first (omega arith) (omega arith) in
     let rest : i ≡ rank_of text texts = rank_is text texts i (omega (arith, within))
-        ((λ k d from to. parts.0 (suc k) d (omega arith) (omega (arith, to))), (λ k d from to. parts.1 (suc k) d (omega (arith, from)) (omega (arith, to)))) in
+    ((λ k d from to. parts.0 (suc k) d (omega arith) (omega (arith, to))), (λ k d from to. parts.1 (suc k) d (omega (arith, from)) (omega (arith, to)))) in
     rw below (omega (arith, rest))
 
 later_is_above : (texts : List Text) → AreRising texts → (i j : ℕ) (d : Text) → i < j → j < length texts

@@ -1,5 +1,5 @@
 -- The words of a story: each text once, in rising order, with what all its uses say together.
-use Rattle.std.specs.Prelude.{ℕ, suc, List, [], ◌∷◌, ◌++◌, Option, Some, None, length, bit_or, ◌+◌, ◌-◌, ◌/◌, ◌%◌, ◌==◌, ◌||◌, not, Bool, false, if◌then◌else◌, is_some, is_none, nat_le, ◌&&◌}
+use Rattle.std.specs.Prelude.{ℕ, List, [], ◌∷◌, ◌++◌, Option, Some, None, length, bit_or, ◌+◌, ◌-◌, ◌/◌, ◌%◌, ◌==◌, ◌||◌, not, Bool, false, if◌then◌else◌, is_some, is_none, nat_le, ◌&&◌}
 use Rattle.std.specs.Ordering.{nat_cmp}
 use Rattle.std.specs.Cmp.Lexicographic.{slice_cmp}
 use Rattle.std.specs.Map.{lookup}
@@ -70,11 +70,11 @@ add_fault word how words =
     if is_of_other_verb word how then Some fault.OtherVerb else if is_none word && nat_le words.limit (length words.list) then Some fault.Full else None
 
 -- whether a text cannot become that of a word of a new verb, where some stand before: the word is one of a verb's, or is among these
-unfoldable pub is_misfit : List (Text × Word) → List (Text × Unit { 0 }) → Text → Bool
+unfoldable pub is_misfit : List (Text × Word) → List (Text × Unit {0}) → Text → Bool
 is_misfit words before text = is_some (verb_of text words) || is_some (lookup (is_at (slice_cmp nat_cmp text)) before)
 
 -- the place of the first such one
-abbrev pub first_misfit : List (Text × Word) → ℕ → List (Text × Unit { 0 }) → List Text → Option ℕ
+abbrev pub first_misfit : List (Text × Word) → ℕ → List (Text × Unit {0}) → List Text → Option ℕ
 first_misfit words place before [] = None
 first_misfit words place before (text ∷ texts) =
     if is_misfit words before text then Some place else first_misfit words (place + 1) (insert_entry (slice_cmp nat_cmp) before text tt) texts

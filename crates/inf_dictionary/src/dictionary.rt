@@ -94,12 +94,7 @@ impl Dictionary {
     ///
     /// Refuses first a word of a verb that is one of another verb's, then a new one where there are as many words as there may be,
     /// then where no memory is left. The words then stay as they were.
-    pub fn add(
-        &mut self,
-        text: [u8; 6],
-        word_use: WordUse,
-        is_plural: bool,
-    ) -> Result<(), AddFault>
+    pub fn add(&mut self, text: [u8; 6], word_use: WordUse, is_plural: bool) -> Result<(), AddFault>
         ensures ok { OnOk result (self.new ≡ with_use text word_use is_plural self.old) }
         ensures err { OnErr result (self.new ≡ self.old) }
         ensures fault { let fault = add_fault (word_of text self.old.list) word_use self.old in
@@ -109,7 +104,8 @@ impl Dictionary {
         if let Some(fault) = self.add_fault(before, word_use) {
             return Err(fault);
         }
-        self.words.insert(text, joined(before, word_use, is_plural))?;
+        self.words
+            .insert(text, joined(before, word_use, is_plural))?;
         Ok(())
     }
 
@@ -178,7 +174,15 @@ impl Dictionary {
         ensures { IfOk result (λ bytes. bytes.items ≡ dictionary_bytes self.now.list) }
     {
         let count = self.words.len();
-        let head = [3, b'.', b',', b'"', 9, (count / 256 % 256) as u8, (count % 256) as u8];
+        let head = [
+            3,
+            b'.',
+            b',',
+            b'"',
+            9,
+            (count / 256 % 256) as u8,
+            (count % 256) as u8,
+        ];
         let mut bytes = Vec::from_slice(alloc, &head)?;
         for (text, word) in &self.words {
             add_entry(&mut bytes, text, *word)?;

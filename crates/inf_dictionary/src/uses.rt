@@ -68,9 +68,12 @@ pub(crate) fn is_of_other_verb(before: Option<Word>, word_use: WordUse) -> bool
 {
     match (before, verb_in(word_use)) {
         (
-            Some(Word {
-                verb: Some(old), ..
-            }),
+            Some(
+                Word {
+                    verb: Some(old),
+                    ..
+                },
+            ),
             Some(new),
         ) => old != new,
         _ => false,

@@ -7,6 +7,9 @@ use Rattle.inf_dictionary.proofs.dictionary.Dictionary.add.Goals as goal
 pub invariant_of-self-2 : goal.invariant_of-self-2
 invariant_of-self-2 c =
     let six : length c.args.text ≡ 6 = search rules in
-    let bound : length c.insert.new.self.entries ≤ c.self.inside.limit = grind (arith, common_steps) in
-    (bound, c.insert.ensures.ordered, subst (λ es. AreWhole (texts_of es)) (sym c.in_ok-insert.ensures.entries)
-        (whole_with c.args.text c.joined.result c.self.inside.words.entries six c.self.invariant.2))
+    let bound : length c.insert.new.self.entries ≤ c.self.inside.limit = grind (arith, common_steps) in (
+      bound,
+      c.insert.ensures.ordered,
+      subst (λ es. AreWhole (texts_of es)) (sym c.in_ok-insert.ensures.entries)
+          (whole_with c.args.text c.joined.result c.self.inside.words.entries six c.self.invariant.2),
+    )
