@@ -1,0 +1,159 @@
+-- Bytes of arrays, and numbers in them that are known later: of joined lists, of one with more entries, and as they are written.
+use Rattle.std.proofs.Common.{◌≡◌, ℕ, ◌+◌, ◌*◌, ◌-◌, ◌≤◌, ◌<◌, zero, suc, List, [], ◌∷◌, ◌++◌, length, replicate, refl, arith, ap, ◌∙◌, length-append, append_assoc, append-nil, sym}
+use Rattle.std.proofs.lemmas.List.{length-replicate}
+use Rattle.inf_area.specs.declared.targets.Value.{Value}
+use Rattle.inf_area.specs.declared.targets.Value.TheVariants as value
+use Rattle.inf_cells.specs.Cells.{bytes_of, later_count, value_cells, values_cells}
+use Rattle.inf_cells.specs.declared.cells.Cell.{Cell}
+use Rattle.inf_cells.specs.declared.cells.Cell.TheVariants as cell
+use Rattle.inf_arrays.specs.declared.kinds.ArrayKind.{ArrayKind}
+use Rattle.inf_arrays.specs.declared.kinds.ArrayKind.TheVariants as kind
+use Rattle.inf_arrays.specs.Arrays.{Listed, array_cells, array_size, arrays_cells, arrays_laters, arrays_size, more_entries}
+use Rattle.inf_arrays.specs.Globals.{all_globals, globals_cells}
+use Rattle.inf_arrays.specs.Kinds.{bytes_cells, count_cells, count_size, entries_cells, entry_size, later_in, laters, laters_of}
+
+pub size_joined : (xs ys : List Listed) → arrays_size (xs ++ ys) ≡ arrays_size xs + arrays_size ys
+size_joined [] ys = omega arith
+size_joined (x ∷ xs) ys = omega (arith, size_joined xs ys)
+
+pub all_laters_joined : (xs ys : List Listed) → arrays_laters (xs ++ ys) ≡ arrays_laters xs + arrays_laters ys
+all_laters_joined [] ys = omega arith
+all_laters_joined (x ∷ xs) ys = omega (arith, all_laters_joined xs ys)
+
+pub laters_joined : (xs ys : List Value) → laters (xs ++ ys) ≡ laters xs + laters ys
+laters_joined [] ys = omega arith
+laters_joined (x ∷ xs) ys = omega (arith, laters_joined xs ys)
+
+laters_of_joined : (k : ArrayKind) (xs ys : List Value) → laters_of k (xs ++ ys) ≡ laters_of k xs + laters_of k ys
+laters_of_joined kind.Bytes xs ys = refl
+laters_of_joined kind.Words xs ys = laters_joined xs ys
+laters_of_joined kind.String xs ys = refl
+laters_of_joined kind.Table xs ys = laters_joined xs ys
+
+entries_more : (k : ArrayKind) (xs ys : List Value) → entry_size k * length (xs ++ ys) ≡ entry_size k * length xs + entry_size k * length ys
+entries_more kind.Bytes xs ys = omega (arith, length-append xs ys)
+entries_more kind.Words xs ys = omega (arith, length-append xs ys)
+entries_more kind.String xs ys = omega (arith, length-append xs ys)
+entries_more kind.Table xs ys = omega (arith, length-append xs ys)
+
+-- the last one has more entries
+pub size_more : (xs : List Listed) (a : Listed) (ys : List Value)
+    → arrays_size (xs ++ more_entries ys a ∷ []) ≡ arrays_size (xs ++ a ∷ []) + entry_size a.kind * length ys
+size_more xs a ys =
+    omega (arith, size_joined xs (more_entries ys a ∷ []), size_joined xs (a ∷ []), entries_more a.kind a.entries ys)
+
+pub laters_more : (xs : List Listed) (a : Listed) (ys : List Value)
+    → arrays_laters (xs ++ more_entries ys a ∷ []) ≡ arrays_laters (xs ++ a ∷ []) + laters_of a.kind ys
+laters_more xs a ys =
+    omega (arith, all_laters_joined xs (more_entries ys a ∷ []), all_laters_joined xs (a ∷ []), laters_of_joined a.kind a.entries ys)
+
+-- one more, without entries
+pub size_opened : (xs : List Listed) (k : ArrayKind) → arrays_size (xs ++ record { kind = k; entries = [] } ∷ []) ≡ arrays_size xs + count_size k
+size_opened xs kind.Bytes = omega (arith, size_joined xs (record { kind = kind.Bytes; entries = [] } ∷ []))
+size_opened xs kind.Words = omega (arith, size_joined xs (record { kind = kind.Words; entries = [] } ∷ []))
+size_opened xs kind.String = omega (arith, size_joined xs (record { kind = kind.String; entries = [] } ∷ []))
+size_opened xs kind.Table = omega (arith, size_joined xs (record { kind = kind.Table; entries = [] } ∷ []))
+
+no_laters : (k : ArrayKind) → laters_of k [] ≡ 0
+no_laters kind.Bytes = refl
+no_laters kind.Words = refl
+no_laters kind.String = refl
+no_laters kind.Table = refl
+
+pub laters_opened : (xs : List Listed) (k : ArrayKind) → arrays_laters (xs ++ record { kind = k; entries = [] } ∷ []) ≡ arrays_laters xs
+laters_opened xs k = omega (arith, all_laters_joined xs (record { kind = k; entries = [] } ∷ []), no_laters k)
+
+-- what holds of arrays of which one was opened
+pub opened_stands : (closed : List Listed) (k : ArrayKind) (size later limit n : ℕ)
+    → size ≡ arrays_size (closed ++ []) → later ≡ arrays_laters (closed ++ []) → later ≤ size → size + n ≤ limit → n ≡ count_size k
+    → (size + n ≡ arrays_size (closed ++ record { kind = k; entries = [] } ∷ [])) × (later ≡ arrays_laters (closed ++ record { kind = k; entries = [] } ∷ []))
+        × (later ≤ size + n) × (size + n ≤ limit)
+opened_stands closed k size later limit n of_size of_later less room is =
+    (omega (arith, of_size, is, size_opened closed k, ap arrays_size (append-nil closed)),
+     omega (arith, of_later, laters_opened closed k, ap arrays_laters (append-nil closed)), omega (arith, less), room)
+
+-- what holds of arrays of which the last has more entries
+pub grown_stands : (closed : List Listed) (a : Listed) (ys : List Value) (size later limit e l : ℕ)
+    → size ≡ arrays_size (closed ++ a ∷ []) → later ≡ arrays_laters (closed ++ a ∷ []) → later ≤ size
+    → size + entry_size a.kind * length ys ≤ limit → e ≡ entry_size a.kind * length ys → l ≡ laters_of a.kind ys → l ≤ entry_size a.kind * length ys
+    → (size + e ≡ arrays_size (closed ++ more_entries ys a ∷ [])) × (later + l ≡ arrays_laters (closed ++ more_entries ys a ∷ []))
+        × (later + l ≤ size + e) × (size + e ≤ limit)
+grown_stands closed a ys size later limit e l of_size of_later less room is_e is_l few =
+    (omega (arith, of_size, is_e, size_more closed a ys), omega (arith, of_later, is_l, laters_more closed a ys),
+     omega (arith, less, few, is_e), omega (arith, room, is_e))
+
+-- cells of joined lists
+pub cells_joined : (xs ys : List Listed) → arrays_cells (xs ++ ys) ≡ arrays_cells xs ++ arrays_cells ys
+cells_joined [] ys = refl
+cells_joined (x ∷ xs) ys = ap (λ cs. array_cells x ++ cs) (cells_joined xs ys) ∙ sym (append_assoc (array_cells x) (arrays_cells xs) (arrays_cells ys))
+
+-- bytes of cells
+bytes_joined : (xs ys : List Cell) → length (bytes_of (xs ++ ys)) ≡ length (bytes_of xs) + length (bytes_of ys)
+bytes_joined [] ys = omega arith
+bytes_joined (cell.Byte b ∷ xs) ys = omega (arith, bytes_joined xs ys)
+bytes_joined (cell.Later t ∷ xs) ys = omega (arith, bytes_joined xs ys)
+
+later_joined : (xs ys : List Cell) → later_count (xs ++ ys) ≡ later_count xs + later_count ys
+later_joined [] ys = omega arith
+later_joined (cell.Byte b ∷ xs) ys = later_joined xs ys
+later_joined (cell.Later t ∷ xs) ys = omega (arith, later_joined xs ys)
+
+bytes_of_bytes : (vs : List Value) → length (bytes_of (bytes_cells vs)) ≡ length vs
+bytes_of_bytes [] = refl
+bytes_of_bytes (v ∷ vs) = omega (arith, bytes_of_bytes vs)
+
+later_of_bytes : (vs : List Value) → later_count (bytes_cells vs) ≡ 0
+later_of_bytes [] = refl
+later_of_bytes (v ∷ vs) = later_of_bytes vs
+
+two_bytes : (v : Value) → length (bytes_of (value_cells v)) ≡ 2
+two_bytes (value.Known n) = refl
+two_bytes (value.Later t) = refl
+
+later_of_value : (v : Value) → later_count (value_cells v) ≡ later_in v
+later_of_value (value.Known n) = refl
+later_of_value (value.Later t) = refl
+
+pub bytes_of_values : (vs : List Value) → length (bytes_of (values_cells vs)) ≡ 2 * length vs
+bytes_of_values [] = omega arith
+bytes_of_values (v ∷ vs) = omega (arith, bytes_joined (value_cells v) (values_cells vs), two_bytes v, bytes_of_values vs)
+
+pub later_of_values : (vs : List Value) → later_count (values_cells vs) ≡ laters vs
+later_of_values [] = refl
+later_of_values (v ∷ vs) = omega (arith, later_joined (value_cells v) (values_cells vs), later_of_value v, later_of_values vs)
+
+array_bytes : (k : ArrayKind) (vs : List Value) → length (bytes_of (array_cells (record { kind = k; entries = vs }))) ≡ array_size (record { kind = k; entries = vs })
+array_bytes kind.Bytes vs = omega (arith, bytes_of_bytes vs)
+array_bytes kind.Words vs = omega (arith, bytes_of_values vs)
+array_bytes kind.String vs = omega (arith, bytes_of_bytes vs)
+array_bytes kind.Table vs = omega (arith, bytes_of_values vs)
+
+array_later : (k : ArrayKind) (vs : List Value) → later_count (array_cells (record { kind = k; entries = vs })) ≡ laters_of k vs
+array_later kind.Bytes vs = later_of_bytes vs
+array_later kind.Words vs = later_of_values vs
+array_later kind.String vs = later_of_bytes vs
+array_later kind.Table vs = later_of_values vs
+
+-- as many bytes are written as are counted
+pub size_written : (xs : List Listed) → length (bytes_of (arrays_cells xs)) ≡ arrays_size xs
+size_written [] = refl
+size_written (x ∷ xs) = omega (arith, bytes_joined (array_cells x) (arrays_cells xs), array_bytes x.kind x.entries, size_written xs)
+
+-- and as many numbers that are known later
+pub laters_written : (xs : List Listed) → later_count (arrays_cells xs) ≡ arrays_laters xs
+laters_written [] = refl
+laters_written (x ∷ xs) = omega (arith, later_joined (array_cells x) (arrays_cells xs), array_later x.kind x.entries, laters_written xs)
+
+-- zeros are known
+zeros_known : (n : ℕ) → laters (replicate n (value.Known 0)) ≡ 0
+zeros_known zero = refl
+zeros_known (suc n) = omega (arith, zeros_known n)
+
+pub globals_later : (vs : List Value) → later_count (globals_cells vs) ≡ laters vs
+globals_later vs =
+    later_of_values (all_globals vs) ∙ omega (arith, laters_joined vs (replicate (240 - length vs) (value.Known 0)), zeros_known (240 - length vs))
+
+pub globals_size : (vs : List Value) → length vs ≤ 235 → length (bytes_of (globals_cells vs)) ≡ 480
+globals_size vs few =
+    bytes_of_values (all_globals vs)
+    ∙ omega (arith, few, length-append vs (replicate (240 - length vs) (value.Known 0)), length-replicate (240 - length vs) (value.Known 0))

@@ -1,0 +1,15 @@
+use Rattle.std.proofs.Common.{◌≡◌, ◌≤◌, ◌+◌, ◌*◌, rules, map, subst, sym, Some, ◌∙◌, arith, length, option_map}
+use Rattle.inf_arrays.proofs.Sizes.{grown_stands}
+use Rattle.inf_arrays.specs.Arrays.{HasRoom, RoomIn, all_of, arrays_laters, arrays_size}
+use Rattle.inf_arrays.specs.Listing.{listed, seen}
+use Rattle.inf_arrays.proofs.arrays.Arrays.append.Goals as goal
+
+pub invariant_of-self-in-Some : goal.invariant_of-self-in-Some
+invariant_of-self-in-Some c =
+    let a = listed c.in-Some.array in
+    let n = length c.args.values.now in
+    let room : HasRoom n (seen c.self.inside) = subst (HasRoom n) (sym c.self.view_is) c.requires in
+    let room_in : RoomIn (option_map listed (Some c.in-Some.array)) n (seen c.self.inside) =
+        subst (λ o. RoomIn (option_map listed o) n (seen c.self.inside)) c.in-Some.is room in
+    rw c.in_ok-extend_from_slice.ensures.items (grown_stands (map listed c.self.inside.closed.items) a c.args.values.now c.self.inside.size c.self.inside.later c.self.inside.limit _ _
+        (search rules) (search rules) (search rules) (omega (arith, room_in, c.self.invariant.0)) (search rules) (search rules) (search rules))

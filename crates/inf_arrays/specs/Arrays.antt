@@ -1,0 +1,105 @@
+-- The arrays of a story: each is its kind and its entries; the last one may be open.
+use Rattle.std.specs.Prelude.{ℕ, ◌+◌, ◌*◌, ◌≤◌, List, [], ◌∷◌, ◌++◌, Option, Some, None, Bool, true, false, nat_lt, length, map, option_map, option_to_list, if◌then◌else◌}
+use Rattle.inf_area.specs.declared.targets.Value.{Value}
+use Rattle.inf_area.specs.declared.targets.Value.TheVariants as value
+use Rattle.inf_cells.specs.declared.cells.Cell.{Cell}
+use Rattle.inf_arrays.specs.Kinds.{are_bytes, count_cells, count_size, entries_cells, entry_size, laters_of, misfit_by}
+use Rattle.inf_arrays.specs.declared.arrays.ArrayFault.{ArrayFault}
+use Rattle.inf_arrays.specs.declared.arrays.ArrayFault.TheVariants as fault
+use Rattle.inf_arrays.specs.declared.kinds.ArrayKind.{ArrayKind}
+
+pub record Listed : Type 0 where
+  pub kind : ArrayKind
+  pub entries : List Value
+
+-- those that ended, the one that is open, and how many bytes all may have
+pub record AllArrays : Type 0 where
+  pub closed : List Listed
+  pub open_one : Option Listed
+  pub limit : ℕ
+
+-- all, in order
+abbrev pub all_of : AllArrays → List Listed
+all_of arrays = arrays.closed ++ option_to_list arrays.open_one
+
+abbrev pub no_arrays : ℕ → AllArrays
+no_arrays limit = record { closed = []; open_one = None; limit = limit }
+
+-- the open one ends
+abbrev pub closed_one : AllArrays → AllArrays
+closed_one arrays = record { closed = all_of arrays; open_one = None; limit = arrays.limit }
+
+-- one is opened, where another ends
+abbrev pub opened : ArrayKind → AllArrays → AllArrays
+opened kind arrays = record { closed = all_of arrays; open_one = Some (record { kind = kind; entries = [] }); limit = arrays.limit }
+
+abbrev pub more_entries : List Value → Listed → Listed
+more_entries values array = record { kind = array.kind; entries = array.entries ++ values }
+
+-- the open one has more entries
+abbrev pub with_entries : List Value → AllArrays → AllArrays
+with_entries values arrays = record { closed = arrays.closed; open_one = option_map (more_entries values) arrays.open_one; limit = arrays.limit }
+
+-- the characters of a text
+abbrev pub characters : List ℕ → List Value
+characters [] = []
+characters (c ∷ text) = value.Known c ∷ characters text
+
+-- their bytes
+abbrev pub array_size : Listed → ℕ
+array_size array = count_size array.kind + entry_size array.kind * length array.entries
+
+abbrev pub arrays_size : List Listed → ℕ
+arrays_size [] = 0
+arrays_size (array ∷ arrays) = array_size array + arrays_size arrays
+
+-- how many entries are known later
+abbrev pub arrays_laters : List Listed → ℕ
+arrays_laters [] = 0
+arrays_laters (array ∷ arrays) = laters_of array.kind array.entries + arrays_laters arrays
+
+-- that there is an open one, and room for so many more entries
+abbrev pub RoomIn : Option Listed → ℕ → AllArrays → Type 0
+RoomIn None added arrays = ⊥
+RoomIn (Some array) added arrays = arrays_size (all_of arrays) + entry_size array.kind * added ≤ arrays.limit
+
+abbrev pub HasRoom : ℕ → AllArrays → Type 0
+HasRoom added arrays = RoomIn arrays.open_one added arrays
+
+-- why one cannot be opened
+abbrev pub open_fault : ArrayKind → AllArrays → Option ArrayFault
+open_fault kind arrays = if nat_lt arrays.limit (arrays_size (all_of arrays) + count_size kind) then Some fault.Full else None
+
+-- why the open one cannot have so many more entries, where it is known whether they are bytes
+abbrev pub more_fault : ℕ → Bool → AllArrays → Listed → Option ArrayFault
+more_fault added fit arrays array = option_or (misfit_by array.kind (length array.entries) added fit)
+    (if nat_lt arrays.limit (arrays_size (all_of arrays) + entry_size array.kind * added) then Some fault.Full else None) where
+  option_or : Option ArrayFault → Option ArrayFault → Option ArrayFault
+  option_or None other = other
+  option_or (Some f) other = Some f
+
+abbrev pub fault_in : Option Listed → ℕ → Bool → AllArrays → Option ArrayFault
+fault_in None added fit arrays = None
+fault_in (Some array) added fit arrays = more_fault added fit arrays array
+
+abbrev pub fault_by : ℕ → Bool → AllArrays → Option ArrayFault
+fault_by added fit arrays = fault_in arrays.open_one added fit arrays
+
+abbrev pub entries_fault : List Value → AllArrays → Option ArrayFault
+entries_fault values arrays = fault_by (length values) (are_bytes values) arrays
+
+-- zeros are bytes; there is one at least
+abbrev pub zeros_fault : ℕ → AllArrays → Option ArrayFault
+zeros_fault count arrays = if nat_lt count 1 then Some fault.NoEntries else fault_by count true arrays
+
+-- characters are bytes
+abbrev pub characters_fault : List ℕ → AllArrays → Option ArrayFault
+characters_fault text arrays = fault_by (length text) true arrays
+
+-- as they are written
+abbrev pub array_cells : Listed → List Cell
+array_cells array = count_cells array.kind (length array.entries) ++ entries_cells array.kind array.entries
+
+abbrev pub arrays_cells : List Listed → List Cell
+arrays_cells [] = []
+arrays_cells (array ∷ arrays) = array_cells array ++ arrays_cells arrays

@@ -1,0 +1,4 @@
+pub mod Arrays
+pub mod Globals
+pub mod Kinds
+pub mod Listing

@@ -1,0 +1,363 @@
+//! Arrays, entry by entry.
+ghost use Rattle.std.specs.Prelude.{◌≡◌, ◌<◌, ◌≤◌, ◌+◌, ◌++◌, ◌∷◌, ◌^◌, [], None, Some, OnOk, OnErr, IfOk, IfErr, IfNone, IsSome, MatchResult, is_some, length, map, option_map, option_to_list, replicate, unwrap_or};
+ghost use Rattle.inf_area.specs.Fixups.{with_fixups};
+ghost use Rattle.inf_area.specs.declared.targets.AreaName.TheVariants as area_name;
+ghost use Rattle.inf_area.specs.declared.targets.Value.TheVariants.{Known};
+ghost use Rattle.inf_cells.specs.Cells.{bytes_of, fixups_of, later_count};
+ghost use Rattle.inf_cells.specs.declared.cells.WriteFault.TheVariants as write_fault;
+ghost use Rattle.inf_arrays.specs.Arrays.{HasRoom, all_of, array_cells, arrays_cells, arrays_laters, arrays_size, characters, characters_fault, closed_one, entries_fault, fault_by, no_arrays, opened, open_fault, with_entries, zeros_fault};
+ghost use Rattle.inf_arrays.specs.Kinds.{bytes_cells, count_cells, count_size, entries_cells, low_byte};
+ghost use Rattle.inf_arrays.specs.Listing.{listed};
+ghost use Rattle.inf_arrays.specs.declared.arrays.ArrayFault.TheVariants.{Memory};
+
+use crate::kinds::{ArrayKind, is_byte, misfit_by};
+use inf_area::{Area, AreaName, Refs, Value};
+use inf_cells::{Cells, WriteFault, append_cells};
+use std::alloc::{AllocError, AllocFailed, Global};
+use std::marker::Model;
+
+/// Why an array was not opened, or has no more entries.
+#[derive(Clone, Copy, Debug, PartialEq, Eq)]
+pub enum ArrayFault {
+    /// A `string` array would have more than 255 entries.
+    TooMany,
+    /// An entry is to be a byte, and is not known or over 255.
+    NotAByte,
+    /// A size is 0.
+    NoEntries,
+    /// All arrays would have more bytes than there may be.
+    Full,
+    /// No memory was left.
+    Memory,
+}
+
+impl From<AllocError> for ArrayFault {
+    ghost from_gives = { λ _ fault. fault ≡ Memory };
+
+    fn from(_error: AllocError) -> ArrayFault {
+        ArrayFault::Memory
+    }
+}
+
+/// An array, as far as it was read.
+#[derive(Debug, Drop)]
+struct Array {
+    kind: ArrayKind,
+    entries: Vec<Value>,
+}
+
+/// The arrays of a story so far, of which the last may be open, and how many bytes they may have together.
+#[derive(Debug, Drop)]
+pub struct Arrays {
+    alloc: Global,
+    closed: Vec<Array>,
+    open: Option<Array>,
+    // The bytes of all, and how many of their entries are known later.
+    size: usize,
+    later: usize,
+    limit: usize,
+}
+
+impl Model for Arrays {
+    ghost use Rattle.std.specs.Prelude.{◌≡◌, ◌≤◌, map, option_map};
+    ghost use Rattle.inf_arrays.specs.Arrays.{AllArrays, all_of, arrays_laters, arrays_size};
+
+    ghost Value = { AllArrays };
+
+    ghost use Rattle.inf_arrays.specs.Listing.{listed, seen};
+
+    ghost view = { λ a. seen a };
+
+    ghost invariant = { λ a. (a.size ≡ arrays_size (all_of (seen a))) × (a.later ≡ arrays_laters (all_of (seen a))) × (a.later ≤ a.size) × (a.size ≤ a.limit) };
+}
+
+/// The cells of an array, behind others.
+fn add_array(cells: &mut Cells, array: &Array) -> Result<(), AllocError>
+    ensures { OnOk result (cells.new ≡ cells.old ++ array_cells (listed array.now)) }
+{
+    add_count(cells, array.kind, array.entries.len())?;
+    add_entries(cells, array.kind, &array.entries)
+}
+
+/// The count of an array's entries, behind other cells. It is written modulo what a byte or two bytes can hold.
+fn add_count(cells: &mut Cells, kind: ArrayKind, count: usize) -> Result<(), AllocError>
+    ensures { OnOk result (cells.new ≡ cells.old ++ count_cells kind count) }
+{
+    match kind {
+        ArrayKind::Bytes | ArrayKind::Words => Ok(()),
+        ArrayKind::String => cells.byte((count % 256) as u8),
+        ArrayKind::Table => cells.word((count % 65536) as u16),
+    }
+}
+
+/// The entries of an array, behind other cells.
+fn add_entries(cells: &mut Cells, kind: ArrayKind, entries: &[Value]) -> Result<(), AllocError>
+    ensures { OnOk result (cells.new ≡ cells.old ++ entries_cells kind entries.now) }
+{
+    match kind {
+        ArrayKind::Bytes | ArrayKind::String => add_bytes(cells, entries),
+        ArrayKind::Words | ArrayKind::Table => cells.values(entries),
+    }
+}
+
+/// Values as bytes, behind other cells.
+fn add_bytes(cells: &mut Cells, values: &[Value]) -> Result<(), AllocError>
+    ensures { OnOk result (cells.new ≡ cells.old ++ bytes_cells values.now) }
+{
+    for value in values {
+        cells.byte(low_byte(*value))?;
+    }
+    Ok(())
+}
+
+/// The byte of a value that is one.
+fn low_byte(value: Value) -> u8
+    ensures { result ≡ low_byte value }
+{
+    match value {
+        Value::Known(number) => (number % 256) as u8,
+        Value::Later(_) => 0,
+    }
+}
+
+impl Arrays {
+    /// No arrays, which may have so many bytes together. It takes no memory until the second array is opened or the first entry comes.
+    pub fn new(alloc: Global, limit: usize) -> Arrays
+        ensures { result ≡ no_arrays limit }
+    {
+        Arrays {
+            alloc,
+            closed: Vec::new(alloc),
+            open: None,
+            size: 0,
+            later: 0,
+            limit,
+        }
+    }
+
+    /// The bytes of all arrays, the open one as if it ended here, which are never more than there may be.
+    pub fn size(&self) -> usize
+        ensures value { result ≡ arrays_size (all_of self.now) }
+        ensures limited { result ≤ self.now.limit }
+    {
+        self.size
+    }
+
+    /// How many of all entries are known later, and so how many fixups are written.
+    pub fn later_count(&self) -> usize
+        ensures { result ≡ arrays_laters (all_of self.now) }
+    {
+        self.later
+    }
+
+    /// Whether there is an open array.
+    pub fn is_open(&self) -> bool
+        ensures { result ≡ is_some self.now.open_one }
+    {
+        self.open.is_some()
+    }
+
+    /// Opens an array behind the others. Answers where it begins: how many bytes those before it have.
+    ///
+    /// Refuses first where there would be more bytes than there may be, then where no memory is left. All then stay as they were.
+    pub fn open(&mut self, kind: ArrayKind) -> Result<usize, ArrayFault>
+        ensures ok { OnOk result (self.new ≡ opened kind self.old) }
+        ensures place { IfOk result (λ place. place ≡ arrays_size (all_of self.old)) }
+        ensures err { OnErr result (self.new ≡ self.old) }
+        ensures fault { let fault = open_fault kind self.old in
+            MatchResult result (λ _. fault ≡ None) (λ refused. refused ≡ unwrap_or fault Memory) }
+    {
+        let place = self.size;
+        if self.limit - place < kind.count_size() {
+            return Err(ArrayFault::Full);
+        }
+        self.close()?;
+        self.begin(kind);
+        Ok(place)
+    }
+
+    // An array begins, where none is open and there is room for it.
+    fn begin(&mut self, kind: ArrayKind)
+        requires none { self.old.open_one ≡ None }
+        requires room { arrays_size (all_of self.old) + count_size kind ≤ self.old.limit }
+        ensures { self.new ≡ opened kind self.old }
+    {
+        let array = Array {
+            kind,
+            entries: Vec::new(self.alloc),
+        };
+        self.open = Some(array);
+        self.size += kind.count_size();
+    }
+
+    /// Puts the open array behind those that ended. Where no memory is left it stays open.
+    fn close(&mut self) -> Result<(), AllocError>
+        ensures ok { OnOk result (self.new ≡ closed_one self.old) }
+        ensures err { OnErr result (self.new ≡ self.old) }
+    {
+        if let Some(array) = self.open.take() {
+            if let Err(refused) = self.closed.push(array) {
+                self.open = Some(refused.value);
+                return Err(AllocError);
+            }
+        }
+        Ok(())
+    }
+
+    /// An entry of the open array. There is one.
+    ///
+    /// Refuses first a value that cannot stand there (`ArrayKind::misfit`), then where there would be more bytes than there may be, then
+    /// where no memory is left. All then stay as they were.
+    pub fn entry(&mut self, value: Value) -> Result<(), ArrayFault>
+        requires { IsSome self.old.open_one }
+        ensures ok { OnOk result (self.new ≡ with_entries (value ∷ []) self.old) }
+        ensures err { OnErr result (self.new ≡ self.old) }
+        ensures fault { let fault = entries_fault (value ∷ []) self.old in
+            MatchResult result (λ _. fault ≡ None) (λ refused. refused ≡ unwrap_or fault Memory) }
+    {
+        if let Some(fault) = self.fault(1, is_byte(value)) {
+            return Err(fault);
+        }
+        self.append(&[value])?;
+        Ok(())
+    }
+
+    /// As many zeros as entries of the open array, as a number alone asks for. There is an open array.
+    ///
+    /// Refuses a size of 0 first, and then as `entry` does.
+    pub fn zeros(&mut self, count: u16) -> Result<(), ArrayFault>
+        requires { IsSome self.old.open_one }
+        ensures ok { OnOk result (self.new ≡ with_entries (replicate count (Known 0)) self.old) }
+        ensures err { OnErr result (self.new ≡ self.old) }
+        ensures fault { let fault = zeros_fault count self.old in
+            MatchResult result (λ _. fault ≡ None) (λ refused. refused ≡ unwrap_or fault Memory) }
+    {
+        if count == 0 {
+            return Err(ArrayFault::NoEntries);
+        }
+        if let Some(fault) = self.fault(count as usize, true) {
+            return Err(fault);
+        }
+        let zeros = vec![in self.alloc; Value::Known(0); count as usize]?;
+        self.append(&zeros)?;
+        Ok(())
+    }
+
+    /// The characters of a text, in ZSCII, as entries of the open array, as a text alone gives them. There is an open array.
+    ///
+    /// Refuses as `entry` does.
+    pub fn characters(&mut self, text: &[u8]) -> Result<(), ArrayFault>
+        requires { IsSome self.old.open_one }
+        ensures ok { OnOk result (self.new ≡ with_entries (characters text.now) self.old) }
+        ensures err { OnErr result (self.new ≡ self.old) }
+        ensures fault { let fault = characters_fault text.now self.old in
+            MatchResult result (λ _. fault ≡ None) (λ refused. refused ≡ unwrap_or fault Memory) }
+    {
+        if let Some(fault) = self.fault(text.len(), true) {
+            return Err(fault);
+        }
+        let values = characters(self.alloc, text)?;
+        self.append(&values)?;
+        Ok(())
+    }
+
+    // Why the open array cannot have so many more entries, whatever memory there is, where it is known whether they are bytes.
+    fn fault(&self, added: usize, fit: bool) -> Option<ArrayFault>
+        requires small { added < 2 ^ 63 }
+        requires there { IsSome self.now.open_one }
+        ensures value { result ≡ fault_by added fit self.now }
+        ensures room { IfNone result (HasRoom added self.now) }
+    {
+        let array = self.open.as_ref()?;
+        if let Some(fault) = misfit_by(array.kind, array.entries.len(), added, fit) {
+            return Some(fault);
+        }
+        if (self.limit - self.size) / array.kind.entry_size() < added {
+            return Some(ArrayFault::Full);
+        }
+        None
+    }
+
+    // More entries of the open array, for which there is room.
+    fn append(&mut self, values: &[Value]) -> Result<(), AllocError>
+        requires { HasRoom (length values.now) self.old }
+        ensures ok { OnOk result (self.new ≡ with_entries values.now self.old) }
+        ensures err { OnErr result (self.new ≡ self.old) }
+    {
+        if let Some(array) = &mut self.open {
+            array.entries.extend_from_slice(values)?;
+            self.size += array.kind.entry_size() * values.len();
+            self.later += array.kind.laters(values);
+        }
+        Ok(())
+    }
+
+    /// Puts all arrays behind the area of arrays, one behind the other, and the fixups of what is known later behind others.
+    ///
+    /// It is refused first where there would be more fixups than there may be, then where no memory is left; area and fixups then
+    /// stay as they were.
+    #[tactic(auto, using(crate::proofs::Sizes::laters_written))]
+    pub fn write<A: Area>(&self, area: &mut A, refs: &mut Refs) -> Result<(), WriteFault>
+        ensures bytes { OnOk result (A.bytes area.new ≡ A.bytes area.old ++ bytes_of (arrays_cells (all_of self.now))) }
+        ensures fixups { OnOk result (refs.new ≡ with_fixups
+            (refs.old.list ++ fixups_of area_name.Arrays (length (A.bytes area.old)) (arrays_cells (all_of self.now))) refs.old) }
+        ensures room { OnOk result (length refs.old.list + arrays_laters (all_of self.now) ≤ refs.old.limit) }
+        ensures bytes_stay { OnErr result (A.bytes area.new ≡ A.bytes area.old) }
+        ensures fixups_stay { OnErr result (refs.new ≡ refs.old) }
+        ensures full { IfErr result (λ fault. fault ≡ write_fault.Full
+            → refs.old.limit < length refs.old.list + arrays_laters (all_of self.now)) }
+        ensures memory { IfErr result (λ fault. fault ≡ write_fault.Memory
+            → length refs.old.list + arrays_laters (all_of self.now) ≤ refs.old.limit) }
+    {
+        if refs.limit() - refs.len() < self.later {
+            return Err(WriteFault::Full);
+        }
+        let Ok(cells) = self.cells() else {
+            return Err(WriteFault::Memory);
+        };
+        append_cells(self.alloc, AreaName::Arrays, area, refs, cells.as_slice())
+    }
+
+    // The cells of all arrays.
+    #[tactic(auto, using(crate::proofs::Sizes::cells_joined))]
+    fn cells(&self) -> Result<Cells, AllocError>
+        ensures { IfOk result (λ cells. cells ≡ arrays_cells (all_of self.now)) }
+    {
+        let mut cells = cells_of(self.alloc, &self.closed)?;
+        add_open(&mut cells, &self.open)?;
+        Ok(cells)
+    }
+}
+
+/// The cells of an array, if there is one, behind others.
+fn add_open(cells: &mut Cells, last: &Option<Array>) -> Result<(), AllocError>
+    ensures { OnOk result (cells.new ≡ cells.old ++ arrays_cells (option_to_list (option_map listed last.now))) }
+{
+    match last {
+        Some(array) => add_array(cells, array),
+        None => Ok(()),
+    }
+}
+
+/// The cells of some arrays.
+fn cells_of(alloc: Global, arrays: &[Array]) -> Result<Cells, AllocError>
+    ensures { IfOk result (λ cells. cells ≡ arrays_cells (map listed arrays.now)) }
+{
+    let mut cells = Cells::new(alloc);
+    for array in arrays {
+        add_array(&mut cells, array)?;
+    }
+    Ok(cells)
+}
+
+/// The characters of a text as values.
+fn characters(alloc: Global, text: &[u8]) -> Result<Vec<Value>, AllocError>
+    ensures value { IfOk result (λ values. values.items ≡ characters text.now) }
+    ensures count { IfOk result (λ values. length values.items ≡ length text.now) }
+{
+    let mut values = Vec::with_capacity(alloc, text.len())?;
+    for character in text {
+        values.push(Value::Known(*character as u16))?;
+    }
+    Ok(values)
+}

@@ -1,0 +1,125 @@
+//! Kinds of arrays, and what may stand in them.
+ghost use Rattle.std.specs.Prelude.{◌≡◌, ◌<◌, ◌^◌, ◌≤◌, ◌*◌, length};
+ghost use Rattle.inf_arrays.specs.Kinds.{are_bytes, count_size, entry_size, is_byte, is_of_bytes, laters, laters_of, misfit, misfit_by};
+
+use crate::arrays::ArrayFault;
+use inf_area::Value;
+
+/// The kind of an array: how long an entry is, and whether their count stands before them.
+#[derive(Clone, Copy, Debug, PartialEq, Eq)]
+pub enum ArrayKind {
+    /// `->`: a byte each.
+    Bytes,
+    /// `-->`: two bytes each.
+    Words,
+    /// `string`: a byte each, behind their count in a byte.
+    String,
+    /// `table`: two bytes each, behind their count in two bytes.
+    Table,
+}
+
+/// Whether a value is known and 0 to 255.
+pub(crate) fn is_byte(value: Value) -> bool
+    ensures { result ≡ is_byte value }
+{
+    match value {
+        Value::Known(number) => number <= 255,
+        Value::Later(_) => false,
+    }
+}
+
+/// Whether all of some values are.
+fn are_bytes(values: &[Value]) -> bool
+    ensures { result ≡ are_bytes values.now }
+{
+    for value in values {
+        if !is_byte(*value) {
+            return false;
+        }
+    }
+    true
+}
+
+/// How many of some values are known later.
+pub(crate) fn laters(values: &[Value]) -> usize
+    ensures value { result ≡ laters values.now }
+    ensures few { result ≤ length values.now }
+{
+    let mut count = 0;
+    for value in values {
+        if matches!(value, Value::Later(_)) {
+            count += 1;
+        }
+    }
+    count
+}
+
+impl ArrayKind {
+    /// Whether an entry is a byte.
+    fn is_of_bytes(self) -> bool
+        ensures { result ≡ is_of_bytes self }
+    {
+        matches!(self, ArrayKind::Bytes | ArrayKind::String)
+    }
+
+    /// The bytes of an entry.
+    pub(crate) fn entry_size(self) -> usize
+        ensures { result ≡ entry_size self }
+    {
+        match self {
+            ArrayKind::Bytes | ArrayKind::String => 1,
+            ArrayKind::Words | ArrayKind::Table => 2,
+        }
+    }
+
+    /// The bytes of the count before the entries.
+    pub(crate) fn count_size(self) -> usize
+        ensures { result ≡ count_size self }
+    {
+        match self {
+            ArrayKind::Bytes | ArrayKind::Words => 0,
+            ArrayKind::String => 1,
+            ArrayKind::Table => 2,
+        }
+    }
+
+    /// How many of some entries are known later.
+    pub(crate) fn laters(self, values: &[Value]) -> usize
+        ensures value { result ≡ laters_of self values.now }
+        ensures few { result ≤ entry_size self * length values.now }
+    {
+        if self.is_of_bytes() {
+            return 0;
+        }
+        laters(values)
+    }
+
+    /// Why some values cannot stand in an array of this kind behind so many entries, if they cannot: a `string` would have more than
+    /// 255, or one of them is to be a byte and is not known or over 255.
+    pub fn misfit(self, count: usize, values: &[Value]) -> Option<ArrayFault>
+        requires { count < 2 ^ 63 }
+        ensures { result ≡ misfit self count values.now }
+    {
+        misfit_by(self, count, values.len(), are_bytes(values))
+    }
+}
+
+/// Why so many values cannot stand in an array behind so many entries, where it is known whether all are bytes.
+pub(crate) fn misfit_by(
+    kind: ArrayKind,
+    count: usize,
+    added: usize,
+    fit: bool,
+) -> Option<ArrayFault>
+    requires count { count < 2 ^ 63 }
+    requires added { added < 2 ^ 63 }
+    ensures { result ≡ misfit_by kind count added fit }
+{
+    if kind == ArrayKind::String && count + added > 255 {
+        return Some(ArrayFault::TooMany);
+    }
+    if kind.is_of_bytes() && !fit {
+        return Some(ArrayFault::NotAByte);
+    }
+    None
+}

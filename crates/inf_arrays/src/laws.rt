@@ -1,0 +1,24 @@
+//! How much is written.
+ghost use Rattle.std.specs.Prelude.{◌≡◌, ◌*◌, ◌≤◌, length};
+ghost use Rattle.inf_cells.specs.Cells.{bytes_of, later_count};
+ghost use Rattle.inf_arrays.specs.Arrays.{all_of, arrays_cells, arrays_laters, arrays_size};
+ghost use Rattle.inf_arrays.specs.Globals.{globals_cells};
+ghost use Rattle.inf_arrays.specs.Kinds.{laters};
+
+use crate::arrays::Arrays;
+use crate::globals::Globals;
+
+/// What is written of arrays has as many bytes, and as many numbers that are known later, as they count.
+pub fn written_arrays(arrays: &Arrays)
+    ensures size { length (bytes_of (arrays_cells (all_of arrays.now))) ≡ arrays_size (all_of arrays.now) }
+    ensures laters { later_count (arrays_cells (all_of arrays.now)) ≡ arrays_laters (all_of arrays.now) }
+{
+}
+
+/// What is written of global variables has 480 bytes, and as many numbers that are known later as they count.
+pub fn written_globals(globals: &Globals)
+    ensures size { length (bytes_of (globals_cells globals.now)) ≡ 480 }
+    ensures laters { later_count (globals_cells globals.now) ≡ laters globals.now }
+{
+    let _count = globals.len();
+}

@@ -1,0 +1,120 @@
+-- Verbs and their lines (Inform Technical Manual, section 8.5).
+use Rattle.std.specs.Prelude.{ℕ, zero, suc, ◌+◌, ◌*◌, ◌%◌, List, [], ◌∷◌, ◌++◌, Option, Some, None, length, nat_le, nat_lt, slice_index_or, slice_set, if◌then◌else◌}
+use Rattle.inf_area.specs.declared.targets.AreaName.TheVariants as area_name
+use Rattle.inf_area.specs.declared.targets.Target.TheVariants as target
+use Rattle.inf_cells.specs.declared.cells.Cell.{Cell}
+use Rattle.inf_cells.specs.declared.cells.Cell.TheVariants as cell
+use Rattle.inf_verbs.specs.Lines.{LineOf, lines_cells, lines_prepositions, lines_size}
+use Rattle.inf_verbs.specs.declared.verbs.Place.{Place}
+use Rattle.inf_verbs.specs.declared.verbs.Place.TheVariants as place
+use Rattle.inf_verbs.specs.declared.verbs.LineFault.{LineFault}
+use Rattle.inf_verbs.specs.declared.verbs.LineFault.TheVariants as line_fault
+use Rattle.inf_verbs.specs.declared.verbs.VerbFault.{VerbFault}
+use Rattle.inf_verbs.specs.declared.verbs.VerbFault.TheVariants as verb_fault
+
+-- a verb: the lines that the last `Extend first` put in front, and the others
+pub record VerbOf : Type 0 where
+  pub first : List LineOf
+  pub rest : List LineOf
+
+-- all its lines, in order
+abbrev pub lines_of : VerbOf → List LineOf
+lines_of verb = verb.first ++ verb.rest
+
+abbrev pub no_lines : VerbOf
+no_lines = record { first = []; rest = [] }
+
+-- further lines go in front of all
+abbrev pub begun_first : VerbOf → VerbOf
+begun_first verb = record { first = []; rest = lines_of verb }
+
+abbrev pub with_first : LineOf → VerbOf → VerbOf
+with_first line verb = record { first = verb.first ++ line ∷ []; rest = verb.rest }
+
+abbrev pub with_last : LineOf → VerbOf → VerbOf
+with_last line verb = record { first = verb.first; rest = verb.rest ++ line ∷ [] }
+
+-- what `Extend` does before its lines come
+abbrev pub extended : Place → VerbOf → VerbOf
+extended place.First verb = begun_first verb
+extended place.Last verb = verb
+extended place.Replace verb = no_lines
+
+-- what a line of it does
+abbrev pub with_line : Place → LineOf → VerbOf → VerbOf
+with_line place.First line verb = with_first line verb
+with_line place.Last line verb = with_last line verb
+with_line place.Replace line verb = with_last line verb
+
+-- all verbs by number, how many there may be, and how many bytes their lines may have
+pub record AllVerbs : Type 0 where
+  pub list : List VerbOf
+  pub limit : ℕ
+  pub space : ℕ
+
+abbrev pub verb_at : ℕ → AllVerbs → VerbOf
+verb_at number verbs = slice_index_or verbs.list number no_lines
+
+abbrev pub with_verb : AllVerbs → AllVerbs
+with_verb verbs = record verbs { list = verbs.list ++ no_lines ∷ [] }
+
+abbrev pub with_extended : ℕ → Place → AllVerbs → AllVerbs
+with_extended number how verbs = record verbs { list = slice_set verbs.list number (extended how (verb_at number verbs)) }
+
+abbrev pub with_line_of : ℕ → Place → LineOf → AllVerbs → AllVerbs
+with_line_of number how line verbs = record verbs { list = slice_set verbs.list number (with_line how line (verb_at number verbs)) }
+
+-- bytes: of a verb's lines with their count, of a verb with the address of its lines, and of all
+abbrev pub part_size : VerbOf → ℕ
+part_size verb = 1 + lines_size (lines_of verb)
+
+abbrev pub verb_size : VerbOf → ℕ
+verb_size verb = 2 + part_size verb
+
+abbrev pub verbs_size : List VerbOf → ℕ
+verbs_size [] = 0
+verbs_size (verb ∷ verbs) = verb_size verb + verbs_size verbs
+
+-- how many numbers are known later: the addresses of lines, and those of prepositions
+abbrev pub verb_laters : VerbOf → ℕ
+verb_laters verb = 1 + lines_prepositions (lines_of verb)
+
+abbrev pub verbs_laters : List VerbOf → ℕ
+verbs_laters [] = 0
+verbs_laters (verb ∷ verbs) = verb_laters verb + verbs_laters verbs
+
+-- why another verb cannot be added: there are 255, or as many as there may be, or there would be more bytes than there may be
+abbrev pub add_fault : AllVerbs → Option VerbFault
+add_fault verbs =
+    if nat_le 255 (length verbs.list) then Some verb_fault.TooMany
+    else if nat_le verbs.limit (length verbs.list) then Some verb_fault.Full
+    else if nat_lt verbs.space (verbs_size verbs.list + 3) then Some verb_fault.NoSpace
+    else None
+
+-- why another line of so many tokens cannot be
+abbrev pub line_fault_of : ℕ → AllVerbs → Option LineFault
+line_fault_of count verbs = if nat_lt verbs.space (verbs_size verbs.list + (3 + 3 * count)) then Some line_fault.NoSpace else None
+
+-- As they are written: the address of each one's lines, then for each how many there are and its lines.
+abbrev pub verb_cells : VerbOf → List Cell
+verb_cells verb = (cell.Byte (length (lines_of verb) % 256) ∷ []) ++ lines_cells (lines_of verb)
+
+abbrev pub parts_cells : List VerbOf → List Cell
+parts_cells [] = []
+parts_cells (verb ∷ verbs) = verb_cells verb ++ parts_cells verbs
+
+-- places for the addresses of the first so many
+abbrev pub address_cells : ℕ → List Cell
+address_cells zero = []
+address_cells (suc number) = address_cells number ++ cell.Later (target.Part area_name.Grammar number) ∷ []
+
+abbrev pub grammar_cells : List VerbOf → List Cell
+grammar_cells verbs = address_cells (length verbs) ++ parts_cells verbs
+
+-- where the lines of each begin, where those of the first do at a place
+abbrev pub places_from : ℕ → List VerbOf → List ℕ
+places_from at [] = []
+places_from at (verb ∷ verbs) = at ∷ places_from (at + part_size verb) verbs
+
+abbrev pub places_of : List VerbOf → List ℕ
+places_of verbs = places_from (2 * length verbs) verbs

@@ -1,0 +1,302 @@
+//! Verbs, line by line.
+ghost use Rattle.std.specs.Prelude.{◌≡◌, ◌<◌, ◌≤◌, ◌+◌, ◌*◌, ◌++◌, ◌^◌, [], None, OnOk, OnErr, IfOk, IfErr, IfNone, MatchResult, length, unwrap_or};
+ghost use Rattle.inf_area.specs.Fixups.{with_fixups};
+ghost use Rattle.inf_area.specs.declared.targets.AreaName.TheVariants as area_name;
+ghost use Rattle.inf_cells.specs.Cells.{bytes_of, fixups_of};
+ghost use Rattle.inf_cells.specs.declared.cells.WriteFault.TheVariants as write_fault;
+ghost use Rattle.inf_verbs.specs.Verbs.{add_fault, address_cells, grammar_cells, line_fault_of, parts_cells, places_of, verb_at, verbs_laters, verbs_size, with_extended, with_line_of, with_verb};
+ghost use Rattle.inf_verbs.specs.declared.verbs.LineFault.TheVariants as line_fault;
+ghost use Rattle.inf_verbs.specs.declared.verbs.VerbFault.TheVariants as verb_fault;
+
+use crate::lines::{Line, LineToken, prepositions};
+use crate::verb::Verb;
+use inf_area::{Area, AreaName, Refs, Target};
+use inf_cells::{Cells, WriteFault, append_cells};
+use std::alloc::{AllocError, AllocFailed, Global};
+use std::marker::Model;
+
+// The most verbs that a word can tell.
+const MOST: usize = 255;
+
+/// Where further lines of a verb go.
+#[derive(Clone, Copy, Debug, PartialEq, Eq)]
+pub enum Place {
+    /// In front of those that there are, in their own order.
+    First,
+    /// Behind those that there are.
+    Last,
+    /// In the place of those that there are.
+    Replace,
+}
+
+/// Why a verb was not added.
+#[derive(Clone, Copy, Debug, PartialEq, Eq)]
+pub enum VerbFault {
+    /// There are 255.
+    TooMany,
+    /// There are as many as there may be.
+    Full,
+    /// The grammar would have more bytes than it may have.
+    NoSpace,
+    /// No memory was left.
+    Memory,
+}
+
+impl<T: Drop> From<AllocFailed<T>> for VerbFault {
+    ghost from_gives = { λ _ fault. fault ≡ verb_fault.Memory };
+
+    fn from(_error: AllocFailed<T>) -> VerbFault {
+        VerbFault::Memory
+    }
+}
+
+/// Why a line was not added.
+#[derive(Clone, Copy, Debug, PartialEq, Eq)]
+pub enum LineFault {
+    /// The grammar would have more bytes than it may have.
+    NoSpace,
+    /// No memory was left.
+    Memory,
+}
+
+impl From<AllocError> for LineFault {
+    ghost from_gives = { λ _ fault. fault ≡ line_fault.Memory };
+
+    fn from(_error: AllocError) -> LineFault {
+        LineFault::Memory
+    }
+}
+
+/// The verbs of a story so far with their lines, how many there may be, and how many bytes they may have.
+#[derive(Debug, Drop)]
+pub struct Verbs {
+    alloc: Global,
+    verbs: Vec<Verb>,
+    // The bytes of all, and how many numbers in them are known later.
+    size: usize,
+    later: usize,
+    limit: usize,
+    space: usize,
+}
+
+impl Model for Verbs {
+    ghost use Rattle.std.specs.Prelude.{◌≡◌, ◌≤◌, length};
+    ghost use Rattle.inf_verbs.specs.Verbs.{AllVerbs, verbs_laters, verbs_size};
+
+    ghost Value = { AllVerbs };
+
+    ghost view = { λ v. record { list = v.verbs.items; limit = v.limit; space = v.space } };
+
+    ghost invariant = { λ v. (v.size ≡ verbs_size v.verbs.items) × (v.later ≡ verbs_laters v.verbs.items)
+        × (length v.verbs.items ≤ 255) × (length v.verbs.items ≤ v.limit) × (v.size ≤ v.space) };
+}
+
+impl Verbs {
+    /// No verbs, of which there may be so many, with so many bytes of grammar. It takes no memory until the first one comes.
+    pub fn new(alloc: Global, limit: usize, space: usize) -> Verbs
+        ensures { result ≡ record { list = []; limit = limit; space = space } }
+    {
+        Verbs {
+            alloc,
+            verbs: Vec::new(alloc),
+            size: 0,
+            later: 0,
+            limit,
+            space,
+        }
+    }
+
+    /// How many verbs there are, which are at most 255, and never more than there may be.
+    pub fn len(&self) -> usize
+        ensures value { result ≡ length self.now.list }
+        ensures limited { result ≤ self.now.limit }
+        ensures byte { result ≤ 255 }
+    {
+        self.verbs.len()
+    }
+
+    /// The bytes of the grammar, which are never more than there may be.
+    pub fn size(&self) -> usize
+        ensures value { result ≡ verbs_size self.now.list }
+        ensures limited { result ≤ self.now.space }
+    {
+        self.size
+    }
+
+    /// How many numbers in it are known later, and so how many fixups are written.
+    pub fn later_count(&self) -> usize
+        ensures { result ≡ verbs_laters self.now.list }
+    {
+        self.later
+    }
+
+    /// A new verb without lines. Answers its number: how many came before it.
+    ///
+    /// Refuses first where there are 255, then where there are as many as there may be, then where the grammar would have more bytes
+    /// than it may have, then where no memory is left. All then stay as they were.
+    #[tactic(auto, using(crate::proofs::Sizes::size_verb, crate::proofs::Sizes::laters_verb, crate::proofs::Sizes::few_laters))]
+    pub fn add(&mut self) -> Result<u8, VerbFault>
+        ensures ok { OnOk result (self.new ≡ with_verb self.old) }
+        ensures number { IfOk result (λ number. number ≡ length self.old.list) }
+        ensures err { OnErr result (self.new ≡ self.old) }
+        ensures fault { let fault = add_fault self.old in
+            MatchResult result (λ _. fault ≡ None) (λ refused. refused ≡ unwrap_or fault verb_fault.Memory) }
+    {
+        let number = self.verbs.len();
+        if let Some(fault) = self.add_fault() {
+            return Err(fault);
+        }
+        self.verbs.push(Verb::new(self.alloc))?;
+        self.size += 3;
+        self.later += 1;
+        Ok(number as u8)
+    }
+
+    // Why another verb cannot be added, whatever memory there is.
+    fn add_fault(&self) -> Option<VerbFault>
+        ensures value { result ≡ add_fault self.now }
+        ensures few { IfNone result (length self.now.list < 255) }
+        ensures room { IfNone result (length self.now.list < self.now.limit) }
+        ensures space { IfNone result (verbs_size self.now.list + 3 ≤ self.now.space) }
+    {
+        if self.verbs.len() >= MOST {
+            return Some(VerbFault::TooMany);
+        }
+        if self.verbs.len() >= self.limit {
+            return Some(VerbFault::Full);
+        }
+        if self.space - self.size < 3 {
+            return Some(VerbFault::NoSpace);
+        }
+        None
+    }
+
+    /// The verb with this number is to have further lines at a place. To replace those that there are takes them away. Where no memory
+    /// is left all stay as they were.
+    pub fn extend(&mut self, number: u8, place: Place) -> Result<(), AllocError>
+        requires { number < length self.old.list }
+        ensures ok { OnOk result (self.new ≡ with_extended number place self.old) }
+        ensures err { OnErr result (self.new ≡ self.old) }
+    {
+        let index = number as usize;
+        let old = &self.verbs[index];
+        let (size, later) = (old.size(), old.later_count());
+        self.verbs[index].extend(place)?;
+        let new = &self.verbs[index];
+        self.size = self.size - size + new.size();
+        self.later = self.later - later + new.later_count();
+        Ok(())
+    }
+
+    /// A line of the verb with this number, at the place that `extend` was told for it: it means an action, and its nouns may change
+    /// places. The lines of a new verb go behind one another.
+    ///
+    /// Refuses first where the grammar would have more bytes than it may have, then where no memory is left. All then stay as they
+    /// were.
+    pub fn add_line(
+        &mut self,
+        number: u8,
+        place: Place,
+        action: u16,
+        is_reverse: bool,
+        tokens: &[LineToken],
+    ) -> Result<(), LineFault>
+        requires { number < length self.old.list }
+        ensures ok { OnOk result (self.new
+            ≡ with_line_of number place (record { action = action; is_reverse = is_reverse; tokens = tokens.now }) self.old) }
+        ensures err { OnErr result (self.new ≡ self.old) }
+        ensures fault { let fault = line_fault_of (length tokens.now) self.old in
+            MatchResult result (λ _. fault ≡ None) (λ refused. refused ≡ unwrap_or fault line_fault.Memory) }
+    {
+        if (self.space - self.size) / 3 <= tokens.len() {
+            return Err(LineFault::NoSpace);
+        }
+        let line = Line::new(self.alloc, action, is_reverse, tokens)?;
+        let size = 3 + 3 * tokens.len();
+        let later = prepositions(tokens);
+        self.verbs[number as usize].add(place, line, size, later)?;
+        self.size += size;
+        self.later += later;
+        Ok(())
+    }
+
+    /// Puts the grammar behind its area: a place for the address of each verb's lines, then for each verb how many lines it has,
+    /// modulo 256, and these; and the fixups of addresses and prepositions behind others.
+    ///
+    /// It is refused first where there would be more fixups than there may be, then where no memory is left; area and fixups then
+    /// stay as they were.
+    #[tactic(auto, using(crate::proofs::Sizes::laters_written))]
+    pub fn write<A: Area>(&self, area: &mut A, refs: &mut Refs) -> Result<(), WriteFault>
+        ensures bytes { OnOk result (A.bytes area.new ≡ A.bytes area.old ++ bytes_of (grammar_cells self.now.list)) }
+        ensures fixups { OnOk result (refs.new ≡ with_fixups
+            (refs.old.list ++ fixups_of area_name.Grammar (length (A.bytes area.old)) (grammar_cells self.now.list)) refs.old) }
+        ensures room { OnOk result (length refs.old.list + verbs_laters self.now.list ≤ refs.old.limit) }
+        ensures bytes_stay { OnErr result (A.bytes area.new ≡ A.bytes area.old) }
+        ensures fixups_stay { OnErr result (refs.new ≡ refs.old) }
+        ensures full { IfErr result (λ fault. fault ≡ write_fault.Full
+            → refs.old.limit < length refs.old.list + verbs_laters self.now.list) }
+        ensures memory { IfErr result (λ fault. fault ≡ write_fault.Memory
+            → length refs.old.list + verbs_laters self.now.list ≤ refs.old.limit) }
+    {
+        if refs.limit() - refs.len() < self.later {
+            return Err(WriteFault::Full);
+        }
+        let Ok(cells) = self.cells() else {
+            return Err(WriteFault::Memory);
+        };
+        append_cells(self.alloc, AreaName::Grammar, area, refs, cells.as_slice())
+    }
+
+    // The cells of the grammar.
+    fn cells(&self) -> Result<Cells, AllocError>
+        ensures { IfOk result (λ cells. cells ≡ grammar_cells self.now.list) }
+    {
+        let mut cells = addresses(self.alloc, &self.verbs)?;
+        add_parts(&mut cells, &self.verbs)?;
+        Ok(cells)
+    }
+
+    /// Where the lines of each verb begin in what is written, in bytes from its front.
+    pub fn places(&self) -> Result<Vec<usize>, AllocError>
+        ensures { IfOk result (λ places. places.items ≡ places_of self.now.list) }
+    {
+        places_of(self.alloc, &self.verbs, self.size)
+    }
+}
+
+/// Where the lines of some verbs begin that have so many bytes.
+#[tactic(auto, using(crate::proofs::Sizes::size_parts))]
+fn places_of(alloc: Global, verbs: &[Verb], size: usize) -> Result<Vec<usize>, AllocError>
+    requires few { length verbs.now ≤ 255 }
+    requires size { size ≡ verbs_size verbs.now }
+    ensures { IfOk result (λ places. places.items ≡ places_of verbs.now) }
+{
+    let mut places = Vec::with_capacity(alloc, verbs.len())?;
+    let mut at = 2 * verbs.len();
+    for verb in verbs {
+        places.push(at)?;
+        at += 1 + verb.size();
+    }
+    Ok(places)
+}
+
+/// Places for the addresses of some verbs' lines.
+fn addresses(alloc: Global, verbs: &[Verb]) -> Result<Cells, AllocError>
+    ensures { IfOk result (λ cells. cells ≡ address_cells (length verbs.now)) }
+{
+    let mut cells = Cells::new(alloc);
+    for number in 0..verbs.len() {
+        cells.later(Target::Part(AreaName::Grammar, number))?;
+    }
+    Ok(cells)
+}
+
+/// The lines of some verbs, behind other cells.
+fn add_parts(cells: &mut Cells, verbs: &[Verb]) -> Result<(), AllocError>
+    ensures { OnOk result (cells.new ≡ cells.old ++ parts_cells verbs.now) }
+{
+    for verb in verbs {
+        verb.add_to(cells)?;
+    }
+    Ok(())
+}
