@@ -5,8 +5,8 @@ use Rattle.inf_area.specs.declared.targets.Target.{Target}
 use Rattle.inf_opcode.specs.declared.cells.Kept.{Kept}
 use Rattle.inf_opcode.specs.declared.cells.Special.{Special}
 use Rattle.inf_opcode.specs.declared.cells.Special.TheVariants.{Marks, Branches, Jumps, Refers}
-use Rattle.inf_opcode.specs.declared.instructions.Target.{Target}
-use Rattle.inf_opcode.specs.declared.instructions.Target.TheVariants.{To, ReturnFalse, ReturnTrue}
+use Rattle.inf_opcode.specs.declared.instructions.Destination.{Destination}
+use Rattle.inf_opcode.specs.declared.instructions.Destination.TheVariants.{To, ReturnFalse, ReturnTrue}
 use Rattle.inf_opcode.specs.declared.instructions.Label.{Label}
 use Rattle.inf_opcode.specs.Cells.{special_size}
 use Rattle.inf_assembler.specs.Places.{Places, with_some, is_short_to, size_at, branch_bytes, branch_offset, closed_special, first_of, marks, fixup_at}
@@ -65,7 +65,7 @@ squeezed_step long places from to i kept d xs added within is =
     ap (λ ks. squeezed long places from to ks xs) (drop_more kept i d within) ∙ ap (with_bytes next) is
 
 -- what is kept behind other things
-near_nowhere : (place : ℕ) (target : Target) → is_short_to nowhere place target ≡ false
+near_nowhere : (place : ℕ) (target : Destination) → is_short_to nowhere place target ≡ false
 near_nowhere place (To label) = refl
 near_nowhere place ReturnFalse = refl
 near_nowhere place ReturnTrue = refl

@@ -4,8 +4,8 @@ use Rattle.inf_area.specs.declared.targets.AreaName.TheVariants.{Code}
 use Rattle.inf_area.specs.declared.fixups.Fixup.{Fixup}
 use Rattle.inf_area.specs.Words.{word}
 use Rattle.inf_opcode.specs.declared.instructions.Label.{Label}
-use Rattle.inf_opcode.specs.declared.instructions.Target.{Target}
-use Rattle.inf_opcode.specs.declared.instructions.Target.TheVariants.{To, ReturnFalse, ReturnTrue}
+use Rattle.inf_opcode.specs.declared.instructions.Destination.{Destination}
+use Rattle.inf_opcode.specs.declared.instructions.Destination.TheVariants.{To, ReturnFalse, ReturnTrue}
 use Rattle.inf_opcode.specs.declared.cells.Special.{Special}
 use Rattle.inf_opcode.specs.declared.cells.Special.TheVariants.{Marks, Branches, Jumps, Refers}
 use Rattle.inf_opcode.specs.Cells.{Cell, Plain, Of, special_size, sense_bit}
@@ -33,7 +33,7 @@ abbrev pub is_near : ℕ → Option ℕ → Bool
 is_near place None = false
 is_near place (Some target) = nat_le (place + 2) target && nat_le target (place + 63)
 
-abbrev pub is_short_to : Places → ℕ → Target → Bool
+abbrev pub is_short_to : Places → ℕ → Destination → Bool
 is_short_to long place (To label) = is_near place (long label.number)
 is_short_to long place ReturnFalse = false
 is_short_to long place ReturnTrue = false
@@ -62,7 +62,7 @@ offset_to half end (Some target) =
     then Some ((target + 2 + 2 * half - end) % (2 * half)) else None
 
 -- the offset of a branch whose last byte is before a place; those of 0 and 1 return
-abbrev pub branch_offset : Places → ℕ → Target → Option ℕ
+abbrev pub branch_offset : Places → ℕ → Destination → Option ℕ
 branch_offset places end (To label) = offset_to 8192 end (places label.number)
 branch_offset places end ReturnFalse = Some 0
 branch_offset places end ReturnTrue = Some 1
@@ -113,7 +113,7 @@ closed_fixups long old new ((Of what) ∷ cells) =
     fixup_at new what ++ closed_fixups long (old + special_size what) (new + size_at long old what) cells
 
 -- the label that something goes to
-abbrev pub label_of : Target → Option Label
+abbrev pub label_of : Destination → Option Label
 label_of (To label) = Some label
 label_of ReturnFalse = None
 label_of ReturnTrue = None

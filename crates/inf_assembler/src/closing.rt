@@ -9,7 +9,7 @@ ghost use Rattle.inf_assembler.specs.Closing.{found, saving, kept_place, kept_mi
 
 use arrayvec::ArrayVec;
 use inf_area::{AddFault, Area, AreaName, Fixup, Refs};
-use inf_opcode::{Kept, Label, Special, Target, sense_bit};
+use inf_opcode::{Kept, Label, Special, Destination, sense_bit};
 use std::alloc::{AllocError, Global};
 
 // The place of a label in a table, which is none where the table ends before it.
@@ -23,10 +23,10 @@ fn place_of(places: &[Option<usize>], label: Label) -> Option<usize>
 }
 
 // Whether a branch at a place is short, by a table of the long places.
-fn is_short(long: &[Option<usize>], place: usize, target: Target) -> bool
+fn is_short(long: &[Option<usize>], place: usize, target: Destination) -> bool
     ensures { result ≡ is_short_to (found long.now) place target }
 {
-    let Target::To(label) = target else {
+    let Destination::To(label) = target else {
         return false;
     };
     match place_of(long, label) {
@@ -89,8 +89,8 @@ fn used_by(what: Special) -> Option<Label>
 {
     match what {
         Special::Branches(branch) => match branch.target {
-            Target::To(label) => Some(label),
-            Target::ReturnFalse | Target::ReturnTrue => None,
+            Destination::To(label) => Some(label),
+            Destination::ReturnFalse | Destination::ReturnTrue => None,
         },
         Special::Jumps(label) => Some(label),
         Special::Marks(_) | Special::Refers(_) => None,
@@ -149,13 +149,13 @@ fn offset_to(half: usize, end: usize, target: Option<usize>) -> Option<usize>
 }
 
 // The offset of a branch that ends at a place.
-fn branch_offset(places: &[Option<usize>], end: usize, target: Target) -> Option<usize>
+fn branch_offset(places: &[Option<usize>], end: usize, target: Destination) -> Option<usize>
     ensures { result ≡ branch_offset (found places.now) end target }
 {
     match target {
-        Target::To(label) => offset_to(0x2000, end, place_of(places, label)),
-        Target::ReturnFalse => Some(0),
-        Target::ReturnTrue => Some(1),
+        Destination::To(label) => offset_to(0x2000, end, place_of(places, label)),
+        Destination::ReturnFalse => Some(0),
+        Destination::ReturnTrue => Some(1),
     }
 }
 

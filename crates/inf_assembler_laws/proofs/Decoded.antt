@@ -6,8 +6,8 @@ use Rattle.inf_opcode.specs.declared.cells.Special.TheVariants.{Marks, Branches,
 use Rattle.inf_opcode.specs.declared.instructions.Branch.{Branch}
 use Rattle.inf_opcode.specs.declared.instructions.Operand.{Operand}
 use Rattle.inf_opcode.specs.declared.instructions.Operand.TheVariants.{Large, Small, Variable, Later, Offset}
-use Rattle.inf_opcode.specs.declared.instructions.Target.{Target}
-use Rattle.inf_opcode.specs.declared.instructions.Target.TheVariants.{To, ReturnFalse, ReturnTrue}
+use Rattle.inf_opcode.specs.declared.instructions.Destination.{Destination}
+use Rattle.inf_opcode.specs.declared.instructions.Destination.TheVariants.{To, ReturnFalse, ReturnTrue}
 use Rattle.inf_opcode.specs.declared.opcodes.OperandCount.{OperandCount}
 use Rattle.inf_opcode.specs.declared.opcodes.OperandCount.TheVariants.{Zero, One, Two, Several, Extended}
 use Rattle.inf_opcode.specs.Cells.{Cell, Plain, Of, plain}
@@ -220,7 +220,7 @@ module _ (all : List Cell) (start : ℕ) where
         λ yes. short_clear old new old_branch end place found.long offset near (omega arith) (ahead yes) sides,
       )
 
-  clear_target : (before back : List Cell) (parts : Parts) (sense : Bool) (target : Target) → all ≡ before ++ ((before_branch parts ++ Of (Branches (record { sense = sense; target = target })) ∷ []) ++ back)
+  clear_target : (before back : List Cell) (parts : Parts) (sense : Bool) (target : Destination) → all ≡ before ++ ((before_branch parts ++ Of (Branches (record { sense = sense; target = target })) ∷ []) ++ back)
       → Clear long places (old_at before + long_size (before_branch parts)) (new_at before + cells_size long (old_at before) (before_branch parts)) target
   clear_target before back parts sense (To label) is =
       λ offset e.

@@ -4,8 +4,8 @@ use Rattle.inf_area.specs.Words.{word}
 use Rattle.inf_opcode.specs.declared.cells.Special.{Special}
 use Rattle.inf_opcode.specs.declared.cells.Special.TheVariants.{Marks, Branches, Jumps, Refers}
 use Rattle.inf_opcode.specs.declared.instructions.Label.{Label}
-use Rattle.inf_opcode.specs.declared.instructions.Target.{Target}
-use Rattle.inf_opcode.specs.declared.instructions.Target.TheVariants.{To, ReturnFalse, ReturnTrue}
+use Rattle.inf_opcode.specs.declared.instructions.Destination.{Destination}
+use Rattle.inf_opcode.specs.declared.instructions.Destination.TheVariants.{To, ReturnFalse, ReturnTrue}
 use Rattle.inf_opcode.specs.Cells.{Cell, Plain, Of, special_size}
 use Rattle.inf_assembler.specs.Places.{Places, is_near, is_short_to, size_at, offset_to, branch_offset, branch_bytes, long_place, place_from, closed_special, closed_bytes}
 use Rattle.inf_assembler.proofs.Finishing.{with_some_of}
@@ -61,7 +61,7 @@ module _ (all : List Cell) (start : ℕ) where
       (λ yes. short_clear old new old end place found.long offset near (omega arith) (near_long old found.long (ap (is_near old) (sym long_is) ∙ near_is ∙ yes)) sides)
       (branch_below end place offset near)
 
-  target_within : (before after : List Cell) (old new : ℕ) (sense : Bool) (target : Target) → old ≡ old_at before → new ≡ new_at before
+  target_within : (before after : List Cell) (old new : ℕ) (sense : Bool) (target : Destination) → old ≡ old_at before → new ≡ new_at before
       → all ≡ before ++ ((Of (Branches (record { sense = sense; target = target })) ∷ []) ++ after)
       → (offset : ℕ) → branch_offset places (new + cond (is_short_to long old target) 1 2) target ≡ Some offset → offset < cond (is_short_to long old target) 64 16384
   target_within before after old new sense (To label) old_is new_is is offset e =

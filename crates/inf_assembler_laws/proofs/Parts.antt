@@ -7,8 +7,8 @@ use Rattle.inf_opcode.specs.declared.cells.Special.TheVariants.{Branches}
 use Rattle.inf_opcode.specs.declared.instructions.Branch.{Branch}
 use Rattle.inf_opcode.specs.declared.instructions.Operand.{Operand}
 use Rattle.inf_opcode.specs.declared.instructions.Operand.TheVariants.{Large, Small, Variable, Later, Offset}
-use Rattle.inf_opcode.specs.declared.instructions.Target.{Target}
-use Rattle.inf_opcode.specs.declared.instructions.Target.TheVariants.{To, ReturnFalse, ReturnTrue}
+use Rattle.inf_opcode.specs.declared.instructions.Destination.{Destination}
+use Rattle.inf_opcode.specs.declared.instructions.Destination.TheVariants.{To, ReturnFalse, ReturnTrue}
 use Rattle.inf_opcode.specs.Cells.{Cell, Plain, Of, plain, special_size}
 use Rattle.inf_opcode.specs.Instructions.{type_code, operand_cells, store_cells, has_no_offset, fits_jump}
 use Rattle.inf_assembler.specs.Places.{Places, with_some, joined, is_short_to, size_at, offset_to, branch_offset, branch_bytes, closed_special, closed_bytes}
@@ -218,11 +218,11 @@ branch_bytes_read false false offset end total rest small fits e =
     rw (two, sense, whole, e)
 
 -- what the offset of a branch to a label is: none of those that return, and one of 6 bits where it is short
-pub record IsClear (long places : Places) (old new : ℕ) (target : Target) (offset : ℕ) : Type 0 where
+pub record IsClear (long places : Places) (old new : ℕ) (target : Destination) (offset : ℕ) : Type 0 where
   pub large : 2 ≤ offset
   pub small : is_short_to long old target ≡ true → offset < 64
 
-abbrev pub Clear : Places → Places → ℕ → ℕ → Target → Type 0
+abbrev pub Clear : Places → Places → ℕ → ℕ → Destination → Type 0
 Clear long places old new (To label) = (offset : ℕ) → offset_to 8192 (new + (cond (is_short_to long old (To label)) 1 2)) (places label.number) ≡ Some offset → IsClear long places old new (To label) offset
 Clear long places old new ReturnFalse = Unit {0}
 Clear long places old new ReturnTrue = Unit {0}
@@ -233,7 +233,7 @@ aim_by (Some place) end offset e large =
     let near = near_of 8192 end place offset e in
     (branch_below end place offset near, aim_from end offset large ∙ ap GoesTo (branch_place end place offset near))
 
-target_read : (long places : Places) (old new total : ℕ) (sense : Bool) (target : Target) (offset : ℕ) (rest : List ℕ) → Clear long places old new target
+target_read : (long places : Places) (old new total : ℕ) (sense : Bool) (target : Destination) (offset : ℕ) (rest : List ℕ) → Clear long places old new target
     → branch_offset places (new + (cond (is_short_to long old target) 1 2)) target ≡ Some offset → total - length rest ≡ new + (cond (is_short_to long old target) 1 2)
     → branch_at total true (branch_bytes (is_short_to long old target) sense offset ++ rest) ≡ Some (Some (record { sense = sense; aim = aim_of places target }), rest)
 target_read long places old new total sense (To label) offset rest clear e t =

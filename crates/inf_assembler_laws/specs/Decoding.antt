@@ -7,8 +7,8 @@ use Rattle.inf_opcode.specs.declared.opcodes.OperandCount.TheVariants.{Zero, One
 use Rattle.inf_opcode.specs.declared.instructions.Branch.{Branch}
 use Rattle.inf_opcode.specs.declared.instructions.Operand.{Operand}
 use Rattle.inf_opcode.specs.declared.instructions.Operand.TheVariants.{Large, Small, Variable, Later, Offset}
-use Rattle.inf_opcode.specs.declared.instructions.Target.{Target}
-use Rattle.inf_opcode.specs.declared.instructions.Target.TheVariants.{To, ReturnFalse, ReturnTrue}
+use Rattle.inf_opcode.specs.declared.instructions.Destination.{Destination}
+use Rattle.inf_opcode.specs.declared.instructions.Destination.TheVariants.{To, ReturnFalse, ReturnTrue}
 use Rattle.inf_opcode.specs.Names.{opcodes}
 use Rattle.inf_opcode.specs.Opcodes.{row_of}
 use Rattle.inf_opcode.specs.Instructions.{Parts}
@@ -207,7 +207,7 @@ given places (Variable number) = OfVariable number
 given places (Later target) = Word 0
 given places (Offset label) = Place (place_in (places label.number))
 
-abbrev pub aim_of : Places → Target → Aim
+abbrev pub aim_of : Places → Destination → Aim
 aim_of places (To label) = GoesTo (place_in (places label.number))
 aim_of places ReturnFalse = Returns false
 aim_of places ReturnTrue = Returns true

@@ -1,14 +1,11 @@
 //! Lists of fixups.
 use crate::words::{number_or, word};
-use inf_area::{AreaName, Fixup, Target, ReferenceKind, Refs};
+use inf_area::{AreaName, Fixup, Refs, Target};
 use std::alloc::{AllocError, Global};
 
-/// The routine of a number, whose address is known later.
+/// What the name of a number stands for.
 pub(crate) fn called(number: usize) -> Target {
-    Target {
-        kind: ReferenceKind::PackedAddress,
-        number,
-    }
+    Target::Name(number)
 }
 
 /// The fixup of routine 7 at a place.
@@ -30,8 +27,7 @@ pub(crate) fn fixups_of(alloc: Global, refs: &Refs) -> Result<String, AllocError
                 place,
                 target,
             } = fixup;
-            let Target { kind, number } = target;
-            told.push_str(format!(in alloc; " {area:?}:{place}:{kind:?}:{number}")?.as_str())?;
+            told.push_str(format!(in alloc; " {area:?}:{place}:{target:?}")?.as_str())?;
         }
     }
     Ok(told)

@@ -2,7 +2,7 @@
 use crate::fixups::called;
 use crate::items::{Item, Parsed};
 use crate::words::word;
-use inf_opcode::{Branch, Label, Opcode, Operand, Target};
+use inf_opcode::{Branch, Label, Opcode, Operand, Destination};
 use std::alloc::{AllocError, Global};
 
 /// A number, or the turn where it is spelled `+`.
@@ -36,9 +36,9 @@ fn branch(spelled: &str) -> Branch {
         None => (true, spelled),
     };
     let target = match to {
-        "rtrue" => Target::ReturnTrue,
-        "rfalse" => Target::ReturnFalse,
-        _ => Target::To(Label {
+        "rtrue" => Destination::ReturnTrue,
+        "rfalse" => Destination::ReturnFalse,
+        _ => Destination::To(Label {
             number: label(to, 0),
         }),
     };

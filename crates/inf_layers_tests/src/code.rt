@@ -1,9 +1,9 @@
 //! Routines written out, with the bytes that the Z-Machine Standard 1.1 gives for them.
 
 use crate::expecting::expect;
-use inf_area::{Target, ReferenceKind};
+use inf_area::Target;
 use inf_assembler::{GrowFault, RoutineKind, Setting};
-use inf_layout::code::{Code, CodeLimits};
+use inf_code::code::{Code, CodeLimits};
 use inf_opcode::{Instruction, Opcode, Operand};
 use std::alloc::Global;
 use std::process::Abort;
@@ -50,12 +50,9 @@ const ROOMY: CodeLimits = CodeLimits {
     refs: 100,
 };
 
-/// A routine that is known later, by its number.
+/// A routine that is known later, by the number of its name.
 fn routine(number: usize) -> Target {
-    Target {
-        kind: ReferenceKind::PackedAddress,
-        number,
-    }
+    Target::Name(number)
 }
 
 /// Calls a routine with the first local.

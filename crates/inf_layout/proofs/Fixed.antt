@@ -6,7 +6,7 @@ use Rattle.std.proofs.lemmas.Grind.{flat_map-append}
 use Rattle.byteorder.specs.Endian.{big_bytes}
 use Rattle.inf_area.specs.Words.{word as two_bytes}
 use Rattle.inf_text.specs.Packing.{packed, longest, character_zs}
-use Rattle.inf_layout.specs.Code.{CodeCell, Known, Awaited, cell_bytes, code_bytes}
+use Rattle.inf_code.specs.Code.{CodeCell, Known, Awaited, cell_bytes, code_bytes}
 use Rattle.inf_layout.specs.Addresses.{Value, Number, RoutineAt, number_of, packed_address}
 use Rattle.inf_layout.specs.Areas.{AreaName, Cell, Target, cell_bytes as area_cell_bytes, value_cells, cells_of, size, start_routine, gap, fill, word, code_areas, bytes_from, Code}
 use Rattle.inf_layout.specs.Fixed.{repeated, fixed_bytes, header_front, header_sizes, header_bytes, start_bytes, body_bytes, story_bytes, is_over_long}

@@ -4,7 +4,7 @@ use Rattle.std.proofs.lemmas.List.{length-replicate}
 use Rattle.byteorder.specs.Endian.{big_bytes}
 use Rattle.inf_layout.specs.Areas.{fill, gap}
 use Rattle.inf_layout.specs.Fixed.{repeated, fixed_bytes, header_front, header_sizes, header_bytes, start_bytes, code_bytes as routines_bytes, body_bytes, story_bytes}
-use Rattle.inf_layout.specs.Code.{code_bytes}
+use Rattle.inf_code.specs.Code.{code_bytes}
 use Rattle.inf_layout.specs.Addresses.{number_of}
 use Rattle.inf_layout.specs.StoryLaws.{TellsItself, StoriesTellThemselves}
 use Rattle.inf_layout.proofs.Fixed.{story_is}

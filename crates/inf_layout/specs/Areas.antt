@@ -6,7 +6,7 @@ use Rattle.byteorder.specs.Endian.{big_bytes}
 use Rattle.inf_text.specs.Packing.{packed}
 use Rattle.inf_area.specs.Words.{word as two_bytes}
 use Rattle.inf_layout.specs.Addresses.{Value, Number, RoutineAt}
-use Rattle.inf_layout.specs.Code.{CodeCell, Known, Awaited}
+use Rattle.inf_code.specs.Code.{CodeCell, Known, Awaited}
 use Rattle.inf_characters.specs.declared.texts.TextItem.TheVariants.{Character}
 
 -- The areas behind the header, in the order in which they lie.

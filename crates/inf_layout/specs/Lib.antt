@@ -1,5 +1,4 @@
 pub mod Addresses
-pub mod Code
 pub mod Areas
 pub mod Story
 pub mod Fixed

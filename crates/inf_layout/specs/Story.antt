@@ -1,7 +1,7 @@
 -- The story file: its header, and the bytes of its areas. Z-Machine Standard 1.1, section 11.
 use Rattle.std.specs.Prelude.{ℕ, ◌+◌, ◌/◌, ◌%◌, List, ◌∷◌, ◌++◌, length, replicate, sum, Bool, nat_lt}
 use Rattle.inf_layout.specs.Addresses.{Value}
-use Rattle.inf_layout.specs.Code.{CodeCell}
+use Rattle.inf_code.specs.Code.{CodeCell}
 use Rattle.inf_layout.specs.Areas.{AreaName, AbbreviationWords, PropertyDefaults, Globals, Grammar, Dictionary, Code, base_from, bytes_from, areas, word}
 
 -- the header's size, where the areas begin

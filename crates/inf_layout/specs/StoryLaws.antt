@@ -2,7 +2,7 @@
 use Rattle.std.specs.Prelude.{◌≡◌, ℕ, ◌/◌, ◌%◌, List, length, take, drop, sum}
 use Rattle.byteorder.specs.Endian.{big_bytes}
 use Rattle.inf_layout.specs.Addresses.{Value}
-use Rattle.inf_layout.specs.Code.{CodeCell}
+use Rattle.inf_code.specs.Code.{CodeCell}
 use Rattle.inf_layout.specs.Story.{story}
 
 -- a number in the two bytes at a place, the high one first

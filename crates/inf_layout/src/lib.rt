@@ -1,9 +1,7 @@
-//! The story: finished routines with the places of numbers that are known later, the areas of a story,
-//! and its header (Z-Machine Standard 1.1, sections 1 and 11).
+//! The story: the areas of a story, and its header (Z-Machine Standard 1.1, sections 1 and 11).
 #![tactic(auto)]
 
 pub mod addresses;
-pub mod code;
 mod laws;
 pub mod layout;
 

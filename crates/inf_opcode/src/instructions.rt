@@ -18,7 +18,7 @@ pub struct Label {
 
 /// Where a branch goes (Z-Machine Standard 1.1, section 4.7.1).
 #[derive(Clone, Copy, Debug, PartialEq, Eq)]
-pub enum Target {
+pub enum Destination {
     To(Label),
     ReturnFalse,
     ReturnTrue,
@@ -28,7 +28,7 @@ pub enum Target {
 #[derive(Clone, Copy, Debug, PartialEq, Eq)]
 pub struct Branch {
     pub sense: bool,
-    pub target: Target,
+    pub target: Destination,
 }
 
 /// An operand (Z-Machine Standard 1.1, section 4.2).

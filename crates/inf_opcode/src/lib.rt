@@ -15,6 +15,6 @@ mod opcodes;
 mod writing;
 
 pub use cells::{Kept, Special};
-pub use instructions::{Branch, Instruction, Label, MOST_OPERANDS, Operand, Target};
+pub use instructions::{Branch, Instruction, Label, MOST_OPERANDS, Operand, Destination};
 pub use opcodes::{Opcode, OpcodeRow, OperandCount};
 pub use writing::{Counts, append_instruction, instruction_counts, sense_bit};

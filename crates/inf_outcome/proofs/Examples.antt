@@ -5,7 +5,7 @@ use Rattle.inf_characters.specs.Characters.{accented, zscii_of, zscii_of_unicode
 use Rattle.inf_text.specs.Packing.{packed, longest, character_zs, punctuation}
 use Rattle.inf_characters.specs.Reading.{escape_piece, piece_at, spelled, spellings, text_of}
 use Rattle.inf_layout.specs.Addresses.{RoutineAt}
-use Rattle.inf_layout.specs.Code.{known}
+use Rattle.inf_code.specs.Code.{known}
 use Rattle.inf_layout.specs.Fixed.{repeated, fixed_bytes, body_bytes, story_bytes}
 use Rattle.inf_layout.specs.Story.{body, story}
 use Rattle.inf_layout.specs.StoryLaws.{HasWordAt, TellsItself}

@@ -3,7 +3,7 @@ use Rattle.std.specs.Prelude.{◌≡◌, ℕ, List, [], ◌∷◌, codes, map}
 use Rattle.inf_characters.specs.declared.characters.CharSet.TheVariants as set
 use Rattle.inf_settings.specs.Settings.{defaults}
 use Rattle.inf_layout.specs.Addresses.{number_of}
-use Rattle.inf_layout.specs.Code.{code_bytes}
+use Rattle.inf_code.specs.Code.{code_bytes}
 use Rattle.inf_work.specs.Actions.{Work}
 use Rattle.inf_unit.specs.Names.{values}
 use Rattle.inf_reader.specs.Reading.{compiled}

@@ -8,7 +8,7 @@ use Rattle.inf_scanner.specs.declared.tokens.TokenKind.{TokenKind}
 use Rattle.inf_scanner.specs.declared.tokens.TokenKind.TheVariants as kind
 use Rattle.inf_conditionals.specs.declared.judged.Judged.{Judged}
 use Rattle.inf_conditionals.specs.declared.judged.Site.{Site}
-use Rattle.inf_layout.specs.declared.code.CodeLimits.{CodeLimits}
+use Rattle.inf_code.specs.declared.code.CodeLimits.{CodeLimits}
 use Rattle.inf_settings.specs.Settings.{all_settings, number_of}
 use Rattle.inf_settings.specs.declared.setting.Setting.TheVariants.{References, Symbols}
 use Rattle.inf_unit.proofs.Cases.{of_both}

@@ -3,7 +3,7 @@
 -- end of an included file was read, reading goes on in the file that includes it.
 -- Designer's Manual, fourth edition, sections 38 and 39.
 use Rattle.std.specs.Prelude.{◌≡◌, ℕ, List, [], ◌∷◌, ◌++◌, length, nat_lt, is_none, Option, Some, None, Bool, true, false, ◌&&◌, ◌||◌, if◌then◌else◌, zero, suc}
-use Rattle.inf_layout.specs.Code.{code_count, reference_count}
+use Rattle.inf_code.specs.Code.{code_count, reference_count}
 use Rattle.inf_scanner.specs.declared.tokens.BadToken.TheVariants as bad
 use Rattle.inf_scanner.specs.declared.tokens.Place.{Place}
 use Rattle.inf_scanner.specs.declared.tokens.TokenKind.{TokenKind}

@@ -1,6 +1,6 @@
 -- What the code's session stands for, with a reader that keeps to its sources.
 use Rattle.std.specs.Prelude.{◌≡◌, ℕ, ◌≤◌, List, Bool, false, ◌&&◌, ◌||◌, if◌then◌else◌, length, [], ◌∷◌}
-use Rattle.inf_layout.specs.Code.{code_count, reference_count}
+use Rattle.inf_code.specs.Code.{code_count, reference_count}
 use Rattle.inf_conditionals.specs.Judging.{is_none_pending, may_part}
 use Rattle.inf_reader.specs.Handing.{site_of}
 use Rattle.inf_token.specs.Files.{Openings, Sources}

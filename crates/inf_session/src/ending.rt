@@ -10,7 +10,7 @@ ghost use Rattle.inf_session.specs.Ending.{begun, finished, first_line, is_clean
 ghost use Rattle.inf_session.specs.Session.{first_place};
 
 use crate::compiled::Status;
-use inf_layout::code::Code;
+use inf_code::code::Code;
 use inf_layout::layout::{MOST_BYTES, story};
 use inf_lexer::{Place, Stack};
 use inf_names::symbols::Symbols;

@@ -5,7 +5,7 @@ use Rattle.inf_assembler.specs.declared.routines.GrowFault.{GrowFault}
 use Rattle.inf_assembler.specs.declared.routines.GrowFault.TheVariants as grow_fault
 use Rattle.inf_assembler.specs.declared.routines.Setting.{Setting}
 use Rattle.inf_assembler.specs.Routines.{refusal}
-use Rattle.inf_layout.specs.Code.{Routines}
+use Rattle.inf_code.specs.Code.{Routines}
 use Rattle.inf_work.specs.Actions.{Output}
 
 -- that this setting is the one for which code did not grow, or none where it grew

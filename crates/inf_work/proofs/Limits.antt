@@ -17,8 +17,8 @@ use Rattle.inf_settings.specs.declared.setting.Setting.{Setting}
 use Rattle.inf_symbol.specs.Spellings.{Name}
 use Rattle.inf_symbol.specs.Locals.{Local, Headed, number_of, with_all_named}
 use Rattle.inf_unit.specs.Names.{constant_in}
-use Rattle.inf_layout.specs.declared.code.CodeLimits.{CodeLimits}
-use Rattle.inf_layout.specs.Code.{Routines, begun_unless, full_begun, full_opened, full_closed, with_closed, with_none_open}
+use Rattle.inf_code.specs.declared.code.CodeLimits.{CodeLimits}
+use Rattle.inf_code.specs.Code.{Routines, begun_unless, full_begun, full_opened, full_closed, with_closed, with_none_open}
 use Rattle.inf_syntax.specs.declared.actions.Action.{Action}
 use Rattle.inf_syntax.specs.declared.actions.Action.TheVariants as action
 use Rattle.inf_unit.specs.declared.directives.Directive.{Directive}

@@ -20,8 +20,8 @@ use Rattle.inf_report.specs.Messages.{UnusedLocal}
 use Rattle.inf_report.specs.OwnWords.{Words}
 use Rattle.inf_symbol.specs.Spellings.{Name}
 use Rattle.inf_symbol.specs.Locals.{Local, Headed, with_all_named, with_locals, no_locals}
-use Rattle.inf_layout.specs.declared.code.CodeLimits.{CodeLimits}
-use Rattle.inf_layout.specs.Code.{Routines, begun as code_begun, full_begun, no_routines, size, with_item, with_closed, with_none_open, with_opened, full_opened, full_with, full_closed}
+use Rattle.inf_code.specs.declared.code.CodeLimits.{CodeLimits}
+use Rattle.inf_code.specs.Code.{Routines, begun as code_begun, full_begun, no_routines, size, with_item, with_closed, with_none_open, with_opened, full_opened, full_with, full_closed}
 use Rattle.inf_syntax.specs.declared.actions.Action.{Action}
 use Rattle.inf_syntax.specs.declared.actions.Action.TheVariants as action
 use Rattle.inf_unit.specs.Directives.{Asked, Nothing, Include, End, weight_of}

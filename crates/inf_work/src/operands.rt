@@ -7,7 +7,7 @@ ghost use Rattle.inf_unit.specs.Blames.{blamed};
 ghost use Rattle.inf_work.specs.Units.{Operands, call_fault, is_system_name, known_number, operand_fault, operands_fault, with_operand, with_operands};
 
 use arrayvec::ArrayVec;
-use inf_area::{Target, ReferenceKind};
+use inf_area::Target;
 use inf_lexer::Place;
 use inf_names::meanings::Meaning;
 use inf_names::symbols::{Found, ReferFault, Symbols};
@@ -137,9 +137,6 @@ fn operand_of(
     }
     match known.find_and_refer(name.bytes(), name.place)? {
         (Found::Declared(Meaning::Number(number), _), _) => Ok(known_number(number)),
-        (_, number) => Ok(Operand::Later(Target {
-            kind: ReferenceKind::PackedAddress,
-            number: number.unwrap_or(0),
-        })),
+        (_, number) => Ok(Operand::Later(Target::Name(number.unwrap_or(0)))),
     }
 }

@@ -11,7 +11,7 @@ ghost use Rattle.inf_work.specs.Units.{printing};
 
 use crate::instructions::printing;
 use inf_assembler::{GrowFault, RoutineKind, Setting as CodeSetting};
-use inf_layout::code::{Code, CodeLimits};
+use inf_code::code::{Code, CodeLimits};
 use inf_opcode::{Instruction, Opcode};
 use inf_settings::setting::Setting;
 use inf_settings::settings::Settings;

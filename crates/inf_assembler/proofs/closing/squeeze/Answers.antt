@@ -20,7 +20,7 @@ closed_special-requires g c =
     let now = c.loop-entry.invariant in
     let order = order_step c.loop-entry.from i (length old) kept nothing c.loop-entry-test.true now.order in
     let end = order_end (entry.place + special_size entry.what) (length old) (drop (i + 1) kept) order.1 in
-    omega (arith, now.ordered, order.0, end, c.len-end.ensures, c.len-end.type_inv)
+    omega (arith, now.ordered, order.0, end, c.len-end.ensures.value, c.len-end.type_inv)
 
 pub returns-in_err-bytes-clause-within : goal.returns-in_err-bytes-clause-within
 returns-in_err-bytes-clause-within g c =
@@ -68,7 +68,7 @@ overflow_add-to g c =
     let end = order_end (entry.place + special_size entry.what) (length old) (drop (i + 1) kept) order.1 in
     let size = closed_size (found c.args.long.now) (found c.args.places.now) entry.place _ entry.what _ c.in_ok-bytes.ensures in
     let small = size_le (found c.args.long.now) entry.place entry.what in
-    omega (arith, now.ordered, order.0, end, size, small, c.len.ensures.value, c.len-end.ensures, c.len-end.type_inv)
+    omega (arith, now.ordered, order.0, end, size, small, c.len.ensures.value, c.len-end.ensures.value, c.len-end.type_inv)
 
 pub overflow_add-from : goal.overflow_add-from
 overflow_add-from g c =
@@ -79,7 +79,7 @@ overflow_add-from g c =
     let now = c.loop-entry.invariant in
     let order = order_step c.loop-entry.from i (length old) kept nothing c.loop-entry-test.true now.order in
     let end = order_end (entry.place + special_size entry.what) (length old) (drop (i + 1) kept) order.1 in
-    omega (arith, end, c.special_size.ensures, c.len-end.ensures, c.len-end.type_inv)
+    omega (arith, end, c.special_size.ensures, c.len-end.ensures.value, c.len-end.type_inv)
 
 pub loop-entry-preserved : goal.loop-entry-preserved
 loop-entry-preserved g c =

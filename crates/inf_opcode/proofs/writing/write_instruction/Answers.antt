@@ -11,9 +11,9 @@ pub keep_front-requires : goal.keep_front-requires
 keep_front-requires g c =
     let bytes = g.A.Area.bytes c.args.area.now in
     let front = long_bytes (front_cells (parts_of c.args.instruction.now)) in
-    c.len-end.ensures
+    c.len-end.ensures.value
     ∙ ap length (c.in_ok-append.ensures.ok ∙ ap (λ xs. bytes ++ xs) (c.as_slice.ensures.value ∙ c.front_bytes.ensures))
-    ∙ length-append bytes front ∙ ap (λ n. n + length front) (sym c.len-start.ensures)
+    ∙ length-append bytes front ∙ ap (λ n. n + length front) (sym c.len-start.ensures.value)
 
 pub returns-in_err-append-clause-err : goal.returns-in_err-append-clause-err
 returns-in_err-append-clause-err g c =
@@ -38,6 +38,6 @@ returns-clause-ok g c =
     let front : Grew bytes kept cells (g.A.Area.bytes c.append.new.self) c.keep_front.new.kept.items =
     record {
       bytes = c.in_ok-append.ensures.ok ∙ ap (λ xs. bytes ++ xs) (c.as_slice.ensures.value ∙ c.front_bytes.ensures);
-      kept = c.in_ok-keep_front.ensures.ok ∙ ap (λ n. kept ++ kept_from n cells) c.len-start.ensures;
+      kept = c.in_ok-keep_front.ensures.ok ∙ ap (λ n. kept ++ kept_from n cells) c.len-start.ensures.value;
     } in
     grew_then front (grew_plain _ _ _ _ c.in_ok-append_text.ensures.ok)

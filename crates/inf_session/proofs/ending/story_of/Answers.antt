@@ -1,5 +1,5 @@
 use Rattle.std.proofs.Common.{◌≡◌, IfOk, IfSome, is_none, sym, ap, subst, ◌∙◌, List, ℕ, Bool}
-use Rattle.inf_layout.specs.Code.{code_bytes}
+use Rattle.inf_code.specs.Code.{code_bytes}
 use Rattle.inf_layout.specs.Fixed.{story_bytes, is_over_long}
 use Rattle.inf_unit.specs.Names.{values}
 use Rattle.inf_layout.proofs.Fixed.{story_is, too_long_is}

@@ -19,7 +19,7 @@ returns-in-Some-clause-fault g c =
     let parts = parts_of c.args.instruction.now in
     let more = c.instruction_counts-more.result in
     let counted = c.instruction_counts-more.ensures.value in
-    let all = full_is parts state bytes c.args.refs.now c.len.result (length c.args.instruction.now.text.now) more counted refl c.len.ensures in
+    let all = full_is parts state bytes c.args.refs.now c.len.result (length c.args.instruction.now.text.now) more counted refl c.len.ensures.value in
     ap refusal (sym c.in-Some.is ∙ c.full.ensures.value ∙ all)
 
 pub returns-in_err-append_instruction-clause-fault : goal.returns-in_err-append_instruction-clause-fault
@@ -29,7 +29,7 @@ returns-in_err-append_instruction-clause-fault g c =
     let parts = parts_of c.args.instruction.now in
     let more = c.instruction_counts-more.result in
     let counted = c.instruction_counts-more.ensures.value in
-    let all = full_is parts state bytes c.args.refs.now c.len.result (length c.args.instruction.now.text.now) more counted refl c.len.ensures in
+    let all = full_is parts state bytes c.args.refs.now c.len.result (length c.args.instruction.now.text.now) more counted refl c.len.ensures.value in
     let none = sym (c.full.ensures.value ∙ all) ∙ none_of c.full.result c.in_default.not-Some in
     let p = err_from_is_err_and c.from_residual.result c.from_residual.ensures.1 in
     rw (p.1, p.2) (ap refusal (sym none))
@@ -41,7 +41,7 @@ returns-clause-fault g c =
     let parts = parts_of c.args.instruction.now in
     let more = c.instruction_counts-more.result in
     let counted = c.instruction_counts-more.ensures.value in
-    let all = full_is parts state bytes c.args.refs.now c.len.result (length c.args.instruction.now.text.now) more counted refl c.len.ensures in
+    let all = full_is parts state bytes c.args.refs.now c.len.result (length c.args.instruction.now.text.now) more counted refl c.len.ensures.value in
     sym (c.full.ensures.value ∙ all) ∙ none_of c.full.result c.in_default.not-Some
 
 pub returns-clause-ok : goal.returns-clause-ok
@@ -51,7 +51,7 @@ returns-clause-ok g c =
     let parts = parts_of c.args.instruction.now in
     let more = c.instruction_counts-more.result in
     let counted = c.instruction_counts-more.ensures.value in
-    let all = full_is parts state bytes c.args.refs.now c.len.result (length c.args.instruction.now.text.now) more counted refl c.len.ensures in
+    let all = full_is parts state bytes c.args.refs.now c.len.result (length c.args.instruction.now.text.now) more counted refl c.len.ensures.value in
     let inside = c.self.inside in
     let new_bytes = g.A.Area.bytes c.append_instruction.new.area in
     let new_kept = c.append_instruction.new.kept.items in

@@ -10,7 +10,7 @@ returns-clause-open_now g c =
     let new = g.A.Area.bytes c.push.new.self in
     let state : State = record { start = c.len-start.result; kept = c.new.result.items; labels = 0; fixups = 0; is_final = false; limits = c.args.limits } in
     let stands : Stands state new old (fresh c.args.locals) = record {
-      start = c.len-start.ensures;
+      start = c.len-start.ensures.value;
       bytes = c.in_ok-push.ensures.ok;
       kept = c.new.ensures.items;
       labels = refl;

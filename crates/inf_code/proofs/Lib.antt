@@ -1,0 +1,4 @@
+pub mod CodeLemmas
+pub mod CodeSteps
+pub mod Ends
+pub mod Full

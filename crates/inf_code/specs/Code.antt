@@ -1,0 +1,305 @@
+-- The code of a story: finished routines, as bytes and the numbers that are known later, and the routine that is open.
+use Rattle.std.specs.Prelude.{◌≡◌, ℕ, ◌+◌, ◌-◌, ◌%◌, ◌≤◌, ◌<◌, ◌^◌, Bool, true, false, nat_lt, if◌then◌else◌, List, [], ◌∷◌, ◌++◌, length, map, take, drop, slice_get, Option, Some, None}
+use Rattle.std.specs.List.{flat_map}
+use Rattle.std.specs.Option.{unwrap_or}
+use Rattle.inf_area.specs.declared.fixups.Fixup.{Fixup}
+use Rattle.inf_area.specs.declared.targets.Target.{Target}
+use Rattle.inf_area.specs.declared.targets.Target.TheVariants as target
+use Rattle.inf_area.specs.Fixups.{Fixups}
+use Rattle.inf_area.specs.Words.{word}
+use Rattle.inf_opcode.specs.Cells.{Cell, Of, long_bytes, label_count, fixup_count}
+use Rattle.inf_opcode.specs.declared.cells.Special.TheVariants.{Marks}
+use Rattle.inf_opcode.specs.declared.instructions.Label.{Label}
+use Rattle.inf_opcode.specs.Instructions.{Parts, instruction_cells}
+use Rattle.inf_opcode.specs.Opcodes.{row_of}
+use Rattle.inf_assembler.specs.declared.routines.CloseFault.{CloseFault}
+use Rattle.inf_assembler.specs.declared.routines.CloseFault.TheVariants as close_fault
+use Rattle.inf_assembler.specs.declared.routines.Limits.{Limits}
+use Rattle.inf_assembler.specs.declared.routines.RoutineKind.{RoutineKind}
+use Rattle.inf_assembler.specs.declared.routines.Setting.{Setting}
+use Rattle.inf_assembler.specs.declared.routines.Setting.TheVariants as setting
+use Rattle.inf_assembler.specs.Places.{missing, twice_behind}
+use Rattle.inf_assembler.specs.Routines.{State, Contents, IsOpen, contents_of, fresh, with_cells, body_bytes, closing, routine_fixups, is_full, long_places, missing_fault, twice_fault, body_fault}
+use Rattle.inf_code.specs.declared.code.CodeLimits.{CodeLimits}
+
+-- a byte, or the two bytes that a reference's number takes
+pub data CodeCell : Type 0 where
+  Known : (byte : ℕ) → CodeCell
+  Awaited : (target : Target) → CodeCell
+
+-- bytes as cells
+abbrev pub known : List ℕ → List CodeCell
+known bytes = map Known bytes
+
+-- the number of bytes of a cell, and of cells
+abbrev pub cell_size : CodeCell → ℕ
+cell_size (Known byte) = 1
+cell_size (Awaited target) = 2
+
+abbrev pub size : List CodeCell → ℕ
+size [] = 0
+size (cell ∷ cells) = cell_size cell + size cells
+
+-- the zeros behind so many bytes that fill them up to a multiple of 4
+abbrev pub zeros_behind : ℕ → List ℕ
+zeros_behind size = take ((4 - size % 4) % 4) (0 ∷ 0 ∷ 0 ∷ [])
+
+abbrev pub padding : ℕ → List CodeCell
+padding size = known (zeros_behind size)
+
+-- cells with these zeros
+abbrev pub padded : List CodeCell → List CodeCell
+padded cells = cells ++ padding (size cells)
+
+-- the number of what is known later, by a list of the numbers of names; 0 where the list is too short
+abbrev pub number_in : List ℕ → Target → ℕ
+number_in numbers (target.Name name) = unwrap_or (slice_get numbers name) 0
+number_in numbers _ = 0
+
+-- the bytes of a cell, and of cells, whose references have these numbers
+abbrev pub cell_bytes : List ℕ → CodeCell → List ℕ
+cell_bytes numbers (Known byte) = byte ∷ []
+cell_bytes numbers (Awaited target) = word (number_in numbers target)
+
+abbrev pub code_bytes : List ℕ → List CodeCell → List ℕ
+code_bytes numbers cells = flat_map (cell_bytes numbers) cells
+
+-- What bytes with fixups stand for, from a place on: the bytes before the first fixup, its reference, and what is behind it.
+abbrev pub cells_from : ℕ → List Fixup → List ℕ → List CodeCell
+cells_from place [] bytes = known bytes
+cells_from place (fixup ∷ fixups) bytes =
+    known (take (fixup.place - place) bytes)
+    ++ Awaited fixup.target ∷ cells_from (fixup.place + 2) fixups (drop (fixup.place + 2 - place) bytes)
+
+-- that fixups stand one behind the other from a place on, each of two bytes, and end before an end
+abbrev pub AreInOrder : ℕ → List Fixup → ℕ → Type 0
+AreInOrder place [] end = place ≤ end
+AreInOrder place (fixup ∷ fixups) end = (place ≤ fixup.place) × AreInOrder (fixup.place + 2) fixups end
+
+-- a routine that stands at a place, whose items have these bytes: its number of locals, these, and what returns where control
+-- runs past the last (Z-Machine Standard 1.1, section 5)
+abbrev pub whole_bytes : RoutineKind → Contents → List ℕ → List ℕ
+whole_bytes kind contents body = contents.locals ∷ body ++ closing kind contents
+
+abbrev pub cells_with : ℕ → RoutineKind → Contents → Option (List ℕ) → List CodeCell
+cells_with place kind contents None = []
+cells_with place kind contents (Some body) = cells_from place (routine_fixups place contents) (whole_bytes kind contents body)
+
+-- The routine, with the bytes and the references that it has when it is closed; nothing where an offset does not fit.
+abbrev pub routine_cells : ℕ → RoutineKind → Contents → List CodeCell
+routine_cells place kind contents = cells_with place kind contents (body_bytes place contents)
+
+-- An open routine: what it has so far, and whether it is lost: then it gives no code, and only its labels and offsets are looked at.
+pub record Opened : Type 0 where
+  pub contents : Contents
+  pub is_lost : Bool
+
+-- The routines of a story: what it may hold, whether its code has begun, the finished routines of its source, and the one
+-- that is open, if any. Code begins with a first routine that the source does not have: it calls the source's Main.
+pub record Routines : Type 0 where
+  pub limits : CodeLimits
+  pub has_begun : Bool
+  pub finished : List CodeCell
+  pub opened : Option Opened
+
+-- none, under these limits
+abbrev pub no_routines : CodeLimits → Routines
+no_routines limits = record { limits = limits; has_begun = false; finished = []; opened = None }
+
+-- What is left of the limits for the routines of the source. The first routine has 8 bytes and one reference; the addresses of
+-- the property tables of the four objects that each story has are four more.
+abbrev pub room : CodeLimits → CodeLimits
+room limits = record { labels = limits.labels; code = limits.code - 8; refs = limits.refs - 5 }
+
+-- an instruction more in a routine, and in the one that is open
+abbrev pub with_instruction : Parts → Contents → Contents
+with_instruction parts contents = with_cells (instruction_cells parts) (row_of parts.opcode).is_final contents
+
+abbrev pub with_item : Parts → Option Opened → Option Opened
+with_item parts None = None
+with_item parts (Some o) = Some (record o { contents = with_instruction parts o.contents })
+
+-- a label that is marked there
+abbrev pub with_mark : Label → Contents → Contents
+with_mark label contents = with_cells (Of (Marks label) ∷ []) false contents
+
+abbrev pub with_label : Label → Option Opened → Option Opened
+with_label label None = None
+with_label label (Some o) = Some (record o { contents = with_mark label o.contents })
+
+-- the cells that the open routine becomes behind so many bytes, filled up to a multiple of 4; none, where it is lost
+abbrev pub closed_cells : RoutineKind → ℕ → Option Opened → List CodeCell
+closed_cells kind place None = []
+closed_cells kind place (Some o) = if o.is_lost then [] else padded (routine_cells place kind o.contents)
+
+-- the routines after the open one is closed
+abbrev pub with_closed : RoutineKind → Routines → Routines
+with_closed kind routines =
+    record routines { finished = routines.finished ++ closed_cells kind (size routines.finished) routines.opened; opened = None }
+
+-- the routines after the open one is given up
+abbrev pub with_none_open : Routines → Routines
+with_none_open routines = record routines { opened = None }
+
+-- an open routine, by the bytes of its area
+abbrev pub open_in : List ℕ → Bool → Option State → Option Opened
+open_in bytes is_lost None = None
+open_in bytes is_lost (Some routine) = Some (record { contents = contents_of routine bytes; is_lost = is_lost })
+
+-- the references of cells
+abbrev pub awaited : List CodeCell → ℕ
+awaited [] = 0
+awaited ((Known byte) ∷ cells) = awaited cells
+awaited ((Awaited target) ∷ cells) = 1 + awaited cells
+
+-- the bytes of finished routines and of an open one behind them, with every branch long, and their references
+abbrev pub bytes_with : List CodeCell → Contents → ℕ
+bytes_with finished contents = size finished + 1 + length (long_bytes contents.cells)
+
+-- a lost routine's references are counted alone
+abbrev pub references_before : Bool → List CodeCell → ℕ
+references_before is_lost finished = if is_lost then 0 else awaited finished
+
+abbrev pub references_with : Bool → List CodeCell → Contents → ℕ
+references_with is_lost finished contents = references_before is_lost finished + fixup_count contents.cells
+
+-- A lost routine is bounded by its labels alone: no number of the program is above this.
+abbrev pub unlimited : ℕ
+unlimited = 18446744073709551615
+
+abbrev pub most : Bool → CodeLimits → CodeLimits
+most is_lost limits = if is_lost then record { labels = limits.labels; code = unlimited; refs = unlimited } else limits
+
+-- the first limit that the beginning of code would pass
+abbrev pub full_first : CodeLimits → Option Setting
+full_first limits =
+    if nat_lt limits.code 8 then Some setting.Code else
+    if nat_lt limits.refs 5 then Some setting.Refs else None
+
+-- nothing, where it has begun
+abbrev pub full_unless : Bool → CodeLimits → Option Setting
+full_unless has_begun limits = if has_begun then None else full_first limits
+
+abbrev pub full_begun : Routines → Option Setting
+full_begun routines = full_unless routines.has_begun routines.limits
+
+-- code begins, unless that would pass a limit
+abbrev pub begun_unless : Option Setting → Routines → Routines
+begun_unless None routines = record routines { has_begun = true }
+begun_unless (Some s) routines = routines
+
+abbrev pub begun : Routines → Routines
+begun routines = begun_unless (full_begun routines) routines
+
+-- the bytes of code and the references of a story so far
+abbrev pub code_count : Routines → ℕ
+code_count routines = (if routines.has_begun then 8 else 0) + size routines.finished
+
+abbrev pub reference_count : Routines → ℕ
+reference_count routines = (if routines.has_begun then 5 else 4) + awaited routines.finished
+
+-- the first limit that another routine would pass behind so many bytes: it begins with the number of its locals, and code begins with it
+abbrev pub full_behind_bytes : CodeLimits → Bool → Bool → ℕ → Option Setting
+full_behind_bytes limits is_lost has_begun place =
+    if nat_lt (most is_lost (room limits)).code (place + 1) then Some setting.Code else full_unless has_begun limits
+
+abbrev pub full_opened : Bool → Routines → Option Setting
+full_opened is_lost routines = full_behind_bytes routines.limits is_lost routines.has_begun (size routines.finished)
+
+-- another routine of so many locals is open, which is lost or not
+abbrev pub with_opened : ℕ → Bool → Routines → Routines
+with_opened locals is_lost routines = record routines { has_begun = true; opened = Some (record { contents = fresh locals; is_lost = is_lost }) }
+
+-- The first limit that more cells in the open routine would pass: that of its labels, branches and jumps, of all bytes, and of all references.
+abbrev pub full_cells : Bool → CodeLimits → List CodeCell → List Cell → Contents → Option Setting
+full_cells is_lost limits finished cells contents =
+    if nat_lt limits.labels (label_count contents.cells + label_count cells) then Some setting.Labels else
+    if nat_lt limits.code (bytes_with finished contents + length (long_bytes cells)) then Some setting.Code else
+    if nat_lt limits.refs (references_with is_lost finished contents + fixup_count cells) then Some setting.Refs else None
+
+abbrev pub full_behind : CodeLimits → List CodeCell → List Cell → Option Opened → Option Setting
+full_behind limits finished cells None = None
+full_behind limits finished cells (Some o) = full_cells o.is_lost (most o.is_lost limits) finished cells o.contents
+
+abbrev pub full_with : Parts → Routines → Option Setting
+full_with parts routines = full_behind (room routines.limits) routines.finished (instruction_cells parts) routines.opened
+
+-- the limit that one more label would pass
+abbrev pub full_marked : CodeLimits → Option Opened → Option Setting
+full_marked limits None = None
+full_marked limits (Some o) = if nat_lt limits.labels (label_count o.contents.cells + 1) then Some setting.Labels else None
+
+abbrev pub full_label : Routines → Option Setting
+full_label routines = full_marked (room routines.limits) routines.opened
+
+-- How much more the open routine may take of each limit; where none is open, what all routines of the source may take.
+abbrev pub left_by : CodeLimits → Bool → List CodeCell → Contents → CodeLimits
+left_by limits is_lost finished contents =
+    record { labels = limits.labels - label_count contents.cells; code = limits.code - bytes_with finished contents; refs = limits.refs - references_with is_lost finished contents }
+
+abbrev pub left_behind : CodeLimits → List CodeCell → Option Opened → CodeLimits
+left_behind limits finished None = limits
+left_behind limits finished (Some o) = left_by (most o.is_lost limits) o.is_lost finished o.contents
+
+abbrev pub left : Routines → CodeLimits
+left routines = left_behind (room routines.limits) routines.finished routines.opened
+
+-- What is wrong with a routine behind so many bytes and references: a label that is missing or stands twice, an offset that does not fit, the
+-- first limit that it would pass with what returns at its end, or that all references would.
+abbrev pub limit_fault : CodeLimits → ℕ → Contents → ℕ → Option CloseFault
+limit_fault limits references contents len =
+    if is_full contents.is_final limits.code len then Some (close_fault.Full setting.Code) else
+    if nat_lt limits.refs (references + fixup_count contents.cells) then Some (close_fault.Full setting.Refs) else None
+
+abbrev pub fault_behind : CodeLimits → ℕ → ℕ → Contents → Option CloseFault
+fault_behind limits start references contents =
+    missing_fault
+    (twice_fault (body_fault (λ body. limit_fault limits references contents (start + 1 + length body)) (body_bytes start contents)) (twice_behind [] contents.cells))
+    (missing (long_places start contents) contents.cells)
+
+-- or the routine with the zeros behind it would pass the limit of bytes
+abbrev pub zeros_fault : Bool → ℕ → ℕ → Option CloseFault
+zeros_fault is_lost limit len = if is_lost then None else if nat_lt limit len then Some (close_fault.Full setting.Code) else None
+
+abbrev pub first_fault : Option CloseFault → Option CloseFault → Option CloseFault
+first_fault None later = later
+first_fault (Some fault) later = Some fault
+
+abbrev pub fault_end : CodeLimits → RoutineKind → List CodeCell → Option Opened → Option CloseFault
+fault_end limits kind finished None = None
+fault_end limits kind finished (Some o) =
+    first_fault (fault_behind (most o.is_lost limits) (size finished) (references_before o.is_lost finished) o.contents)
+    (zeros_fault o.is_lost limits.code (size (finished ++ padded (routine_cells (size finished) kind o.contents))))
+
+abbrev pub fault_closed : RoutineKind → Routines → Option CloseFault
+fault_closed kind routines = fault_end (room routines.limits) kind routines.finished routines.opened
+
+-- the limits of each routine
+abbrev pub routine_limits : CodeLimits → Limits
+routine_limits limits = record { labels = limits.labels; code = limits.code }
+
+-- that an open routine stands behind so many bytes, up to the end of the area
+pub record StandsBehind (bound : CodeLimits) (place : ℕ) (bytes : List ℕ) (routine : State) : Type 0 where
+  pub start : routine.start ≡ place
+  pub open_still : IsOpen routine bytes
+  pub limits : routine.limits ≡ routine_limits bound
+
+abbrev pub IsBehind : CodeLimits → ℕ → List ℕ → Option State → Type 0
+IsBehind limits place bytes None = Unit {0}
+IsBehind limits place bytes (Some routine) = StandsBehind limits place bytes routine
+
+-- what code is: finished routines of so many bytes, fixups in them, and an open routine, which is lost or not
+pub record IsCode (limits : CodeLimits) (finished : ℕ) (refs : Fixups) (bytes : List ℕ) (is_lost : Bool) (routine : Option State) : Type 0 where
+  pub within : finished ≤ length bytes
+  pub in_order : AreInOrder 0 refs.list finished
+  pub limit : refs.limit ≡ limits.refs
+  pub few : finished ≤ limits.code
+  pub behind : IsBehind (most is_lost limits) finished bytes routine
+
+-- no fixups, and any number of them may come
+abbrev pub IsSpare : Fixups → Type 0
+IsSpare refs = refs ≡ record { list = []; limit = unlimited }
+
+-- code that has begun has room for its beginning; limits are numbers of the program
+abbrev pub HasRoom : Bool → CodeLimits → Type 0
+HasRoom has_begun limits = ((limits.code < 2 ^ 64) × (limits.refs < 2 ^ 64)) × (has_begun ≡ true → (8 ≤ limits.code) × (5 ≤ limits.refs))

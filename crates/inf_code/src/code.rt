@@ -1,0 +1,390 @@
+//! The code of a story: its finished routines, and the one that is open.
+ghost use Rattle.std.specs.Prelude.{◌≡◌, ◌≤◌, ◌⊎◌, ◌++◌, ◌+◌, [], None, Some, MatchResult, OnOk, OnErr, false, if◌then◌else◌, length, nat_lt, take, true};
+ghost use Rattle.inf_opcode.specs.Instructions.{IsProper};
+ghost use Rattle.inf_opcode.specs.PartsOf.{parts_of};
+ghost use Rattle.inf_assembler.specs.declared.routines.Setting.{Setting};
+ghost use Rattle.inf_assembler.specs.declared.routines.Setting.TheVariants as code_setting;
+ghost use Rattle.inf_assembler.specs.declared.routines.CloseFault.TheVariants as close_fault;
+ghost use Rattle.inf_assembler.specs.Routines.{IsOpen, contents_of, refusal};
+ghost use Rattle.inf_code.specs.Code.{IsSpare, begun, code_count, fault_behind, fault_closed, reference_count, room, full_begun, full_behind_bytes, full_first, full_label, full_opened, full_with, left, most, size, number_in, code_bytes, with_closed, with_item, with_label, with_none_open, with_opened, zeros_behind};
+
+use inf_area::{Area, FlatArea, Refs, Target};
+use inf_assembler::{CloseFault, GrowFault, Limits, Routine, RoutineKind, Setting};
+use inf_opcode::{Instruction, Label};
+use std::alloc::Global;
+use std::marker::Model;
+
+/// The bytes of the first routine of each story, which calls `Main`, with the zeros behind it.
+const FIRST_ROUTINE_BYTES: usize = 8;
+
+/// The references of each story in tables: the addresses of the property tables of its first four objects.
+const TABLE_REFERENCES: usize = 4;
+
+/// These, and that of the first routine.
+const FIRST_REFERENCES: usize = 5;
+
+/// What code may hold.
+#[derive(Clone, Copy, Debug, PartialEq, Eq)]
+pub struct CodeLimits {
+    /// The most labels, branches and jumps of a routine.
+    pub labels: usize,
+    /// The most bytes of all routines: the first one, which has 8, the finished ones with the zeros behind them, and the open one with
+    /// every branch long.
+    pub code: usize,
+    /// The most references whose numbers are known later: those of the routines, and four in tables.
+    pub refs: usize,
+}
+
+impl CodeLimits {
+    /// What is left of the limits for the routines of the source.
+    fn room(self) -> CodeLimits
+        ensures { result ≡ room self }
+    {
+        CodeLimits {
+            labels: self.labels,
+            code: self.code.saturating_sub(FIRST_ROUTINE_BYTES),
+            refs: self.refs.saturating_sub(FIRST_REFERENCES),
+        }
+    }
+
+    /// The first limit that the beginning of code would pass.
+    fn full_first(self) -> Option<Setting>
+        ensures { result ≡ full_first self }
+    {
+        if self.code < FIRST_ROUTINE_BYTES {
+            Some(Setting::Code)
+        } else if self.refs < FIRST_REFERENCES {
+            Some(Setting::Refs)
+        } else {
+            None
+        }
+    }
+
+    /// Those of a routine that is lost or not: a lost one is bounded by its labels alone.
+    fn most(self, is_lost: bool) -> CodeLimits
+        ensures { result ≡ most is_lost self }
+    {
+        if is_lost {
+            CodeLimits {
+                labels: self.labels,
+                code: usize::MAX,
+                refs: usize::MAX,
+            }
+        } else {
+            self
+        }
+    }
+
+    /// The first limit that another routine, which is lost or not, would pass behind so many bytes.
+    fn full_opened(self, is_lost: bool, has_begun: bool, place: usize) -> Option<Setting>
+        ensures { result ≡ full_behind_bytes self is_lost has_begun place }
+    {
+        if self.room().most(is_lost).code <= place {
+            return Some(Setting::Code);
+        }
+        if has_begun { None } else { self.full_first() }
+    }
+}
+
+/// The routines of a story: the bytes of the finished ones, with zeros in place of each number that
+/// is known later, and the fixups where these go; and behind them the routine that is open, if any.
+#[derive(Debug, Drop)]
+pub struct Code {
+    limits: CodeLimits,
+    // Whether it has its first routine, which calls `Main`.
+    has_begun: bool,
+    area: FlatArea,
+    refs: Refs,
+    // How many bytes the finished routines have.
+    finished: usize,
+    // What stands behind these bytes where no routine is open is no longer used.
+    routine: Option<Routine>,
+    // Whether the open routine is lost. What it refers to goes to the spare list, which is empty between.
+    is_lost: bool,
+    spare: Refs,
+}
+
+impl Model for Code {
+    ghost use Rattle.std.specs.Prelude.{take};
+    ghost use Rattle.inf_code.specs.Code.{Routines, HasRoom, IsCode, IsSpare, cells_from, open_in, room};
+
+    ghost Value = { Routines };
+
+    ghost view = { λ code. record { limits = code.limits; has_begun = code.has_begun; finished = cells_from 0 code.refs.list (take code.finished code.area); opened = open_in code.area code.is_lost code.routine } };
+
+    ghost invariant = { λ code. IsCode (room code.limits) code.finished code.refs code.area code.is_lost code.routine × (HasRoom code.has_begun code.limits × IsSpare code.spare) };
+}
+
+impl Code {
+    ghost use Rattle.inf_code.specs.Code.{Routines, no_routines};
+
+    /// No code, which may hold so much. It takes no memory until the first routine is opened.
+    pub fn new(alloc: Global, limits: CodeLimits) -> Code
+        ensures { result ≡ no_routines limits }
+    {
+        Code {
+            limits,
+            has_begun: false,
+            area: FlatArea::new(alloc),
+            refs: Refs::new(alloc, limits.room().refs),
+            finished: 0,
+            routine: None,
+            is_lost: false,
+            spare: Refs::new(alloc, usize::MAX),
+        }
+    }
+
+    /// The number of bytes of the finished routines of the source: the place of the next.
+    pub fn len(&self) -> usize
+        ensures { result ≡ size self.now.finished }
+    {
+        self.finished
+    }
+
+    /// The number of bytes of code so far: those of the first routine, once code has begun, and of the finished ones.
+    pub fn count(&self) -> usize
+        ensures value { result ≡ code_count self.now }
+        ensures few { result ≤ self.now.limits.code }
+    {
+        if self.has_begun {
+            FIRST_ROUTINE_BYTES + self.finished
+        } else {
+            self.finished
+        }
+    }
+
+    /// How many references the story has so far: four in tables, that of the first routine, once code has begun, and those of the
+    /// finished routines.
+    pub fn references(&self) -> usize
+        ensures value { result ≡ reference_count self.now }
+        ensures few { 4 ≤ self.now.limits.refs → result ≤ self.now.limits.refs }
+    {
+        if self.has_begun {
+            FIRST_REFERENCES + self.refs.len()
+        } else {
+            TABLE_REFERENCES + self.refs.len()
+        }
+    }
+
+    /// How much more the open routine may take of each limit: labels, branches and jumps, bytes with every branch long, and references.
+    /// Where none is open it is what the routines of the source may take in all.
+    pub fn left(&self) -> CodeLimits
+        ensures { result ≡ left self.now }
+    {
+        let room = self.limits.room();
+        let Some(routine) = &self.routine else {
+            return room;
+        };
+        let most = room.most(self.is_lost);
+        let listed = listed(self.is_lost, &self.spare, &self.refs);
+        CodeLimits {
+            labels: most.labels.saturating_sub(routine.labels()),
+            code: most.code.saturating_sub(self.area.len()),
+            refs: most
+                .refs
+                .saturating_sub(listed.len())
+                .saturating_sub(routine.references()),
+        }
+    }
+
+    /// Begins code with its first routine, unless it has begun. Answers the limit that this would pass, of two that of bytes; then
+    /// it does not begin.
+    pub fn begin(&mut self) -> Option<Setting>
+        ensures full { result ≡ full_begun self.old }
+        ensures begun { self.new ≡ begun self.old }
+    {
+        if self.has_begun {
+            return None;
+        }
+        let full = self.limits.full_first();
+        self.has_begun = full.is_none();
+        full
+    }
+
+    /// Opens a routine of so many locals, at most 15. One that is open is given up. Code begins with it, unless it has begun. A routine that is
+    /// lost gives no code: only its labels are counted, and what is wrong with them and with offsets is answered at its end.
+    ///
+    /// Where it is refused, none is open. It is refused where the number of locals would pass the limit of
+    /// bytes, or the beginning of code a limit, and else only for want of memory.
+    pub fn open(&mut self, alloc: Global, locals: u8, is_lost: bool) -> Result<(), GrowFault>
+        requires { locals ≤ 15 }
+        ensures ok { OnOk result (self.new ≡ with_opened locals is_lost self.old) }
+        ensures err { OnErr result (self.new ≡ with_none_open self.old) }
+        ensures fault { let full = full_opened is_lost self.old in
+            MatchResult result (λ _. full ≡ None) (λ fault. fault ≡ refusal full) }
+    {
+        self.routine = None;
+        self.is_lost = is_lost;
+        if let Some(setting) = self
+            .limits
+            .full_opened(is_lost, self.has_begun, self.finished)
+        {
+            return Err(GrowFault::Full(setting));
+        }
+        cut_back(&mut self.area, self.finished);
+        let room = self.limits.room().most(is_lost);
+        let limits = Limits {
+            labels: room.labels,
+            code: room.code,
+        };
+        let routine = Routine::open(alloc, &mut self.area, locals, limits)?;
+        self.routine = Some(routine);
+        self.has_begun = true;
+        Ok(())
+    }
+
+    /// Adds an instruction to the open routine, if there is one.
+    ///
+    /// Where it is refused the routine is as it was. It is refused where it would pass a limit, of several the
+    /// first of labels, bytes and references, and else only for want of memory.
+    pub fn emit(&mut self, instruction: &Instruction<'_>) -> Result<(), GrowFault>
+        requires { IsProper (parts_of instruction.now) }
+        ensures ok { let opened = with_item (parts_of instruction.now) self.old.opened in
+            OnOk result (self.new ≡ record self.old { opened = opened }) }
+        ensures err { OnErr result (self.new ≡ self.old) }
+        ensures fault { let full = full_with (parts_of instruction.now) self.old in
+            MatchResult result (λ _. full ≡ None) (λ fault. fault ≡ refusal full) }
+    {
+        let Some(routine) = &mut self.routine else {
+            return Ok(());
+        };
+        let refs = listed(self.is_lost, &self.spare, &self.refs);
+        routine.emit(&mut self.area, refs, instruction)
+    }
+
+    /// Marks the place of a label in the open routine, if there is one.
+    ///
+    /// Where it is refused the routine is as it was. It is refused where it would pass the limit of labels, and else only for want of memory.
+    pub fn label(&mut self, label: Label) -> Result<(), GrowFault>
+        ensures ok { OnOk result (self.new ≡ record self.old { opened = with_label label self.old.opened }) }
+        ensures err { OnErr result (self.new ≡ self.old) }
+        ensures fault { let full = full_label self.old in
+            MatchResult result (λ _. full ≡ None) (λ fault. fault ≡ refusal full) }
+    {
+        let Some(routine) = &mut self.routine else {
+            return Ok(());
+        };
+        routine.label(&self.area, label)
+    }
+
+    /// Closes the open routine, if there is one: it is the last of the finished ones, filled up with
+    /// zeros to a multiple of 4; but one that is lost is given up.
+    ///
+    /// Where it is refused the finished routines are as they were, and the open one is given up. It is refused where a label is missing or
+    /// stands twice, where a branch or jump is too far, where what returns at its end or the zeros behind it would pass the limit of bytes, or
+    /// all references theirs, in this order, and else only for want of memory.
+    pub fn close(&mut self, kind: RoutineKind) -> Result<(), CloseFault>
+        ensures ok { OnOk result (self.new ≡ with_closed kind self.old) }
+        ensures err { OnErr result (self.new ≡ with_none_open self.old) }
+        ensures fault { let wrong = fault_closed kind self.old in
+            MatchResult result (λ _. wrong ≡ None) (λ fault. (fault ≡ close_fault.Memory) ⊎ (wrong ≡ Some fault)) }
+    {
+        let Some(routine) = self.routine.take() else {
+            return Ok(());
+        };
+        if self.is_lost {
+            return close_lost(&mut self.area, &mut self.spare, routine, kind);
+        }
+        let before = self.refs.len();
+        let closed = match routine.close(&mut self.area, &mut self.refs, kind) {
+            Ok(closed) => closed,
+            Err(fault) => return Err(fault),
+        };
+        if let Err(fault) = fill_up(&mut self.area, closed.len, self.limits.room().code) {
+            self.refs.keep(before);
+            return Err(fault);
+        }
+        self.finished = self.area.len();
+        Ok(())
+    }
+
+    /// Gives the open routine up, if there is one.
+    pub fn give_up(&mut self)
+        ensures { self.new ≡ with_none_open self.old }
+    {
+        self.routine = None;
+    }
+
+    /// The bytes of the finished routines, with the numbers of the references filled in. A reference
+    /// whose number the list has not is 0.
+    pub fn fill(self, numbers: &[u16]) -> FlatArea
+        ensures { result ≡ code_bytes numbers.now self.finished }
+    {
+        let mut area = self.area;
+        let refs = self.refs;
+        cut_back(&mut area, self.finished);
+        for fixup in refs.as_slice() {
+            area.patch_word(fixup.place, number_in(numbers, fixup.target));
+        }
+        area
+    }
+}
+
+/// Where the references of a routine are listed that is lost or not.
+fn listed<'a>(is_lost: bool, spare: &'a Refs, refs: &'a Refs) -> &'a Refs
+    ensures { result.now ≡ if is_lost then spare.now else refs.now }
+{
+    if is_lost { spare } else { refs }
+}
+
+/// Closes a routine that is lost, at the end of an area, and gives it up. What was to be listed of it is not kept.
+fn close_lost(
+    area: &mut FlatArea,
+    spare: &mut Refs,
+    routine: Routine,
+    kind: RoutineKind,
+) -> Result<(), CloseFault>
+    requires open_still { IsOpen routine area.old }
+    requires none { IsSpare spare.old }
+    ensures front { take routine.start area.new ≡ take routine.start area.old }
+    ensures within { routine.start ≤ length area.new }
+    ensures none { IsSpare spare.new }
+    ensures fault { let wrong = fault_behind (record { labels = routine.limits.labels; code = routine.limits.code; refs = spare.old.limit }) routine.start 0 (contents_of routine area.old) in
+        MatchResult result (λ _. wrong ≡ None) (λ fault. (fault ≡ close_fault.Memory) ⊎ (wrong ≡ Some fault)) }
+{
+    routine.close(area, spare, kind)?;
+    spare.keep(0);
+    Ok(())
+}
+
+/// Appends the zeros behind a routine of this length that fill it up to a multiple of 4.
+///
+/// It is refused where the area would have more bytes than its limit, and else only for want of memory; the area then stays as it was.
+fn fill_up(area: &mut FlatArea, len: usize, limit: usize) -> Result<(), CloseFault>
+    ensures ok { OnOk result (area.new ≡ area.old ++ zeros_behind len) }
+    ensures room { OnOk result (length area.new ≤ limit) }
+    ensures err { OnErr result (area.new ≡ area.old) }
+    ensures fault { let full = nat_lt limit (length area.old + length (zeros_behind len)) in
+        MatchResult result (λ _. full ≡ false) (λ fault. (fault ≡ close_fault.Memory) ⊎ ((full ≡ true) × (fault ≡ close_fault.Full code_setting.Code))) }
+{
+    let zeros: &[u8] = &[0, 0, 0];
+    let behind = &zeros[..(4 - len % 4) % 4];
+    let end = area.len();
+    if limit < end || limit - end < behind.len() {
+        return Err(CloseFault::Full(Setting::Code));
+    }
+    if area.append(behind).is_err() {
+        return Err(CloseFault::Memory);
+    }
+    Ok(())
+}
+
+/// The number of what is known later, by the numbers of names; 0 where the list is too short.
+fn number_in(numbers: &[u16], target: Target) -> u16
+    ensures { result ≡ number_in numbers.now target }
+{
+    match target {
+        Target::Name(name) => numbers.get(name).copied().unwrap_or(0),
+        Target::Place(..) | Target::Part(..) | Target::Word(_) | Target::System(_) => 0,
+    }
+}
+
+/// Keeps the first bytes of an area, which has so many.
+#[tactic(auto, using(crate::proofs::CodeLemmas::cut_is))]
+fn cut_back(area: &mut FlatArea, len: usize)
+    requires { len ≤ length area.old }
+    ensures { area.new ≡ take len area.old }
+{
+    let end = area.len();
+    area.cut(len, end - len);
+}
