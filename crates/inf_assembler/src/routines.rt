@@ -285,6 +285,20 @@ impl Routine {
         None
     }
 
+    /// How many labels, branches and jumps it has.
+    pub fn labels(&self) -> usize
+        ensures { result ≡ self.now.labels }
+    {
+        self.labels
+    }
+
+    /// How many references it has whose numbers are known later.
+    pub fn references(&self) -> usize
+        ensures { result ≡ self.now.fixups }
+    {
+        self.fixups
+    }
+
     /// The present moment, for `back`.
     pub fn mark<A: Area>(&self, area: &A) -> Mark
         requires { IsOpen self.now (A.bytes area.now) }

@@ -11,7 +11,7 @@ use Rattle.inf_assembler.specs.declared.routines.Setting.{Setting}
 use Rattle.inf_assembler.specs.declared.routines.Setting.TheVariants as setting
 use Rattle.inf_assembler.specs.Routines.{State, Contents, contents_of, full_with, fault_of}
 use Rattle.inf_code.specs.declared.code.CodeLimits.{CodeLimits}
-use Rattle.inf_code.specs.Code.{CodeCell, Known, Awaited, known, size, IsCode, IsSpare, awaited, bytes_with, references_before, references_with, full_cells, fault_behind, first_fault, cells_from, most}
+use Rattle.inf_code.specs.Code.{CodeCell, Known, Awaited, known, size, IsCode, IsSpare, awaited, bytes_with, references_before, references_with, full_cells, left_by, fault_behind, first_fault, cells_from, most}
 use Rattle.inf_code.proofs.CodeSteps.{size_finished}
 
 -- each fixup is a reference that is awaited
@@ -84,6 +84,21 @@ module _ (limits : CodeLimits) (finished : ℕ) (refs listed : Fixups) (bytes : 
       ∙ ap (λ n. of_three (nat_lt bound.labels (label_count contents.cells + label_count cells)) (nat_lt bound.code (n + long)) (nat_lt listed.limit (length listed.list + routine.fixups + fixups))) len
       ∙ ap (λ n. of_three (nat_lt bound.labels (label_count contents.cells + label_count cells)) (nat_lt bound.code (bytes_with before contents + long)) (nat_lt n (length listed.list + routine.fixups + fixups))) kept.limit
       ∙ ap (λ n. of_three (nat_lt bound.labels (label_count contents.cells + label_count cells)) (nat_lt bound.code (bytes_with before contents + long)) (nat_lt bound.refs (n + fixups))) referred
+
+  -- what is left of each limit, from what there is
+  pub left_is : (bounds : CodeLimits) (labels code references listed_refs : ℕ) → bounds ≡ most is_lost limits → labels ≡ bounds.labels - routine.labels → code ≡ bounds.code - length bytes
+      → listed_refs ≡ bounds.refs - length listed.list → references ≡ listed_refs - routine.fixups
+      → record { labels = labels; code = code; refs = references } ≡ left_by (most is_lost limits) is_lost (cells_from 0 refs.list (take finished bytes)) (contents_of routine bytes)
+  left_is bounds labels code references listed_refs bounds_are labels_are code_is listed_are refs_are =
+      let stands = is.behind.open_still in
+      let front = take routine.start bytes in
+      let len : length bytes ≡ bytes_with before contents =
+      omega (arith, ap length stands.bytes, length-append front (contents.locals ∷ long_bytes contents.cells), stands.start, start_is) in
+      let labels_left : labels ≡ bound.labels - label_count contents.cells = labels_are ∙ ap (λ (l : CodeLimits). l.labels - routine.labels) bounds_are ∙ ap (λ n. bound.labels - n) stands.labels in
+      let code_left : code ≡ bound.code - bytes_with before contents = code_is ∙ ap (λ (l : CodeLimits). l.code - length bytes) bounds_are ∙ ap (λ n. bound.code - n) len in
+      let refs_left : references ≡ bound.refs - references_with is_lost before contents =
+      omega (arith, refs_are, listed_are, ap (λ (l : CodeLimits). l.refs) bounds_are, kept.count, stands.fixups) in
+      rw (labels_left, code_left, refs_left) refl
 
   pub end_is : (kind : RoutineKind) → fault_of routine.start kind (contents_of routine bytes) routine.limits listed ≡ fault_behind (most is_lost limits) (size (cells_from 0 refs.list (take finished bytes))) (references_before is_lost (cells_from 0 refs.list (take finished bytes))) (contents_of routine bytes)
   end_is kind =

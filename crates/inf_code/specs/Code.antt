@@ -232,6 +232,18 @@ full_marked limits (Some o) = if nat_lt limits.labels (label_count o.contents.ce
 abbrev pub full_label : Routines → Option Setting
 full_label routines = full_marked (room routines.limits) routines.opened
 
+-- How much more the open routine may take of each limit; where none is open, what all routines of the source may take.
+abbrev pub left_by : CodeLimits → Bool → List CodeCell → Contents → CodeLimits
+left_by limits is_lost finished contents =
+    record { labels = limits.labels - label_count contents.cells; code = limits.code - bytes_with finished contents; refs = limits.refs - references_with is_lost finished contents }
+
+abbrev pub left_behind : CodeLimits → List CodeCell → Option Opened → CodeLimits
+left_behind limits finished None = limits
+left_behind limits finished (Some o) = left_by (most o.is_lost limits) o.is_lost finished o.contents
+
+abbrev pub left : Routines → CodeLimits
+left routines = left_behind (room routines.limits) routines.finished routines.opened
+
 -- What is wrong with a routine behind so many bytes and references: a label that is missing or stands twice, an offset that does not fit, the
 -- first limit that it would pass with what returns at its end, or that all references would.
 abbrev pub limit_fault : CodeLimits → ℕ → Contents → ℕ → Option CloseFault

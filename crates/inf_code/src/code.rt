@@ -6,7 +6,7 @@ ghost use Rattle.inf_assembler.specs.declared.routines.Setting.{Setting};
 ghost use Rattle.inf_assembler.specs.declared.routines.Setting.TheVariants as code_setting;
 ghost use Rattle.inf_assembler.specs.declared.routines.CloseFault.TheVariants as close_fault;
 ghost use Rattle.inf_assembler.specs.Routines.{IsOpen, contents_of, refusal};
-ghost use Rattle.inf_code.specs.Code.{IsSpare, begun, code_count, fault_behind, fault_closed, reference_count, room, full_begun, full_behind_bytes, full_first, full_label, full_opened, full_with, most, size, number_in, code_bytes, with_closed, with_item, with_label, with_none_open, with_opened, zeros_behind};
+ghost use Rattle.inf_code.specs.Code.{IsSpare, begun, code_count, fault_behind, fault_closed, reference_count, room, full_begun, full_behind_bytes, full_first, full_label, full_opened, full_with, left, most, size, number_in, code_bytes, with_closed, with_item, with_label, with_none_open, with_opened, zeros_behind};
 
 use inf_area::{Area, FlatArea, Refs, Target};
 use inf_assembler::{CloseFault, GrowFault, Limits, Routine, RoutineKind, Setting};
@@ -163,6 +163,27 @@ impl Code {
             FIRST_REFERENCES + self.refs.len()
         } else {
             TABLE_REFERENCES + self.refs.len()
+        }
+    }
+
+    /// How much more the open routine may take of each limit: labels, branches and jumps, bytes with every branch long, and references.
+    /// Where none is open it is what the routines of the source may take in all.
+    pub fn left(&self) -> CodeLimits
+        ensures { result ≡ left self.now }
+    {
+        let room = self.limits.room();
+        let Some(routine) = &self.routine else {
+            return room;
+        };
+        let most = room.most(self.is_lost);
+        let listed = listed(self.is_lost, &self.spare, &self.refs);
+        CodeLimits {
+            labels: most.labels.saturating_sub(routine.labels()),
+            code: most.code.saturating_sub(self.area.len()),
+            refs: most
+                .refs
+                .saturating_sub(listed.len())
+                .saturating_sub(routine.references()),
         }
     }
 

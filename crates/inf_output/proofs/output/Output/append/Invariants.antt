@@ -1,0 +1,7 @@
+use Rattle.std.proofs.Common.{◌≡◌, drop}
+use Rattle.inf_output.specs.Output.{laid_all}
+use Rattle.inf_output.proofs.output.Output.append.Given as goal
+
+-- what is left leads from here to where all leads
+abbrev pub invariant-loop-item : goal.invariant-loop-item
+invariant-loop-item l = laid_all (drop l.item-index l.item-items) l.self ≡ laid_all l.fn.items l.initial.self

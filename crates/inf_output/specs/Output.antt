@@ -1,0 +1,270 @@
+-- Code, as what it adds to an output, and the words by which pieces of code are put together.
+use Rattle.std.specs.Prelude.{◌≡◌, ℕ, ◌+◌, ◌-◌, ◌≤◌, min, Bool, true, false, nat_lt, if◌then◌else◌, List, [], ◌∷◌, ◌++◌, length, map, Option, Some, None}
+use Rattle.inf_scanner.specs.declared.tokens.Place.{Place}
+use Rattle.inf_area.specs.declared.targets.Target.TheVariants as target
+use Rattle.inf_opcode.specs.declared.instructions.Branch.{Branch}
+use Rattle.inf_opcode.specs.declared.instructions.Destination.TheVariants.{To}
+use Rattle.inf_opcode.specs.declared.instructions.Label.{Label}
+use Rattle.inf_opcode.specs.declared.instructions.Operand.TheVariants.{Small, Offset}
+use Rattle.inf_opcode.specs.declared.opcodes.Opcode.{Opcode}
+use Rattle.inf_opcode.specs.declared.opcodes.Opcode.TheVariants as opcode
+use Rattle.inf_opcode.specs.declared.cells.Special.TheVariants.{Marks}
+use Rattle.inf_opcode.specs.declared.writing.Counts.{Counts}
+use Rattle.inf_opcode.specs.Cells.{Of}
+use Rattle.inf_opcode.specs.Counts.{counts_of}
+use Rattle.inf_opcode.specs.Instructions.{front_cells}
+use Rattle.inf_opcode.specs.Opcodes.{row_of}
+use Rattle.inf_assembler.specs.declared.routines.Setting.{Setting as CodeSetting}
+use Rattle.inf_assembler.specs.declared.routines.Setting.TheVariants as code_setting
+use Rattle.inf_code.specs.declared.code.CodeLimits.{CodeLimits}
+use Rattle.inf_code.specs.Code.{Routines, full_label, full_opened, full_with, left, with_item, with_label as with_mark, with_none_open, with_opened}
+use Rattle.inf_names.specs.declared.meanings.Meaning.{Meaning}
+use Rattle.inf_names.specs.declared.meanings.Meaning.TheVariants as meaning
+use Rattle.inf_names.specs.declared.symbols.Found.{Found}
+use Rattle.inf_names.specs.declared.symbols.Found.TheVariants as found
+use Rattle.inf_names.specs.declared.symbols.ReferFault.{ReferFault}
+use Rattle.inf_names.specs.Symbols.{Table, found_in, number_of, refer_fault, with_used}
+use Rattle.inf_settings.specs.declared.setting.Setting.{Setting}
+use Rattle.inf_settings.specs.declared.setting.Setting.TheVariants as setting
+use Rattle.inf_output.specs.declared.items.Item.{Item}
+use Rattle.inf_output.specs.declared.items.Item.TheVariants.{Instruction, Mark}
+use Rattle.inf_output.specs.declared.operands.Simple.{Simple}
+use Rattle.inf_output.specs.declared.operands.Simple.TheVariants.{Known, Variable, Later}
+use Rattle.inf_output.specs.declared.output.Output.{Output}
+use Rattle.inf_output.specs.declared.output.Past.{Past}
+use Rattle.inf_output.specs.declared.veneer.Veneer.{Veneer}
+use Rattle.inf_output.specs.Operands.{written}
+use Rattle.inf_output.specs.Veneer.{name_of}
+
+-- What is laid: the routines of the story, the names, the place of the first token of the unit at hand, the number of the next label of the
+-- routine, what is left of each limit once one was passed, and the items of code that is kept apart, if there is such code.
+abbrev pub Out : Type 0
+Out = Output
+
+abbrev pub Code : Type 0
+Code = Out → Out
+
+-- Limits
+
+-- so much is left, and no limit was passed
+abbrev pub whole : CodeLimits → Past
+whole limits = record { symbols = false; labels = Some limits.labels; code = Some limits.code; refs = Some limits.refs }
+
+-- so much more of a limit; nothing is left of one that is passed
+abbrev pub less : Option ℕ → ℕ → Option ℕ
+less None more = None
+less (Some rest) more = if nat_lt rest more then None else Some (rest - more)
+
+abbrev pub taken : Counts → Past → Past
+taken counts past =
+    record past { labels = less past.labels counts.labels; code = less past.code counts.bytes; refs = less past.refs counts.fixups }
+
+abbrev pub past_by : Option Past → CodeLimits → Past
+past_by None limits = whole limits
+past_by (Some past) limits = past
+
+-- what is left now
+abbrev pub past_of : Out → Past
+past_of o = past_by o.past (left o.code)
+
+-- what is left behind an item: an instruction, whose text has bytes of its own, or a label's place
+abbrev pub without_bytes : ℕ → Past → Past
+without_bytes bytes past = record past { code = less past.code bytes }
+
+abbrev pub without : Item → Past → Past
+without (Instruction parts) past = without_bytes (length parts.text) (taken (counts_of (front_cells parts)) past)
+without (Mark label) past = taken (counts_of (Of (Marks label) ∷ [])) past
+
+-- an item that is not laid any more counts all the same
+abbrev pub passed : Item → Code
+passed item o = record o { past = Some (without item (past_of o)) }
+
+-- the first limit that was passed, in the order of the settings
+abbrev pub full_of : Option ℕ → Setting → Option Setting → Option Setting
+full_of None limit others = Some limit
+full_of (Some rest) limit others = others
+
+abbrev pub full_past : Past → Option Setting
+full_past past =
+    if past.symbols then Some setting.Symbols else
+    full_of past.labels setting.Labels (full_of past.code setting.Code (full_of past.refs setting.References None))
+
+abbrev pub full_by : Option Past → Option Setting
+full_by None = None
+full_by (Some past) = full_past past
+
+abbrev pub full : Out → Option Setting
+full o = full_by o.past
+
+-- Items
+
+-- the first limit that an item in the open routine would pass, and the routines with it
+abbrev pub full_item : Item → Routines → Option CodeSetting
+full_item (Instruction parts) routines = full_with parts routines
+full_item (Mark label) routines = full_label routines
+
+abbrev pub grown : Item → Routines → Routines
+grown (Instruction parts) routines = record routines { opened = with_item parts routines.opened }
+grown (Mark label) routines = record routines { opened = with_mark label routines.opened }
+
+-- An item is laid: into the code that is kept apart, if there is such code, and else into the open routine. From the first item on that would pass
+-- a limit nothing is laid any more.
+abbrev pub fitted : Option CodeSetting → Item → Code
+fitted None item o = record o { code = grown item o.code }
+fitted (Some limit) item o = passed item o
+
+abbrev pub in_routine : Option Past → Item → Code
+in_routine None item o = fitted (full_item item o.code) item o
+in_routine (Some past) item o = passed item o
+
+abbrev pub laid_by : Option (List Item) → Item → Code
+laid_by None item o = in_routine o.past item o
+laid_by (Some items) item o = record o { kept = Some (items ++ item ∷ []) }
+
+unfoldable pub laid : Item → Code
+laid item o = laid_by o.kept item o
+
+-- items one behind the other
+abbrev pub laid_all : List Item → Code
+laid_all [] o = o
+laid_all (item ∷ items) o = laid_all items (laid item o)
+
+-- What is laid from here on is kept apart, and no longer.
+abbrev pub apart : Code
+apart o = record o { kept = Some [] }
+
+abbrev pub together : Code
+together o = record o { kept = None }
+
+abbrev pub items_of : Option (List Item) → List Item
+items_of None = []
+items_of (Some items) = items
+
+-- Routines
+
+-- another routine is open, unless that passes a limit; its labels are counted from 0
+abbrev pub passed_limit : CodeSetting → Past → Past
+passed_limit code_setting.Labels past = record past { labels = None }
+passed_limit code_setting.Code past = record past { code = None }
+passed_limit code_setting.Refs past = record past { refs = None }
+
+abbrev pub opened_by : Option CodeSetting → ℕ → Bool → Code
+opened_by None locals is_lost o = record o { code = with_opened locals is_lost o.code; next = 0 }
+opened_by (Some limit) locals is_lost o =
+    let code = with_none_open o.code in
+    record o { code = code; next = 0; past = Some (passed_limit limit (past_by o.past (left code))) }
+
+abbrev pub opened : ℕ → Bool → Code
+opened locals is_lost o = opened_by (full_opened is_lost o.code) locals is_lost o
+
+-- Words
+
+abbrev pub nothing : Code
+nothing o = o
+
+-- one piece behind another
+infixr 30 ◌▸◌
+abbrev pub ◌▸◌ : Code → Code → Code
+(first ▸ second) o = second (first o)
+
+-- the number behind a label's; numbers end long behind the most labels that a routine may have
+unfoldable pub behind : ℕ → ℕ
+behind number = min (number + 1) 4294967295
+
+abbrev pub next_label : Out → Label
+next_label o = record { number = o.next }
+
+-- code with a label of its own
+abbrev pub with_label : (Label → Code) → Code
+with_label body o = body (next_label o) (record o { next = behind o.next })
+
+-- an instruction of simple operands, and one whose first operand names a variable
+unfoldable pub instruction : Opcode → List Simple → Option ℕ → Option Branch → Code
+instruction opcode operands store branch o =
+    laid (Instruction (record { opcode = opcode; operands = map written operands; store = store; branch = branch; text = [] })) o
+
+unfoldable pub naming : Opcode → ℕ → List Simple → Option ℕ → Option Branch → Code
+naming opcode variable operands store branch o =
+    laid (Instruction (record { opcode = opcode; operands = Small variable ∷ map written operands; store = store; branch = branch; text = [] })) o
+
+-- a label's place, a jump to it, and a branch that is taken where the truth of a test is this
+unfoldable pub marked : Label → Code
+marked label o = laid (Mark label) o
+
+unfoldable pub jumped : Label → Code
+jumped label o =
+    laid (Instruction (record { opcode = opcode.Jump; operands = Offset label ∷ []; store = None; branch = None; text = [] })) o
+
+abbrev pub to : Bool → Label → Option Branch
+to sense label = Some (record { sense = sense; target = To label })
+
+-- that an opcode takes so many operands of which none names a variable, with a store and a branch or without (Z-Machine Standard 1.1, section 14)
+pub record Takes (opcode : Opcode) (operands : ℕ) (with_store with_branch : Bool) : Type 0 where
+  pub enough : (row_of opcode).least ≤ operands
+  pub few : operands ≤ (row_of opcode).most
+  pub variable : (row_of opcode).names_variable ≡ false
+  pub jump : (row_of opcode).jumps ≡ false
+  pub stores : with_store ≡ (row_of opcode).stores
+  pub branches : with_branch ≡ (row_of opcode).branches
+  pub text : (row_of opcode).has_text ≡ false
+
+-- the same of one whose first operand names a variable, with so many operands behind it
+pub record TakesVariable (opcode : Opcode) (operands : ℕ) (with_store with_branch : Bool) : Type 0 where
+  pub enough : (row_of opcode).least ≤ operands + 1
+  pub few : operands + 1 ≤ (row_of opcode).most
+  pub jump : (row_of opcode).jumps ≡ false
+  pub stores : with_store ≡ (row_of opcode).stores
+  pub branches : with_branch ≡ (row_of opcode).branches
+  pub text : (row_of opcode).has_text ≡ false
+
+-- Routines of the veneer
+
+-- what a name stands for whose number is known, or that is a variable
+abbrev pub standing_simple : Meaning → Option Simple
+standing_simple (meaning.Number number) = Some (Known number)
+standing_simple (meaning.Variable number) = Some (Variable number)
+standing_simple (meaning.Attribute number) = Some (Known number)
+standing_simple (meaning.Property number is_additive) = Some (Known number)
+standing_simple (meaning.IndividualProperty number) = Some (Known number)
+standing_simple (meaning.Object number) = Some (Known number)
+standing_simple (meaning.Class number) = Some (Known number)
+standing_simple (meaning.FakeAction number) = Some (Known number)
+standing_simple (meaning.Text place) = None
+standing_simple (meaning.Word place) = None
+standing_simple (meaning.LowString place) = None
+standing_simple (meaning.Array place) = None
+standing_simple (meaning.Routine place) = None
+standing_simple (meaning.Function function) = None
+
+-- a name that has a number among the names is a reference by that, unless it stands for something itself
+abbrev pub simple_by : Option Simple → Option ℕ → Simple
+simple_by (Some simple) number = simple
+simple_by None None = Known 0
+simple_by None (Some number) = Later (target.Name number)
+
+abbrev pub found_simple : Found Place → Option ℕ → Simple
+found_simple (found.System meaning) number = simple_by (standing_simple meaning) number
+found_simple (found.Declared meaning place) number = simple_by (standing_simple meaning) number
+found_simple found.Used number = simple_by None number
+found_simple found.Unknown number = simple_by None number
+
+-- The operand by which a routine is called: its name is looked up where it is called, and no local hides it. A name that is one too many is no
+-- reference to anything, since nothing is laid any more.
+abbrev pub routine_by : Option ReferFault → List ℕ → Table Place → Simple
+routine_by None name names = found_simple (found_in name names) (number_of name names)
+routine_by (Some fault) name names = Later (target.Name 0)
+
+unfoldable pub routine : Veneer → Out → Simple
+routine veneer o = routine_by (refer_fault (name_of veneer) o.names) (name_of veneer) o.names
+
+-- Its name is used there, at the first token of the unit.
+abbrev pub used_by : Option ReferFault → List ℕ → Code
+used_by None name o = record o { names = with_used name o.first o.names }
+used_by (Some fault) name o = record o { past = Some (record (past_of o) { symbols = true }) }
+
+unfoldable pub used : Veneer → Code
+used veneer o = used_by (refer_fault (name_of veneer) o.names) (name_of veneer) o
+
+-- code that calls a routine of the veneer
+abbrev pub with_routine : Veneer → (Simple → Code) → Code
+with_routine veneer body o = body (routine veneer o) (used veneer o)

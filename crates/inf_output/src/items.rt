@@ -1,0 +1,140 @@
+//! Items that are kept apart and come later.
+ghost use Rattle.std.specs.Prelude.{◌≡◌, ◌≤◌, ◌++◌, ◌∷◌, [], IfOk, OnOk, length};
+ghost use Rattle.inf_opcode.specs.Instructions.{IsProper};
+ghost use Rattle.inf_opcode.specs.PartsOf.{parts_of};
+
+use arrayvec::ArrayVec;
+use inf_opcode::{Branch, Instruction, Label, MOST_OPERANDS, Opcode, Operand};
+use std::alloc::{AllocError, Global};
+use std::marker::Model;
+
+/// An instruction, whose parts are those that the instruction set gives its opcode.
+#[derive(Debug, Drop)]
+pub struct KeptInstruction {
+    opcode: Opcode,
+    operands: ArrayVec<Operand, MOST_OPERANDS>,
+    store: Option<u8>,
+    branch: Option<Branch>,
+    text: Vec<u8>,
+}
+
+impl Model for KeptInstruction {
+    ghost use Rattle.inf_opcode.specs.Instructions.{Parts, IsProper};
+
+    ghost Value = { Parts };
+
+    ghost view = { λ k. record { opcode = k.opcode; operands = k.operands.items; store = k.store; branch = k.branch; text = k.text.items } };
+
+    ghost invariant = { λ k. IsProper (record { opcode = k.opcode; operands = k.operands.items; store = k.store; branch = k.branch; text = k.text.items }) };
+}
+
+/// What code is made of.
+#[derive(Debug, Drop)]
+pub enum Item {
+    Instruction(KeptInstruction),
+    /// The place of a label.
+    Mark(Label),
+}
+
+/// Items in order.
+#[derive(Debug, Drop)]
+pub struct Items {
+    alloc: Global,
+    list: Vec<Item>,
+}
+
+impl Model for Items {
+    ghost use Rattle.std.specs.Prelude.{List};
+    ghost use Rattle.inf_output.specs.declared.items.Item.{Item};
+
+    ghost Value = { List Item };
+
+    ghost view = { λ i. i.list.items };
+}
+
+/// The operands of an instruction: no more than its opcode takes, and the instruction set has no opcode that takes more than eight.
+pub(crate) fn proper_operands<'a>(instruction: &Instruction<'a>) -> &'a [Operand]
+    requires { IsProper (parts_of instruction.now) }
+    ensures value { result.now ≡ (parts_of instruction.now).operands }
+    ensures few { length result.now ≤ 8 }
+{
+    let operands = instruction.operands;
+    let most = usize::from(instruction.opcode.row().most);
+    operands.get(..most).unwrap_or(operands)
+}
+
+impl KeptInstruction {
+    /// An instruction that is kept.
+    fn new(alloc: Global, instruction: &Instruction<'_>) -> Result<KeptInstruction, AllocError>
+        requires { IsProper (parts_of instruction.now) }
+        ensures { IfOk result (λ kept. kept ≡ parts_of instruction.now) }
+    {
+        let mut operands = ArrayVec::new();
+        if operands
+            .try_extend_from_slice(proper_operands(instruction))
+            .is_err()
+        {
+            unreachable!()
+        }
+        Ok(KeptInstruction {
+            opcode: instruction.opcode,
+            operands,
+            store: instruction.store,
+            branch: instruction.branch,
+            text: instruction.text.to_vec(alloc)?,
+        })
+    }
+
+    /// It as an instruction.
+    pub(crate) fn instruction(&self) -> Instruction<'_>
+        ensures value { parts_of result ≡ self.now }
+        ensures proper { IsProper self.now }
+    {
+        Instruction {
+            opcode: self.opcode,
+            operands: &self.operands,
+            store: self.store,
+            branch: self.branch,
+            text: &self.text,
+        }
+    }
+}
+
+impl Items {
+    ghost use Rattle.inf_output.specs.declared.items.Item.TheVariants as item;
+
+    /// No items. It takes no memory until the first one comes.
+    pub(crate) fn new(alloc: Global) -> Items
+        ensures { result ≡ [] }
+    {
+        Items {
+            alloc,
+            list: Vec::new(alloc),
+        }
+    }
+
+    /// An instruction behind the others.
+    pub(crate) fn instruction(&mut self, instruction: &Instruction<'_>) -> Result<(), AllocError>
+        requires { IsProper (parts_of instruction.now) }
+        ensures { OnOk result (self.new ≡ self.old ++ item.Instruction (parts_of instruction.now) ∷ []) }
+    {
+        let kept = KeptInstruction::new(self.alloc, instruction)?;
+        self.list.push(Item::Instruction(kept))?;
+        Ok(())
+    }
+
+    /// The place of a label behind the others.
+    pub(crate) fn mark(&mut self, label: Label) -> Result<(), AllocError>
+        ensures { OnOk result (self.new ≡ self.old ++ item.Mark label ∷ []) }
+    {
+        self.list.push(Item::Mark(label))?;
+        Ok(())
+    }
+
+    /// The items, in order.
+    pub(crate) fn as_slice(&self) -> &[Item]
+        ensures { result.now ≡ self.now }
+    {
+        self.list.as_slice()
+    }
+}

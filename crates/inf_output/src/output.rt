@@ -1,0 +1,442 @@
+//! What units are laid into.
+ghost use Rattle.std.specs.Prelude.{◌≡◌, ◌≤◌, [], IfOk, None, OnOk, is_some, length};
+ghost use Rattle.inf_opcode.specs.Counts.{counts_of};
+ghost use Rattle.inf_opcode.specs.Instructions.{IsProper, front_cells};
+ghost use Rattle.inf_opcode.specs.PartsOf.{parts_of};
+ghost use Rattle.inf_names.specs.declared.meanings.Meaning.{Meaning as Standing};
+ghost use Rattle.inf_output.specs.declared.items.Item.TheVariants as item;
+ghost use Rattle.inf_output.specs.Output.{Takes, TakesVariable, apart, behind, found_simple, full, full_of, full_past, in_routine, instruction, items_of, jumped, laid, laid_all, less, marked, naming, next_label, opened, passed, passed_limit, past_of, routine, simple_by, standing_simple, taken, together, used, whole};
+
+use crate::items::{Item, Items, proper_operands};
+use crate::operands::{Simple, with_written};
+use crate::veneer::Veneer;
+use arrayvec::ArrayVec;
+use inf_area::Target;
+use inf_assembler::{GrowFault, Setting as CodeSetting};
+use inf_code::code::{Code, CodeLimits};
+use inf_names::meanings::Meaning;
+use inf_names::symbols::{Found, ReferFault, Symbols};
+use inf_opcode::{Branch, Counts, Instruction, Label, Opcode, Operand, instruction_counts};
+use inf_scanner::Place;
+use inf_settings::setting::Setting;
+use std::alloc::{AllocError, Global};
+
+/// What is left of each limit, one of which was passed; nothing of those that were.
+#[derive(Clone, Copy, Debug, PartialEq, Eq)]
+pub struct Past {
+    /// Whether there are more names than there may be.
+    pub symbols: bool,
+    /// The labels, branches and jumps that the open routine may still take.
+    pub labels: Option<usize>,
+    /// The bytes of code.
+    pub code: Option<usize>,
+    /// The references.
+    pub refs: Option<usize>,
+}
+
+/// What the units of a routine are laid into.
+#[derive(Drop)]
+pub struct Output {
+    pub code: Code,
+    pub names: Symbols<Place>,
+    /// The place of the first token of the unit at hand, where routines of the veneer are used.
+    pub first: Place,
+    /// The number of the next label of the routine at hand.
+    pub next: u32,
+    /// What is left of each limit once one was passed. From then on nothing is laid, but counted.
+    pub past: Option<Past>,
+    /// The items of code that is kept apart, which comes later: what is laid goes there.
+    pub kept: Option<Items>,
+}
+
+/// So much more of a limit.
+fn less(rest: Option<usize>, more: usize) -> Option<usize>
+    ensures { result ≡ less rest more }
+{
+    rest?.checked_sub(more)
+}
+
+/// The first limit, which nothing is left of, or one behind it.
+fn full_of(rest: Option<usize>, limit: Setting, others: Option<Setting>) -> Option<Setting>
+    ensures { result ≡ full_of rest limit others }
+{
+    match rest {
+        None => Some(limit),
+        Some(_) => others,
+    }
+}
+
+impl Past {
+    /// So much is left, and no limit was passed.
+    fn whole(limits: CodeLimits) -> Past
+        ensures { result ≡ whole limits }
+    {
+        Past {
+            symbols: false,
+            labels: Some(limits.labels),
+            code: Some(limits.code),
+            refs: Some(limits.refs),
+        }
+    }
+
+    /// So much more of the limits.
+    fn taken(self, counts: Counts) -> Past
+        ensures { result ≡ taken counts self }
+    {
+        Past {
+            symbols: self.symbols,
+            labels: less(self.labels, counts.labels),
+            code: less(self.code, counts.bytes),
+            refs: less(self.refs, counts.fixups),
+        }
+    }
+
+    /// A limit is passed.
+    fn passed(self, limit: CodeSetting) -> Past
+        ensures { result ≡ passed_limit limit self }
+    {
+        match limit {
+            CodeSetting::Labels => Past {
+                labels: None,
+                ..self
+            },
+            CodeSetting::Code => Past { code: None, ..self },
+            CodeSetting::Refs => Past { refs: None, ..self },
+        }
+    }
+
+    /// The first of the limits that were passed, in the order of the settings.
+    fn full(self) -> Option<Setting>
+        ensures { result ≡ full_past self }
+    {
+        if self.symbols {
+            return Some(Setting::Symbols);
+        }
+        let others = full_of(self.refs, Setting::References, None);
+        full_of(
+            self.labels,
+            Setting::Labels,
+            full_of(self.code, Setting::Code, others),
+        )
+    }
+}
+
+/// How much an instruction takes without its text.
+fn proper_counts(instruction: &Instruction<'_>) -> Counts
+    requires { IsProper (parts_of instruction.now) }
+    ensures { result ≡ counts_of (front_cells (parts_of instruction.now)) }
+{
+    let operands = proper_operands(instruction);
+    instruction_counts(&Instruction {
+        operands,
+        ..*instruction
+    })
+}
+
+/// What a name stands for whose number is known, or that is a variable.
+fn standing(meaning: Meaning) -> Option<Simple>
+    ensures { result ≡ standing_simple meaning }
+{
+    match meaning {
+        Meaning::Variable(number) => Some(Simple::Variable(number)),
+        Meaning::Attribute(number) | Meaning::Property { number, .. } => {
+            Some(Simple::Known(number as u16))
+        }
+        Meaning::Number(number)
+        | Meaning::IndividualProperty(number)
+        | Meaning::Object(number)
+        | Meaning::Class(number)
+        | Meaning::FakeAction(number) => Some(Simple::Known(number)),
+        Meaning::Text(_)
+        | Meaning::Word(_)
+        | Meaning::LowString(_)
+        | Meaning::Array(_)
+        | Meaning::Routine(_)
+        | Meaning::Function(_) => None,
+    }
+}
+
+/// What a name stands for as an operand: something itself, or a reference by its number among the names.
+fn simple(standing: Option<Simple>, number: Option<usize>) -> Simple
+    ensures { result ≡ simple_by standing number }
+{
+    match (standing, number) {
+        (Some(simple), _) => simple,
+        (None, Some(number)) => Simple::Later(Target::Name(number)),
+        (None, None) => Simple::Known(0),
+    }
+}
+
+/// What a name is as an operand, by what looking for it finds.
+fn found(found: Found<Place>, number: Option<usize>) -> Simple
+    ensures { result ≡ found_simple found number }
+{
+    match found {
+        Found::System(meaning) | Found::Declared(meaning, _) => simple(standing(meaning), number),
+        Found::Used | Found::Unknown => simple(None, number),
+    }
+}
+
+impl Output {
+    /// An output for some code and names, of which no routine was begun.
+    pub fn new(code: Code, names: Symbols<Place>, first: Place) -> Output
+        ensures { result ≡ record { code = code; names = names; first = first; next = 0; past = None; kept = None } }
+    {
+        Output {
+            code,
+            names,
+            first,
+            next: 0,
+            past: None,
+            kept: None,
+        }
+    }
+
+    /// The first limit that was passed, in the order of the settings, counted over all that was laid since.
+    pub fn full(&self) -> Option<Setting>
+        ensures { result ≡ full self.now }
+    {
+        self.past?.full()
+    }
+
+    /// Opens a routine of so many locals, at most 15, which is lost or not; its labels are counted from 0. Where that would pass a limit none
+    /// is open, and the limit is passed. One that is open is given up.
+    pub fn open(&mut self, alloc: Global, locals: u8, is_lost: bool) -> Result<(), AllocError>
+        requires { locals ≤ 15 }
+        ensures { OnOk result (self.new ≡ opened locals is_lost self.old) }
+    {
+        self.next = 0;
+        match self.code.open(alloc, locals, is_lost) {
+            Ok(()) => Ok(()),
+            Err(GrowFault::Full(limit)) => {
+                self.past = Some(self.rest().passed(limit));
+                Ok(())
+            }
+            Err(GrowFault::Memory) => Err(AllocError),
+        }
+    }
+
+    /// What is left of each limit.
+    fn rest(&self) -> Past
+        ensures { result ≡ past_of self.now }
+    {
+        match self.past {
+            Some(past) => past,
+            None => Past::whole(self.code.left()),
+        }
+    }
+
+    /// An instruction is not laid any more, but counted.
+    fn pass(&mut self, instruction: &Instruction<'_>)
+        requires { IsProper (parts_of instruction.now) }
+        ensures { self.new ≡ passed (item.Instruction (parts_of instruction.now)) self.old }
+    {
+        let past = self.rest().taken(proper_counts(instruction));
+        self.past = Some(Past {
+            code: less(past.code, instruction.text.len()),
+            ..past
+        });
+    }
+
+    /// A label's place is not laid any more, but counted.
+    fn pass_mark(&mut self, label: Label)
+        ensures { self.new ≡ passed (item.Mark label) self.old }
+    {
+        self.past = Some(
+            self.rest().taken(Counts {
+                bytes: 0,
+                labels: 1,
+                fixups: 0,
+            }),
+        );
+    }
+
+    /// A label that was not handed out for the routine at hand.
+    #[tactic(auto, unfolding(crate::specs::Output::behind))]
+    pub fn label(&mut self) -> Label
+        ensures label { result ≡ next_label self.old }
+        ensures next { self.new ≡ record self.old { next = behind self.old.next } }
+    {
+        let label = Label { number: self.next };
+        self.next = self.next.saturating_add(1);
+        label
+    }
+
+    /// An instruction, whose parts are those that the instruction set gives its opcode (Z-Machine Standard 1.1, section 14).
+    #[tactic(auto, unfolding(crate::specs::Output::laid))]
+    pub fn emit(&mut self, instruction: &Instruction<'_>) -> Result<(), AllocError>
+        requires { IsProper (parts_of instruction.now) }
+        ensures { OnOk result (self.new ≡ laid (item.Instruction (parts_of instruction.now)) self.old) }
+    {
+        match &mut self.kept {
+            Some(kept) => kept.instruction(instruction),
+            None => self.emit_in_routine(instruction),
+        }
+    }
+
+    /// An instruction in the open routine.
+    #[tactic(auto, using(crate::proofs::Limits::is_passed))]
+    fn emit_in_routine(&mut self, instruction: &Instruction<'_>) -> Result<(), AllocError>
+        requires { IsProper (parts_of instruction.now) }
+        ensures { OnOk result (self.new ≡ in_routine self.old.past (item.Instruction (parts_of instruction.now)) self.old) }
+    {
+        if self.past.is_some() {
+            self.pass(instruction);
+            return Ok(());
+        }
+        match self.code.emit(instruction) {
+            Ok(()) => Ok(()),
+            Err(GrowFault::Full(_)) => {
+                self.pass(instruction);
+                Ok(())
+            }
+            Err(GrowFault::Memory) => Err(AllocError),
+        }
+    }
+
+    /// The place of a label.
+    #[tactic(auto, unfolding(crate::specs::Output::laid, crate::specs::Output::marked))]
+    pub fn mark(&mut self, label: Label) -> Result<(), AllocError>
+        ensures { OnOk result (self.new ≡ marked label self.old) }
+    {
+        match &mut self.kept {
+            Some(kept) => kept.mark(label),
+            None => self.mark_in_routine(label),
+        }
+    }
+
+    /// The place of a label in the open routine.
+    #[tactic(auto, using(crate::proofs::Limits::is_passed))]
+    fn mark_in_routine(&mut self, label: Label) -> Result<(), AllocError>
+        ensures { OnOk result (self.new ≡ in_routine self.old.past (item.Mark label) self.old) }
+    {
+        if self.past.is_some() {
+            self.pass_mark(label);
+            return Ok(());
+        }
+        match self.code.label(label) {
+            Ok(()) => Ok(()),
+            Err(GrowFault::Full(_)) => {
+                self.pass_mark(label);
+                Ok(())
+            }
+            Err(GrowFault::Memory) => Err(AllocError),
+        }
+    }
+
+    /// A jump to a label.
+    #[tactic(auto, unfolding(crate::specs::Output::jumped))]
+    pub fn jump(&mut self, label: Label) -> Result<(), AllocError>
+        ensures { OnOk result (self.new ≡ jumped label self.old) }
+    {
+        self.emit(&Instruction::new(Opcode::Jump, &[Operand::Offset(label)], None))
+    }
+
+    /// An instruction of simple operands.
+    #[tactic(auto, using(crate::proofs::Proper::is_proper), unfolding(crate::specs::Output::instruction))]
+    pub fn instruct(
+        &mut self,
+        opcode: Opcode,
+        operands: &[Simple],
+        store: Option<u8>,
+        branch: Option<Branch>,
+    ) -> Result<(), AllocError>
+        requires { Takes opcode (length operands.now) (is_some store) (is_some branch) }
+        ensures { OnOk result (self.new ≡ instruction opcode operands.now store branch self.old) }
+    {
+        let operands = with_written(ArrayVec::new(), operands);
+        self.emit(&Instruction {
+            opcode,
+            operands: &operands,
+            store,
+            branch,
+            text: &[],
+        })
+    }
+
+    /// An instruction whose first operand names a variable.
+    #[tactic(auto, using(crate::proofs::Proper::is_proper_naming), unfolding(crate::specs::Output::naming))]
+    pub fn instruct_naming(
+        &mut self,
+        opcode: Opcode,
+        variable: u8,
+        operands: &[Simple],
+        store: Option<u8>,
+        branch: Option<Branch>,
+    ) -> Result<(), AllocError>
+        requires { TakesVariable opcode (length operands.now) (is_some store) (is_some branch) }
+        ensures { OnOk result (self.new ≡ naming opcode variable operands.now store branch self.old) }
+    {
+        let mut front = ArrayVec::new();
+        front.push(Operand::Small(variable));
+        let operands = with_written(front, operands);
+        self.emit(&Instruction {
+            opcode,
+            operands: &operands,
+            store,
+            branch,
+            text: &[],
+        })
+    }
+
+    /// The operand by which a routine of the veneer is called, whose name is looked up, and used at the first token of the unit.
+    #[tactic(auto, unfolding(crate::specs::Output::routine, crate::specs::Output::used))]
+    pub fn routine(&mut self, veneer: Veneer) -> Result<Simple, AllocError>
+        ensures operand { IfOk result (λ operand. operand ≡ routine veneer self.old) }
+        ensures used { OnOk result (self.new ≡ used veneer self.old) }
+    {
+        match self
+            .names
+            .find_and_refer(veneer.name().as_bytes(), self.first)
+        {
+            Ok((what, number)) => Ok(found(what, number)),
+            Err(ReferFault::Full) => {
+                self.past = Some(Past {
+                    symbols: true,
+                    ..self.rest()
+                });
+                Ok(Simple::Later(Target::Name(0)))
+            }
+            Err(ReferFault::Memory) => Err(AllocError),
+        }
+    }
+
+    /// What is laid from here on is kept apart. What was kept so far is dropped.
+    pub fn set_apart(&mut self, alloc: Global)
+        ensures { self.new ≡ apart self.old }
+    {
+        self.kept = Some(Items::new(alloc));
+    }
+
+    /// What is laid from here on goes into the routine again. Answers what was kept apart.
+    pub fn take_apart(&mut self, alloc: Global) -> Items
+        ensures items { result ≡ items_of self.old.kept }
+        ensures together { self.new ≡ together self.old }
+    {
+        match self.kept.take() {
+            Some(items) => items,
+            None => Items::new(alloc),
+        }
+    }
+
+    /// Items that were kept apart come now.
+    pub fn append(&mut self, items: &Items) -> Result<(), AllocError>
+        ensures { OnOk result (self.new ≡ laid_all items.now self.old) }
+    {
+        for item in items.as_slice() {
+            self.add(item)?;
+        }
+        Ok(())
+    }
+
+    /// An item that was kept.
+    #[tactic(auto, unfolding(crate::specs::Output::marked))]
+    fn add(&mut self, item: &Item) -> Result<(), AllocError>
+        ensures { OnOk result (self.new ≡ laid item.now self.old) }
+    {
+        match item {
+            Item::Instruction(kept) => self.emit(&kept.instruction()),
+            Item::Mark(label) => self.mark(*label),
+        }
+    }
+}

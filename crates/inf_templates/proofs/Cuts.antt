@@ -1,0 +1,37 @@
+-- The front of a list, and calls, of whose arguments seven are given.
+use Rattle.std.proofs.Common.{◌≡◌, ℕ, zero, suc, ◌≤◌, List, [], ◌∷◌, ◌++◌, Option, None, length, take, ap, sym, ◌∙◌, refl}
+use Rattle.std.proofs.Math.Seq.{take-append_seam}
+use Rattle.std.proofs.lemmas.List.{take_all}
+use Rattle.inf_output.specs.declared.operands.Simple.{Simple}
+use Rattle.inf_output.specs.declared.veneer.Veneer.{Veneer}
+use Rattle.inf_output.specs.Output.{Out, instruction, routine, used}
+use Rattle.inf_templates.specs.Parts.{call_opcode, calling, calling_routine}
+
+-- what was found so far is the front
+pub front : (n : ℕ) (found rest all : List Simple) → found ++ rest ≡ all → length found ≡ n → found ≡ take n all
+front n found rest all is len =
+    sym (take-append_seam found rest) ∙ ap (λ m. take m (found ++ rest)) len ∙ ap (take n) is
+
+-- it is all
+pub whole : (n : ℕ) (found new rest all : List Simple) (x : Simple) → found ++ rest ≡ all → rest ≡ x ∷ [] → new ≡ found ++ x ∷ [] → length new ≤ n → new ≡ take n all
+whole n found new rest all x is last new_is len =
+    let same : new ≡ all = new_is ∙ ap (λ r. found ++ r) (sym last) ∙ is in
+    sym (take_all n new len) ∙ ap (take n) same
+
+-- the front of a front
+taken_twice : (n : ℕ) (all : List Simple) → take n (take n all) ≡ take n all
+taken_twice zero all = refl
+taken_twice (suc n) [] = refl
+taken_twice (suc n) (x ∷ all) = ap (λ xs. x ∷ xs) (taken_twice n all)
+
+front_twice : (given all : List Simple) → given ≡ take 7 all → take 7 given ≡ take 7 all
+front_twice given all is = ap (take 7) is ∙ taken_twice 7 all
+
+pub calling_given : (f : Simple) (given all : List Simple) (store : Option ℕ) (o : Out) → given ≡ take 7 all → calling f given store o ≡ calling f all store o
+unfolding calling
+calling_given f given all store o is =
+    ap (λ gs. instruction (call_opcode store (length gs)) (f ∷ gs) store None o) (front_twice given all is)
+
+pub calling_routine_given : (v : Veneer) (given all : List Simple) (store : Option ℕ) (o : Out) → given ≡ take 7 all → calling_routine v given store o ≡ calling_routine v all store o
+unfolding calling_routine
+calling_routine_given v given all store o is = calling_given (routine v o) given all store (used v o) is

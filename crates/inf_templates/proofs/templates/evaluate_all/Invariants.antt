@@ -1,0 +1,11 @@
+use Rattle.std.proofs.Common.{◌≡◌, length}
+use Rattle.inf_templates.specs.Parts.{evaluated}
+use Rattle.inf_templates.specs.Tasks.{parts_of}
+use Rattle.inf_templates.proofs.templates.evaluate_all.Given as goal
+
+-- what is left leads from here to where all leads
+abbrev pub invariant-loop-last : goal.invariant-loop-last
+invariant-loop-last l = evaluated (parts_of l.nodes l.left) l.out ≡ evaluated (parts_of l.nodes l.fn.arguments) l.initial.out
+
+abbrev pub decreases-loop-last : goal.decreases-loop-last
+decreases-loop-last l = length l.left

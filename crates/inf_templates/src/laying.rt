@@ -1,0 +1,299 @@
+//! Tasks, one by one.
+ghost use Rattle.std.specs.Prelude.{◌≡◌, ◌≤◌, ◌<◌, ◌+◌, [], ◌∷◌, ◌++◌, List, OnOk, Option, length, take};
+ghost use Rattle.inf_expressions.specs.Trees.{Tree};
+ghost use Rattle.inf_output.specs.Output.{Out};
+ghost use Rattle.inf_templates.specs.Parts.{operand_of, operands, worked_out};
+ghost use Rattle.inf_templates.specs.Meaning.{part, parts};
+ghost use Rattle.inf_templates.specs.Weights.{weight, weights};
+ghost use Rattle.inf_templates.specs.Tasks.{at, few_parts, task_code, tasks_code, worked_code};
+ghost use Rattle.inf_templates.specs.declared.tasks.Task.TheVariants as task;
+ghost use Rattle.inf_templates.specs.declared.tasks.Worked.TheVariants as worked;
+
+use crate::placing::{
+    MOST_ARGUMENTS, by, calling, calling_routine, compared, jump_zero, leaves_new, load,
+    operation_opcode, put, related_opcode, single_opcode, stepper, stepping, stored, to,
+};
+use crate::reading::{STACK, argument_of, most_compared, operand_of, split};
+use crate::rows::{alone, branch, value};
+use crate::tasks::{Argument, Few, Task, Tasks, Worked};
+use crate::testing::{single_tests, triple_tests};
+use arrayvec::ArrayVec;
+use inf_expressions::{Node, Nodes, Operation, Relative, Single, Test};
+use inf_opcode::{Label, MOST_OPERANDS, Opcode};
+use inf_output::{Output, Simple, Veneer};
+use std::alloc::AllocError;
+
+/// An operand goes to the stack, unless it is simple.
+fn evaluate(
+    nodes: &Nodes,
+    argument: Argument,
+    tasks: &mut Tasks,
+    out: &mut Output,
+) -> Result<(), AllocError>
+    ensures code { OnOk result (tasks_code nodes.now tasks.new out.new ≡ tasks_code nodes.now (task.Evaluate argument ∷ tasks.old) out.old) }
+    ensures less { OnOk result (weights nodes.now tasks.new < weight nodes.now (task.Evaluate argument) + weights nodes.now tasks.old) }
+{
+    match argument {
+        Argument::Is(_) => Ok(()),
+        Argument::Of(place) => match nodes.node(place) {
+            Node::Leaf(_) => Ok(()),
+            Node::One(..) | Node::Two(..) => value(nodes, place, STACK, tasks, out),
+        },
+    }
+}
+
+/// The members of a list, from the last to the first.
+fn list(nodes: &Nodes, place: usize, tasks: &mut Tasks) -> Result<(), AllocError>
+    ensures code { OnOk result ((o : Out) → tasks_code nodes.now tasks.new o ≡ tasks_code nodes.now (task.List place ∷ tasks.old) o) }
+    ensures less { OnOk result (weights nodes.now tasks.new < weight nodes.now (task.List place) + weights nodes.now tasks.old) }
+{
+    match split(nodes, place) {
+        Some((a, others)) => tasks.first(&[Task::List(others), Task::Evaluate(Argument::Of(a))]),
+        None => tasks.first(&[Task::Evaluate(Argument::Of(place))]),
+    }
+}
+
+/// Some operands and the members of a list: of all the first, at most so many.
+fn with_list(
+    nodes: &Nodes,
+    front: ArrayVec<Simple, MOST_OPERANDS>,
+    list: usize,
+    most: usize,
+) -> ArrayVec<Simple, MOST_OPERANDS>
+    requires front { length front.items ≤ most }
+    requires few { most ≤ 8 }
+    ensures value { result.items ≡ take most (front.items ++ operands (parts (at nodes.now list))) }
+    ensures few { length result.items ≤ most }
+    ensures more { length front.items < most → length front.items < length result.items }
+{
+    let mut operands = front;
+    let mut left = list;
+    for _ in operands.len()..most {
+        match split(nodes, left) {
+            Some((a, others)) => {
+                operands.push(operand_of(nodes, a));
+                left = others;
+            }
+            None => {
+                operands.push(operand_of(nodes, left));
+                return operands;
+            }
+        }
+    }
+    operands
+}
+
+/// The operands of a few trees.
+fn few_operands(nodes: &Nodes, few: Few) -> ArrayVec<Simple, MOST_OPERANDS>
+    ensures { result.items ≡ operands (few_parts nodes.now few) }
+{
+    let mut operands = ArrayVec::new();
+    match few {
+        Few::One(a) => operands.push(operand_of(nodes, a)),
+        Few::Two(a, b) => {
+            operands.push(operand_of(nodes, a));
+            operands.push(operand_of(nodes, b));
+        }
+        Few::Three(a, b, c) => {
+            operands.push(operand_of(nodes, a));
+            operands.push(operand_of(nodes, b));
+            operands.push(operand_of(nodes, c));
+        }
+    }
+    operands
+}
+
+/// The instruction of an operation.
+fn compute(
+    nodes: &Nodes,
+    operation: Operation,
+    a: usize,
+    b: usize,
+    d: u8,
+    out: &mut Output,
+) -> Result<(), AllocError>
+    ensures { OnOk result (out.new ≡ worked_code nodes.now (worked.Compute operation a b d) out.old) }
+{
+    let operands = [operand_of(nodes, a), operand_of(nodes, b)];
+    out.instruct(operation_opcode(operation), &operands, Some(d), None)
+}
+
+/// An object that is found.
+fn find(
+    nodes: &Nodes,
+    relative: Relative,
+    a: usize,
+    d: u8,
+    label: Label,
+    out: &mut Output,
+) -> Result<(), AllocError>
+    ensures { OnOk result (out.new ≡ worked_code nodes.now (worked.Find relative a d label) out.old) }
+{
+    let operands = [operand_of(nodes, a)];
+    out.instruct(
+        related_opcode(relative),
+        &operands,
+        Some(d),
+        to(true, label),
+    )
+}
+
+/// A test with any of a list, of whose members one instruction takes the first.
+fn any(
+    nodes: &Nodes,
+    test: Test,
+    a: Argument,
+    list: usize,
+    sense: bool,
+    label: Label,
+    out: &mut Output,
+) -> Result<(), AllocError>
+    ensures { OnOk result (out.new ≡ worked_code nodes.now (worked.Any test a list sense label) out.old) }
+{
+    let mut front = ArrayVec::new();
+    front.push(argument_of(nodes, a));
+    let operands = with_list(nodes, front, list, most_compared(test));
+    compared(test, &operands, sense, label, out)
+}
+
+/// A call with a list of arguments.
+#[tactic(auto, using(crate::proofs::Cuts::calling_given))]
+fn call(
+    nodes: &Nodes,
+    f: usize,
+    list: usize,
+    store: Option<u8>,
+    out: &mut Output,
+) -> Result<(), AllocError>
+    ensures { OnOk result (out.new ≡ worked_code nodes.now (worked.Call f list store) out.old) }
+{
+    let arguments = with_list(nodes, ArrayVec::new(), list, MOST_ARGUMENTS);
+    calling(operand_of(nodes, f), &arguments, store, out)
+}
+
+/// A call of a property of an object.
+#[tactic(auto, using(crate::proofs::Cuts::calling_routine_given))]
+fn message(
+    nodes: &Nodes,
+    a: usize,
+    b: usize,
+    list: usize,
+    store: Option<u8>,
+    out: &mut Output,
+) -> Result<(), AllocError>
+    ensures { OnOk result (out.new ≡ worked_code nodes.now (worked.Message a b list store) out.old) }
+{
+    let mut front = ArrayVec::new();
+    front.push(operand_of(nodes, a));
+    front.push(operand_of(nodes, b));
+    let arguments = with_list(nodes, front, list, MOST_ARGUMENTS);
+    calling_routine(Veneer::CallProperty, &arguments, store, out)
+}
+
+/// A call of the first of a list.
+fn indirect(
+    nodes: &Nodes,
+    list: usize,
+    store: Option<u8>,
+    out: &mut Output,
+) -> Result<(), AllocError>
+    ensures { OnOk result (out.new ≡ worked_code nodes.now (worked.Indirect list store) out.old) }
+{
+    match split(nodes, list) {
+        Some((f, others)) => call(nodes, f, others, store, out),
+        None => calling(operand_of(nodes, list), &[], store, out),
+    }
+}
+
+/// An instruction whose parts are worked out.
+fn work(nodes: &Nodes, instruction: Worked, out: &mut Output) -> Result<(), AllocError>
+    ensures { OnOk result (out.new ≡ worked_code nodes.now instruction out.old) }
+{
+    match instruction {
+        Worked::Compute(operation, a, b, d) => compute(nodes, operation, a, b, d, out),
+        Worked::Negate(a, d) => {
+            let operands = [Simple::Known(0), operand_of(nodes, a)];
+            out.instruct(Opcode::Sub, &operands, Some(d), None)
+        }
+        Worked::Single(single, a, d) => {
+            let operands = [operand_of(nodes, a)];
+            out.instruct(single_opcode(single), &operands, Some(d), None)
+        }
+        Worked::Find(relative, a, d, label) => find(nodes, relative, a, d, label, out),
+        Worked::Three(x, b, c, d, label) => {
+            let operands = [
+                x,
+                operand_of(nodes, b),
+                operand_of(nodes, c),
+                operand_of(nodes, d),
+            ];
+            compared(Test::Equal, &operands, true, label, out)
+        }
+        Worked::Compare(test, x, b, sense, label) => {
+            let operands = [x, operand_of(nodes, b)];
+            compared(test, &operands, sense, label, out)
+        }
+        Worked::Any(test, a, list, sense, label) => any(nodes, test, a, list, sense, label, out),
+        Worked::Store(memory, a, b, c) => {
+            let operands = [
+                operand_of(nodes, a),
+                operand_of(nodes, b),
+                operand_of(nodes, c),
+            ];
+            stored(memory, &operands, out)
+        }
+        Worked::Routine(veneer, few, store) => {
+            calling_routine(veneer, &few_operands(nodes, few), store, out)
+        }
+        Worked::StepInMemory(before, step, memory, a, b, store) => {
+            let operands = [
+                operand_of(nodes, a),
+                operand_of(nodes, b),
+                by(step),
+                leaves_new(before),
+            ];
+            calling_routine(stepper(memory), &operands, store, out)
+        }
+        Worked::BareCall(f, store) => calling(operand_of(nodes, f), &[], store, out),
+        Worked::Call(f, list, store) => call(nodes, f, list, store, out),
+        Worked::Message(a, b, list, store) => message(nodes, a, b, list, store, out),
+        Worked::Indirect(list, store) => indirect(nodes, list, store, out),
+    }
+}
+
+/// One task, which is done or makes others.
+fn step(nodes: &Nodes, task: Task, tasks: &mut Tasks, out: &mut Output) -> Result<(), AllocError>
+    ensures code { OnOk result (tasks_code nodes.now tasks.new out.new ≡ tasks_code nodes.now (task ∷ tasks.old) out.old) }
+    ensures less { OnOk result (weights nodes.now tasks.new < weight nodes.now task + weights nodes.now tasks.old) }
+{
+    match task {
+        Task::Value(place, d) => value(nodes, place, d, tasks, out),
+        Task::Alone(place) => alone(nodes, place, tasks, out),
+        Task::Branch(place, sense, label) => branch(nodes, place, sense, label, tasks, out),
+        Task::Evaluate(argument) => evaluate(nodes, argument, tasks, out),
+        Task::List(place) => list(nodes, place, tasks),
+        Task::Triples(x, list, sense, label, there) => {
+            triple_tests(nodes, x, list, sense, label, there, tasks)
+        }
+        Task::Singles(test, x, list, sense, label, there) => {
+            single_tests(nodes, test, x, list, sense, label, there, tasks)
+        }
+        Task::Put(operand, d) => put(operand, d, out),
+        Task::Jump(label) => out.jump(label),
+        Task::Mark(label) => out.mark(label),
+        Task::Load(variable, d) => load(variable, d, out),
+        Task::Step(step, variable) => stepping(step, variable, out),
+        Task::JumpZero(operand, sense, label) => jump_zero(operand, sense, label, out),
+        Task::Instruct(instruction) => work(nodes, instruction, out),
+    }
+}
+
+/// What is left is laid, until nothing is left.
+pub(crate) fn lay_all(nodes: &Nodes, tasks: &mut Tasks, out: &mut Output) -> Result<(), AllocError>
+    ensures { OnOk result (out.new ≡ tasks_code nodes.now tasks.old out.old) }
+{
+    while let Some(task) = tasks.next() {
+        step(nodes, task, tasks, out)?;
+    }
+    Ok(())
+}

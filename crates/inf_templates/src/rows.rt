@@ -1,0 +1,485 @@
+//! What each operator is laid as, by its parts.
+ghost use Rattle.std.specs.Prelude.{◌≡◌, ◌≤◌, ◌<◌, ◌+◌, [], ◌∷◌, List, OnOk, IfOk, Option};
+ghost use Rattle.inf_expressions.specs.Trees.{Tree};
+ghost use Rattle.inf_output.specs.Output.{Out, behind, next_label};
+ghost use Rattle.inf_templates.specs.Parts.{call_routine};
+ghost use Rattle.inf_templates.specs.Meaning.{and_branch, assign_alone, assign_value, both, call_of, leaf_branch, or_branch, part, parts, reader, related, related_opcode, step_alone, step_value, truth_behind};
+ghost use Rattle.inf_templates.specs.Weights.{load_at, weight, weights};
+ghost use Rattle.inf_templates.specs.Tasks.{at, task_code, tasks_code};
+ghost use Rattle.inf_output.specs.declared.veneer.Veneer.TheVariants as veneer;
+ghost use Rattle.inf_templates.specs.declared.tasks.Task.TheVariants as task;
+ghost use Rattle.inf_templates.specs.declared.tasks.Worked.TheVariants as worked;
+
+use crate::placing::setter;
+use crate::reading::{Goal, STACK, TEMP, simple, target};
+use crate::tasks::{Argument, Few, Memory, Task, Tasks, Worked};
+use crate::testing::test_branch;
+use inf_expressions::{Binary, Node, Nodes, PropertyPart, Relative, Step, Unary};
+use inf_opcode::Label;
+use inf_output::{Output, Simple, Veneer};
+use std::alloc::AllocError;
+
+/// A tree with its value in a variable.
+pub(crate) fn value(
+    nodes: &Nodes,
+    place: usize,
+    to: u8,
+    tasks: &mut Tasks,
+    out: &mut Output,
+) -> Result<(), AllocError>
+    ensures code { OnOk result (tasks_code nodes.now tasks.new out.new ≡ tasks_code nodes.now (task.Value place to ∷ tasks.old) out.old) }
+    ensures less { OnOk result (weights nodes.now tasks.new < weight nodes.now (task.Value place to) + weights nodes.now tasks.old) }
+{
+    match nodes.node(place) {
+        Node::Leaf(operand) => tasks.first(&[Task::Put(simple(operand), to)]),
+        Node::One(Unary::Negate, a) => tasks.first(&[
+            Task::Evaluate(Argument::Of(a)),
+            Task::Instruct(Worked::Negate(a, to)),
+        ]),
+        Node::One(Unary::Not, a) => {
+            let fails = truth(to, tasks, out)?;
+            tasks.first(&[Task::Branch(a, true, fails)])
+        }
+        Node::One(Unary::Single(single), a) => tasks.first(&[
+            Task::Evaluate(Argument::Of(a)),
+            Task::Instruct(Worked::Single(single, a, to)),
+        ]),
+        Node::One(Unary::Before(step), a) => step_value(nodes, true, step, a, to, tasks),
+        Node::One(Unary::Behind(step), a) => step_value(nodes, false, step, a, to, tasks),
+        Node::One(Unary::Relative(relative), a) => related(relative, a, to, tasks, out),
+        Node::One(Unary::Children, a) => children(a, Some(to), tasks),
+        Node::One(Unary::Call, f) => bare_call(nodes, f, Some(to), tasks),
+        Node::One(Unary::Indirect, list) => indirect(list, Some(to), tasks),
+        Node::Two(Binary::Operation(operation), a, b) => tasks.first(&[
+            Task::Evaluate(Argument::Of(b)),
+            Task::Evaluate(Argument::Of(a)),
+            Task::Instruct(Worked::Compute(operation, a, b, to)),
+        ]),
+        Node::Two(Binary::Property(asked), a, b) => property(asked, a, b, Some(to), tasks),
+        Node::Two(Binary::Test(test), a, list) => {
+            let fails = truth(to, tasks, out)?;
+            test_branch(nodes, test, a, list, false, fails, tasks, out)
+        }
+        Node::Two(Binary::Fails(test), a, list) => {
+            let fails = truth(to, tasks, out)?;
+            test_branch(nodes, test, a, list, true, fails, tasks, out)
+        }
+        Node::Two(Binary::Assign, v, a) => assign_value(nodes, v, a, to, tasks),
+        Node::Two(Binary::Comma, a, b) => tasks.first(&[Task::Alone(a), Task::Value(b, to)]),
+        Node::Two(Binary::And, a, b) => {
+            let fails = truth(to, tasks, out)?;
+            and_branch(a, b, false, fails, tasks, out)
+        }
+        Node::Two(Binary::Or, a, b) => {
+            let fails = truth(to, tasks, out)?;
+            or_branch(a, b, false, fails, tasks, out)
+        }
+        Node::Two(Binary::Call, f, list) => call_of(nodes, f, list, Some(to), tasks),
+        Node::Two(Binary::Then | Binary::To, a, _) => tasks.first(&[Task::Value(a, to)]),
+    }
+}
+
+/// A tree without result.
+pub(crate) fn alone(
+    nodes: &Nodes,
+    place: usize,
+    tasks: &mut Tasks,
+    out: &mut Output,
+) -> Result<(), AllocError>
+    ensures code { OnOk result (tasks_code nodes.now tasks.new out.new ≡ tasks_code nodes.now (task.Alone place ∷ tasks.old) out.old) }
+    ensures less { OnOk result (weights nodes.now tasks.new < weight nodes.now (task.Alone place) + weights nodes.now tasks.old) }
+{
+    match nodes.node(place) {
+        Node::Leaf(_) => Ok(()),
+        Node::One(Unary::Before(step), a) => step_alone(nodes, true, step, a, tasks),
+        Node::One(Unary::Behind(step), a) => step_alone(nodes, false, step, a, tasks),
+        Node::One(Unary::Children, a) => children(a, None, tasks),
+        Node::One(Unary::Call, f) => bare_call(nodes, f, None, tasks),
+        Node::One(Unary::Indirect, list) => indirect(list, None, tasks),
+        Node::Two(Binary::Property(asked), a, b) => property(asked, a, b, None, tasks),
+        Node::Two(Binary::Assign, v, a) => assign_alone(nodes, v, a, tasks),
+        Node::Two(Binary::Call, f, list) => call_of(nodes, f, list, None, tasks),
+        Node::Two(Binary::Then | Binary::To, a, _) => tasks.first(&[Task::Alone(a)]),
+        Node::One(Unary::Negate | Unary::Not | Unary::Single(_) | Unary::Relative(_), _)
+        | Node::Two(
+            Binary::Operation(_)
+            | Binary::Test(_)
+            | Binary::Fails(_)
+            | Binary::Comma
+            | Binary::And
+            | Binary::Or,
+            _,
+            _,
+        ) => value(nodes, place, TEMP, tasks, out),
+    }
+}
+
+/// A tree as a branch to a label where its truth is this.
+pub(crate) fn branch(
+    nodes: &Nodes,
+    place: usize,
+    sense: bool,
+    label: Label,
+    tasks: &mut Tasks,
+    out: &mut Output,
+) -> Result<(), AllocError>
+    ensures code { OnOk result (tasks_code nodes.now tasks.new out.new ≡ tasks_code nodes.now (task.Branch place sense label ∷ tasks.old) out.old) }
+    ensures less { OnOk result (weights nodes.now tasks.new < weight nodes.now (task.Branch place sense label) + weights nodes.now tasks.old) }
+{
+    match nodes.node(place) {
+        Node::Leaf(operand) => leaf_branch(simple(operand), sense, label, tasks),
+        Node::One(Unary::Not, a) => tasks.first(&[Task::Branch(a, !sense, label)]),
+        Node::Two(Binary::And, a, b) => and_branch(a, b, sense, label, tasks, out),
+        Node::Two(Binary::Or, a, b) => or_branch(a, b, sense, label, tasks, out),
+        Node::Two(Binary::Test(test), a, list) => test_branch(
+            nodes, test, a, list, sense, label, tasks, out,
+        ),
+        Node::Two(Binary::Fails(test), a, list) => test_branch(
+            nodes, test, a, list, !sense, label, tasks, out,
+        ),
+        Node::One(
+            Unary::Negate
+            | Unary::Single(_)
+            | Unary::Before(_)
+            | Unary::Behind(_)
+            | Unary::Relative(_)
+            | Unary::Children
+            | Unary::Call
+            | Unary::Indirect,
+            _,
+        )
+        | Node::Two(
+            Binary::Operation(_)
+            | Binary::Property(_)
+            | Binary::Assign
+            | Binary::Comma
+            | Binary::Call
+            | Binary::Then
+            | Binary::To,
+            _,
+            _,
+        ) => {
+            tasks.first(&[Task::JumpZero(Simple::Variable(STACK), sense, label)])?;
+            value(nodes, place, STACK, tasks, out)
+        }
+    }
+}
+
+/// What stands behind the branch of a condition whose value is wanted: 1 where it does not go to the label that is answered, and else 0.
+fn truth(d: u8, tasks: &mut Tasks, out: &mut Output) -> Result<Label, AllocError>
+    ensures code { IfOk result (λ fails. (trees : List Tree) (o : Out) → tasks_code trees tasks.new o ≡ tasks_code trees tasks.old (truth_behind fails (next_label (record out.old { next = behind out.old.next })) d o)) }
+    ensures less { OnOk result ((trees : List Tree) → weights trees tasks.new ≤ 5 + weights trees tasks.old) }
+    ensures label { IfOk result (λ fails. fails ≡ next_label out.old) }
+    ensures out { out.new ≡ record out.old { next = behind (behind out.old.next) } }
+{
+    let fails = out.label();
+    let last = out.label();
+    tasks.first(&[
+        Task::Put(Simple::Known(1), d),
+        Task::Jump(last),
+        Task::Mark(fails),
+        Task::Put(Simple::Known(0), d),
+        Task::Mark(last),
+    ])?;
+    Ok(fails)
+}
+
+/// A simple tree as a branch.
+fn leaf_branch(
+    operand: Simple,
+    sense: bool,
+    label: Label,
+    tasks: &mut Tasks,
+) -> Result<(), AllocError>
+    ensures code { OnOk result ((trees : List Tree) (o : Out) → tasks_code trees tasks.new o ≡ tasks_code trees tasks.old (leaf_branch operand sense label o)) }
+    ensures less { OnOk result ((trees : List Tree) → weights trees tasks.new ≤ 1 + weights trees tasks.old) }
+{
+    match operand {
+        Simple::Known(number) => {
+            if (number != 0) == sense {
+                tasks.first(&[Task::Jump(label)])
+            } else {
+                Ok(())
+            }
+        }
+        Simple::Variable(_) | Simple::Later(_) => {
+            tasks.first(&[Task::JumpZero(operand, sense, label)])
+        }
+    }
+}
+
+/// `&&` as a branch.
+#[tactic(auto, unfolding(crate::specs::Meaning::and_branch))]
+fn and_branch(
+    a: usize,
+    b: usize,
+    sense: bool,
+    label: Label,
+    tasks: &mut Tasks,
+    out: &mut Output,
+) -> Result<(), AllocError>
+    ensures code { OnOk result ((trees : List Tree) → tasks_code trees tasks.new out.new ≡ tasks_code trees tasks.old (and_branch (at trees a) (at trees b) sense label out.old)) }
+    ensures less { OnOk result ((trees : List Tree) → weights trees tasks.new ≤ 7 + load_at trees a + load_at trees b + weights trees tasks.old) }
+{
+    if sense {
+        both(a, b, true, label, tasks, out)
+    } else {
+        tasks.first(&[Task::Branch(a, false, label), Task::Branch(b, false, label)])
+    }
+}
+
+/// `||` as a branch.
+#[tactic(auto, unfolding(crate::specs::Meaning::or_branch))]
+fn or_branch(
+    a: usize,
+    b: usize,
+    sense: bool,
+    label: Label,
+    tasks: &mut Tasks,
+    out: &mut Output,
+) -> Result<(), AllocError>
+    ensures code { OnOk result ((trees : List Tree) → tasks_code trees tasks.new out.new ≡ tasks_code trees tasks.old (or_branch (at trees a) (at trees b) sense label out.old)) }
+    ensures less { OnOk result ((trees : List Tree) → weights trees tasks.new ≤ 7 + load_at trees a + load_at trees b + weights trees tasks.old) }
+{
+    if sense {
+        tasks.first(&[Task::Branch(a, true, label), Task::Branch(b, true, label)])
+    } else {
+        both(a, b, false, label, tasks, out)
+    }
+}
+
+/// Two trees of which the first decides where its truth is not `sense`.
+fn both(
+    a: usize,
+    b: usize,
+    sense: bool,
+    label: Label,
+    tasks: &mut Tasks,
+    out: &mut Output,
+) -> Result<(), AllocError>
+    ensures code { OnOk result ((trees : List Tree) → tasks_code trees tasks.new out.new ≡ tasks_code trees tasks.old (both (at trees a) (at trees b) sense label out.old)) }
+    ensures less { OnOk result ((trees : List Tree) → weights trees tasks.new ≤ 7 + load_at trees a + load_at trees b + weights trees tasks.old) }
+{
+    let over = out.label();
+    tasks.first(&[
+        Task::Branch(a, !sense, over),
+        Task::Branch(b, sense, label),
+        Task::Mark(over),
+    ])
+}
+
+/// `++` and `--`, with a value: that behind the step or that before it.
+#[tactic(auto, unfolding(crate::specs::Meaning::step_value))]
+fn step_value(
+    nodes: &Nodes,
+    before: bool,
+    step: Step,
+    a: usize,
+    to: u8,
+    tasks: &mut Tasks,
+) -> Result<(), AllocError>
+    ensures code { OnOk result ((o : Out) → tasks_code nodes.now tasks.new o ≡ tasks_code nodes.now tasks.old (step_value before step (at nodes.now a) to o)) }
+    ensures less { OnOk result (weights nodes.now tasks.new ≤ 5 + load_at nodes.now a + weights nodes.now tasks.old) }
+{
+    match target(nodes, a) {
+        Goal::Nowhere => tasks.first(&[Task::Value(a, to)]),
+        Goal::Variable(variable) if before => {
+            tasks.first(&[Task::Step(step, variable), Task::Load(variable, to)])
+        }
+        Goal::Variable(variable) => {
+            tasks.first(&[Task::Load(variable, to), Task::Step(step, variable)])
+        }
+        Goal::Memory(memory, x, y) => tasks.first(&[
+            Task::Evaluate(Argument::Of(y)),
+            Task::Evaluate(Argument::Of(x)),
+            Task::Instruct(Worked::StepInMemory(before, step, memory, x, y, Some(to))),
+        ]),
+    }
+}
+
+/// `++` and `--` without result.
+#[tactic(auto, unfolding(crate::specs::Meaning::step_alone))]
+fn step_alone(
+    nodes: &Nodes,
+    before: bool,
+    step: Step,
+    a: usize,
+    tasks: &mut Tasks,
+) -> Result<(), AllocError>
+    ensures code { OnOk result ((o : Out) → tasks_code nodes.now tasks.new o ≡ tasks_code nodes.now tasks.old (step_alone before step (at nodes.now a) o)) }
+    ensures less { OnOk result (weights nodes.now tasks.new ≤ 5 + load_at nodes.now a + weights nodes.now tasks.old) }
+{
+    match target(nodes, a) {
+        Goal::Nowhere => tasks.first(&[Task::Alone(a)]),
+        Goal::Variable(variable) => tasks.first(&[Task::Step(step, variable)]),
+        Goal::Memory(memory, x, y) => tasks.first(&[
+            Task::Evaluate(Argument::Of(y)),
+            Task::Evaluate(Argument::Of(x)),
+            Task::Instruct(Worked::StepInMemory(before, step, memory, x, y, None)),
+        ]),
+    }
+}
+
+/// An assignment, with its value.
+#[tactic(auto, unfolding(crate::specs::Meaning::assign_value))]
+fn assign_value(
+    nodes: &Nodes,
+    v: usize,
+    a: usize,
+    to: u8,
+    tasks: &mut Tasks,
+) -> Result<(), AllocError>
+    ensures code { OnOk result ((o : Out) → tasks_code nodes.now tasks.new o ≡ tasks_code nodes.now tasks.old (assign_value (at nodes.now v) (at nodes.now a) to o)) }
+    ensures less { OnOk result (weights nodes.now tasks.new ≤ 7 + load_at nodes.now v + load_at nodes.now a + weights nodes.now tasks.old) }
+{
+    match target(nodes, v) {
+        Goal::Nowhere => tasks.first(&[Task::Value(a, to)]),
+        Goal::Variable(variable) => tasks.first(&[
+            Task::Value(a, variable),
+            Task::Load(variable, to),
+        ]),
+        Goal::Memory(memory, x, y) => tasks.first(&[
+            Task::Evaluate(Argument::Of(a)),
+            Task::Evaluate(Argument::Of(y)),
+            Task::Evaluate(Argument::Of(x)),
+            Task::Instruct(Worked::Routine(setter(memory), Few::Three(x, y, a), Some(to))),
+        ]),
+    }
+}
+
+/// An assignment without result.
+#[tactic(auto, unfolding(crate::specs::Meaning::assign_alone))]
+fn assign_alone(nodes: &Nodes, v: usize, a: usize, tasks: &mut Tasks) -> Result<(), AllocError>
+    ensures code { OnOk result ((o : Out) → tasks_code nodes.now tasks.new o ≡ tasks_code nodes.now tasks.old (assign_alone (at nodes.now v) (at nodes.now a) o)) }
+    ensures less { OnOk result (weights nodes.now tasks.new ≤ 7 + load_at nodes.now v + load_at nodes.now a + weights nodes.now tasks.old) }
+{
+    match target(nodes, v) {
+        Goal::Nowhere => tasks.first(&[Task::Alone(a)]),
+        Goal::Variable(variable) => tasks.first(&[Task::Value(a, variable)]),
+        Goal::Memory(memory, x, y) => tasks.first(&[
+            Task::Evaluate(Argument::Of(a)),
+            Task::Evaluate(Argument::Of(y)),
+            Task::Evaluate(Argument::Of(x)),
+            Task::Instruct(Worked::Store(memory, x, y, a)),
+        ]),
+    }
+}
+
+/// A call without arguments.
+#[tactic(auto, unfolding(crate::specs::Meaning::call_of))]
+fn bare_call(
+    nodes: &Nodes,
+    f: usize,
+    store: Option<u8>,
+    tasks: &mut Tasks,
+) -> Result<(), AllocError>
+    ensures code { OnOk result ((o : Out) → tasks_code nodes.now tasks.new o ≡ tasks_code nodes.now tasks.old (call_of (at nodes.now f) [] store o)) }
+    ensures less { OnOk result (weights nodes.now tasks.new ≤ 5 + load_at nodes.now f + weights nodes.now tasks.old) }
+{
+    match target(nodes, f) {
+        Goal::Memory(Memory::Property, a, b) => tasks.first(&[
+            Task::Evaluate(Argument::Of(b)),
+            Task::Evaluate(Argument::Of(a)),
+            Task::Instruct(Worked::Routine(Veneer::CallProperty, Few::Two(a, b), store)),
+        ]),
+        Goal::Memory(Memory::Byte | Memory::Word, _, _) | Goal::Nowhere | Goal::Variable(_) => {
+            tasks.first(&[
+                Task::Evaluate(Argument::Of(f)),
+                Task::Instruct(Worked::BareCall(f, store)),
+            ])
+        }
+    }
+}
+
+/// A call with a list of arguments.
+#[tactic(auto, unfolding(crate::specs::Meaning::call_of))]
+fn call_of(
+    nodes: &Nodes,
+    f: usize,
+    list: usize,
+    store: Option<u8>,
+    tasks: &mut Tasks,
+) -> Result<(), AllocError>
+    ensures code { OnOk result ((o : Out) → tasks_code nodes.now tasks.new o ≡ tasks_code nodes.now tasks.old (call_of (at nodes.now f) (parts (at nodes.now list)) store o)) }
+    ensures less { OnOk result (weights nodes.now tasks.new ≤ 8 + load_at nodes.now f + load_at nodes.now list + weights nodes.now tasks.old) }
+{
+    match target(nodes, f) {
+        Goal::Memory(Memory::Property, a, b) => tasks.first(&[
+            Task::List(list),
+            Task::Evaluate(Argument::Of(b)),
+            Task::Evaluate(Argument::Of(a)),
+            Task::Instruct(Worked::Message(a, b, list, store)),
+        ]),
+        Goal::Memory(Memory::Byte | Memory::Word, _, _) | Goal::Nowhere | Goal::Variable(_) => {
+            tasks.first(&[
+                Task::List(list),
+                Task::Evaluate(Argument::Of(f)),
+                Task::Instruct(Worked::Call(f, list, store)),
+            ])
+        }
+    }
+}
+
+/// A call of the first of a list, with the others as arguments.
+fn indirect(list: usize, store: Option<u8>, tasks: &mut Tasks) -> Result<(), AllocError>
+    ensures { OnOk result (tasks.new ≡ task.List list ∷ task.Instruct (worked.Indirect list store) ∷ tasks.old) }
+{
+    tasks.first(&[
+        Task::List(list),
+        Task::Instruct(Worked::Indirect(list, store)),
+    ])
+}
+
+/// The number of an object's children is counted by a routine of the veneer.
+fn children(a: usize, store: Option<u8>, tasks: &mut Tasks) -> Result<(), AllocError>
+    ensures code { OnOk result ((trees : List Tree) (o : Out) → tasks_code trees tasks.new o ≡ tasks_code trees tasks.old (call_routine veneer.Children (part (at trees a) ∷ []) store o)) }
+    ensures less { OnOk result ((trees : List Tree) → weights trees tasks.new ≤ 3 + load_at trees a + weights trees tasks.old) }
+{
+    tasks.first(&[
+        Task::Evaluate(Argument::Of(a)),
+        Task::Instruct(Worked::Routine(Veneer::Children, Few::One(a), store)),
+    ])
+}
+
+/// What is asked of a property is asked of a routine of the veneer.
+fn property(
+    asked: PropertyPart,
+    a: usize,
+    b: usize,
+    store: Option<u8>,
+    tasks: &mut Tasks,
+) -> Result<(), AllocError>
+    ensures code { OnOk result ((trees : List Tree) (o : Out) → tasks_code trees tasks.new o ≡ tasks_code trees tasks.old (call_routine (reader asked) (part (at trees a) ∷ part (at trees b) ∷ []) store o)) }
+    ensures less { OnOk result ((trees : List Tree) → weights trees tasks.new ≤ 5 + load_at trees a + load_at trees b + weights trees tasks.old) }
+{
+    let veneer = match asked {
+        PropertyPart::Value => Veneer::ReadProperty,
+        PropertyPart::Address => Veneer::PropertyAddress,
+        PropertyPart::Length => Veneer::PropertyLength,
+    };
+    tasks.first(&[
+        Task::Evaluate(Argument::Of(b)),
+        Task::Evaluate(Argument::Of(a)),
+        Task::Instruct(Worked::Routine(veneer, Few::Two(a, b), store)),
+    ])
+}
+
+/// An object that an instruction finds.
+#[tactic(auto, unfolding(crate::specs::Meaning::related))]
+fn related(
+    relative: Relative,
+    a: usize,
+    to: u8,
+    tasks: &mut Tasks,
+    out: &mut Output,
+) -> Result<(), AllocError>
+    ensures code { OnOk result ((trees : List Tree) → tasks_code trees tasks.new out.new ≡ tasks_code trees tasks.old (related (related_opcode relative) (part (at trees a)) to out.old)) }
+    ensures less { OnOk result ((trees : List Tree) → weights trees tasks.new ≤ 4 + load_at trees a + weights trees tasks.old) }
+{
+    let next = out.label();
+    tasks.first(&[
+        Task::Evaluate(Argument::Of(a)),
+        Task::Instruct(Worked::Find(relative, a, to, next)),
+        Task::Mark(next),
+    ])
+}

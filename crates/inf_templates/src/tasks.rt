@@ -1,0 +1,142 @@
+//! What is left to be laid.
+ghost use Rattle.std.specs.Prelude.{◌≡◌, [], ◌∷◌, ◌++◌, MatchOption, OnOk};
+
+use inf_expressions::{Operation, Relative, Single, Step, Test};
+use inf_opcode::Label;
+use inf_output::{Simple, Veneer};
+use std::alloc::{AllocError, Global};
+use std::marker::Model;
+
+/// An operand of an instruction.
+#[derive(Clone, Copy, Debug, PartialEq, Eq)]
+pub enum Argument {
+    /// The tree at a place: where it is not simple it is worked out into the stack before.
+    Of(usize),
+    /// It is this.
+    Is(Simple),
+}
+
+/// The trees of some operands, by their places.
+#[derive(Clone, Copy, Debug, PartialEq, Eq)]
+pub enum Few {
+    One(usize),
+    Two(usize, usize),
+    Three(usize, usize, usize),
+}
+
+/// What is assigned in memory: the byte or word of an array at an index, or a property of an object.
+#[derive(Clone, Copy, Debug, PartialEq, Eq)]
+pub enum Memory {
+    Byte,
+    Word,
+    Property,
+}
+
+/// Something to be laid. Trees are told by their places.
+#[derive(Clone, Copy, Debug, PartialEq, Eq)]
+pub enum Task {
+    /// A tree with its value in a variable, or on the stack.
+    Value(usize, u8),
+    /// A tree without result.
+    Alone(usize),
+    /// A tree as a branch to a label where its truth is this.
+    Branch(usize, bool, Label),
+    /// An operand goes to the stack, unless it is simple.
+    Evaluate(Argument),
+    /// The members of a list, from the last to the first.
+    List(usize),
+    /// A test for equality with any of a list, in groups of three: the sense and the label of the last group, and the label of the others.
+    Triples(Simple, usize, bool, Label, Label),
+    /// Another test with any of a list, one by one.
+    Singles(Test, Simple, usize, bool, Label, Label),
+    /// A simple value goes to a variable, or to the stack.
+    Put(Simple, u8),
+    Jump(Label),
+    Mark(Label),
+    /// The value of a variable goes to another one, or to the stack.
+    Load(u8, u8),
+    Step(Step, u8),
+    /// A branch where the truth of an operand is this.
+    JumpZero(Simple, bool, Label),
+    Instruct(Worked),
+}
+
+/// An instruction whose parts are worked out.
+#[derive(Clone, Copy, Debug, PartialEq, Eq)]
+pub enum Worked {
+    Compute(Operation, usize, usize, u8),
+    Negate(usize, u8),
+    Single(Single, usize, u8),
+    /// An object that is found, with a branch where there is one.
+    Find(Relative, usize, u8, Label),
+    /// A test for equality with three, which branches where it holds.
+    Three(Simple, usize, usize, usize, Label),
+    Compare(Test, Simple, usize, bool, Label),
+    /// A test with any of a list, which has no more members than one instruction takes.
+    Any(Test, Argument, usize, bool, Label),
+    /// A place in memory gets a value.
+    Store(Memory, usize, usize, usize),
+    /// A call of a routine of the veneer.
+    Routine(Veneer, Few, Option<u8>),
+    /// A step of a place in memory, and whether it leaves the value behind it.
+    StepInMemory(bool, Step, Memory, usize, usize, Option<u8>),
+    /// A call without arguments, and with a list of them.
+    BareCall(usize, Option<u8>),
+    Call(usize, usize, Option<u8>),
+    /// A call of a property of an object.
+    Message(usize, usize, usize, Option<u8>),
+    /// A call of the first of a list.
+    Indirect(usize, Option<u8>),
+}
+
+/// Tasks: in contracts their list, the next one first. They are empty between the calls that lay code, which keep their memory.
+#[derive(Drop)]
+pub struct Tasks {
+    tasks: Vec<Task>,
+}
+
+impl Model for Tasks {
+    ghost use Rattle.std.specs.Prelude.{List, reverse};
+    ghost use Rattle.inf_templates.specs.declared.tasks.Task.{Task};
+
+    ghost Value = { List Task };
+
+    ghost view = { λ t. reverse t.tasks.items };
+}
+
+impl Tasks {
+    /// No tasks. It takes no memory until the first one comes.
+    pub fn new(alloc: Global) -> Tasks
+        ensures { result ≡ [] }
+    {
+        Tasks {
+            tasks: Vec::new(alloc),
+        }
+    }
+
+    /// None are left.
+    pub(crate) fn clear(&mut self)
+        ensures { self.new ≡ [] }
+    {
+        self.tasks.clear();
+    }
+
+    /// The next one is taken.
+    pub(crate) fn next(&mut self) -> Option<Task>
+        ensures { MatchOption result ((self.old ≡ []) × (self.new ≡ [])) (λ t. self.old ≡ t ∷ self.new) }
+    {
+        self.tasks.pop()
+    }
+
+    /// Some tasks come before the others.
+    pub(crate) fn first(&mut self, tasks: &[Task]) -> Result<(), AllocError>
+        ensures { OnOk result (self.new ≡ tasks.now ++ self.old) }
+    {
+        let mut left = tasks;
+        while let Some((last, others)) = left.split_last() {
+            self.tasks.push(*last)?;
+            left = others;
+        }
+        Ok(())
+    }
+}

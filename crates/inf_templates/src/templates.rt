@@ -1,0 +1,149 @@
+//! The code of expressions, and of instructions of expressions.
+ghost use Rattle.std.specs.Prelude.{◌≡◌, ◌≤◌, [], ◌∷◌, List, OnOk, Option, is_some, length, take};
+ghost use Rattle.inf_output.specs.Output.{Takes};
+ghost use Rattle.inf_templates.specs.Parts.{call, call_routine, evaluated, operands, worked};
+ghost use Rattle.inf_templates.specs.Tasks.{at, part_of, parts_of, tasks_code};
+ghost use Rattle.inf_templates.specs.declared.tasks.Task.TheVariants as task;
+
+use crate::laying::lay_all;
+use crate::placing::{MOST_ARGUMENTS, calling, calling_routine, cut};
+use crate::reading::argument_of;
+use crate::tasks::{Argument, Task, Tasks};
+use arrayvec::ArrayVec;
+use inf_expressions::Nodes;
+use inf_opcode::{Branch, Label, MOST_OPERANDS, Opcode};
+use inf_output::{Output, Simple, Veneer};
+use std::alloc::AllocError;
+
+/// The tree at a place is laid without result.
+///
+/// It is refused only for want of memory, as the other calls are.
+pub fn lay_alone(
+    tasks: &mut Tasks,
+    nodes: &Nodes,
+    place: usize,
+    out: &mut Output,
+) -> Result<(), AllocError>
+    ensures { OnOk result (out.new ≡ (at nodes.now place).alone out.old) }
+{
+    lay(tasks, nodes, Task::Alone(place), out)
+}
+
+/// The tree at a place is laid with its value in a variable, of which 0 is the stack.
+pub fn lay_value(
+    tasks: &mut Tasks,
+    nodes: &Nodes,
+    place: usize,
+    variable: u8,
+    out: &mut Output,
+) -> Result<(), AllocError>
+    ensures { OnOk result (out.new ≡ (at nodes.now place).value variable out.old) }
+{
+    lay(tasks, nodes, Task::Value(place, variable), out)
+}
+
+/// The tree at a place is laid as a branch to a label where its truth is `sense`.
+pub fn lay_branch(
+    tasks: &mut Tasks,
+    nodes: &Nodes,
+    place: usize,
+    sense: bool,
+    label: Label,
+    out: &mut Output,
+) -> Result<(), AllocError>
+    ensures { OnOk result (out.new ≡ (at nodes.now place).branch sense label out.old) }
+{
+    lay(tasks, nodes, Task::Branch(place, sense, label), out)
+}
+
+/// An instruction of some parts is laid, none of whose operands names a variable; its opcode takes so many, the store and the branch.
+pub fn lay_instruction(
+    tasks: &mut Tasks,
+    nodes: &Nodes,
+    opcode: Opcode,
+    arguments: &[Argument],
+    store: Option<u8>,
+    branch: Option<Branch>,
+    out: &mut Output,
+) -> Result<(), AllocError>
+    requires { Takes opcode (length arguments.now) (is_some store) (is_some branch) }
+    ensures { OnOk result (out.new ≡ worked opcode (parts_of nodes.now arguments.now) store branch out.old) }
+{
+    evaluate_all(tasks, nodes, arguments, out)?;
+    let operands = operands(nodes, arguments, usize::from(opcode.row().most));
+    out.instruct(opcode, &operands, store, branch)
+}
+
+/// A call is laid, with its result in a variable if it is wanted. Of the arguments the first seven are given.
+#[tactic(auto, using(crate::proofs::Cuts::calling_given))]
+pub fn lay_call(
+    tasks: &mut Tasks,
+    nodes: &Nodes,
+    routine: Argument,
+    arguments: &[Argument],
+    store: Option<u8>,
+    out: &mut Output,
+) -> Result<(), AllocError>
+    ensures { OnOk result (out.new ≡ call (part_of nodes.now routine) (parts_of nodes.now arguments.now) store out.old) }
+{
+    evaluate_all(tasks, nodes, arguments, out)?;
+    lay(tasks, nodes, Task::Evaluate(routine), out)?;
+    let operands = operands(nodes, arguments, MOST_ARGUMENTS);
+    calling(argument_of(nodes, routine), &operands, store, out)
+}
+
+/// A call of a routine of the veneer is laid, with its result in a variable if it is wanted. Of the arguments the first seven are given.
+#[tactic(auto, using(crate::proofs::Cuts::calling_routine_given))]
+pub fn lay_routine_call(
+    tasks: &mut Tasks,
+    nodes: &Nodes,
+    veneer: Veneer,
+    arguments: &[Argument],
+    store: Option<u8>,
+    out: &mut Output,
+) -> Result<(), AllocError>
+    ensures { OnOk result (out.new ≡ call_routine veneer (parts_of nodes.now arguments.now) store out.old) }
+{
+    evaluate_all(tasks, nodes, arguments, out)?;
+    let operands = operands(nodes, arguments, MOST_ARGUMENTS);
+    calling_routine(veneer, &operands, store, out)
+}
+
+/// A task is laid with all that it makes.
+fn lay(tasks: &mut Tasks, nodes: &Nodes, task: Task, out: &mut Output) -> Result<(), AllocError>
+    ensures { OnOk result (out.new ≡ tasks_code nodes.now (task ∷ []) out.old) }
+{
+    tasks.clear();
+    tasks.first(&[task])?;
+    lay_all(nodes, tasks, out)
+}
+
+/// Parts that are not simple go to the stack, from the last to the first.
+#[tactic(auto, using(crate::proofs::Given::evaluated_last))]
+fn evaluate_all(
+    tasks: &mut Tasks,
+    nodes: &Nodes,
+    arguments: &[Argument],
+    out: &mut Output,
+) -> Result<(), AllocError>
+    ensures { OnOk result (out.new ≡ evaluated (parts_of nodes.now arguments.now) out.old) }
+{
+    let mut left = arguments;
+    while let Some((last, others)) = left.split_last() {
+        lay(tasks, nodes, Task::Evaluate(*last), out)?;
+        left = others;
+    }
+    Ok(())
+}
+
+/// The operands of parts that are worked out: of the first, at most so many.
+fn operands(nodes: &Nodes, arguments: &[Argument], most: usize) -> ArrayVec<Simple, MOST_OPERANDS>
+    requires { most ≤ 8 }
+    ensures { result.items ≡ take most (operands (parts_of nodes.now arguments.now)) }
+{
+    let mut operands = ArrayVec::new();
+    for argument in cut(arguments, most) {
+        operands.push(argument_of(nodes, *argument));
+    }
+    operands
+}

@@ -1,0 +1,135 @@
+//! Tests of a value against a list, of which one is to hold.
+ghost use Rattle.std.specs.Prelude.{◌≡◌, ◌≤◌, ◌<◌, ◌+◌, [], ◌∷◌, List, OnOk, if◌then◌else◌};
+ghost use Rattle.inf_expressions.specs.Trees.{Tree};
+ghost use Rattle.inf_output.specs.Output.{Out};
+ghost use Rattle.inf_templates.specs.Meaning.{group, parts, takes_three, test_branch, tests};
+ghost use Rattle.inf_templates.specs.Weights.{load_at, weight, weights};
+ghost use Rattle.inf_templates.specs.Tasks.{at, task_code, tasks_code};
+ghost use Rattle.inf_templates.specs.declared.tasks.Task.TheVariants as task;
+
+use crate::reading::{TEMP, group, has_more, simple_of, split, takes_three};
+use crate::tasks::{Argument, Task, Tasks, Worked};
+use inf_expressions::{Nodes, Test};
+use inf_opcode::Label;
+use inf_output::{Output, Simple};
+use std::alloc::AllocError;
+
+/// A test of a tree against a list, as a branch to a label where its truth is this.
+#[tactic(auto, unfolding(crate::specs::Meaning::test_branch))]
+pub(crate) fn test_branch(
+    nodes: &Nodes,
+    test: Test,
+    a: usize,
+    list: usize,
+    sense: bool,
+    label: Label,
+    tasks: &mut Tasks,
+    out: &mut Output,
+) -> Result<(), AllocError>
+    ensures code { OnOk result (tasks_code nodes.now tasks.new out.new ≡ tasks_code nodes.now tasks.old (test_branch test (at nodes.now a) (at nodes.now list) sense label out.old)) }
+    ensures less { OnOk result (weights nodes.now tasks.new ≤ 9 + load_at nodes.now a + load_at nodes.now list + weights nodes.now tasks.old) }
+{
+    let over = out.label();
+    let there = chosen(sense, label, over);
+    match simple_of(nodes, a) {
+        Some(x) => tasks.first(&[tests(test, x, list, sense, label, there), Task::Mark(over)]),
+        None if has_more(nodes, list, group(test)) => {
+            let kept = Simple::Variable(TEMP);
+            tasks.first(&[
+                Task::Value(a, TEMP),
+                tests(test, kept, list, sense, label, there),
+                Task::Mark(over),
+            ])
+        }
+        None => {
+            let a = Argument::Of(a);
+            tasks.first(&[
+                Task::List(list),
+                Task::Evaluate(a),
+                Task::Instruct(Worked::Any(test, a, list, sense, label)),
+                Task::Mark(over),
+            ])
+        }
+    }
+}
+
+/// One of two labels.
+fn chosen(sense: bool, label: Label, over: Label) -> Label
+    ensures { result ≡ (if sense then label else over) }
+{
+    if sense { label } else { over }
+}
+
+/// The tests of a list.
+#[tactic(auto, unfolding(crate::specs::Meaning::tests))]
+fn tests(test: Test, x: Simple, list: usize, sense: bool, label: Label, there: Label) -> Task
+    ensures code { (trees : List Tree) (o : Out) → task_code trees result o ≡ tests test x (parts (at trees list)) sense label there o }
+    ensures less { (trees : List Tree) → weight trees result ≡ 6 + load_at trees list }
+{
+    if takes_three(test) {
+        Task::Triples(x, list, sense, label, there)
+    } else {
+        Task::Singles(test, x, list, sense, label, there)
+    }
+}
+
+/// A test for equality with any of a list, in groups of three.
+#[tactic(auto, using(crate::proofs::Groups::triple_rows))]
+pub(crate) fn triple_tests(
+    nodes: &Nodes,
+    x: Simple,
+    list: usize,
+    sense: bool,
+    label: Label,
+    there: Label,
+    tasks: &mut Tasks,
+) -> Result<(), AllocError>
+    ensures code { OnOk result ((o : Out) → tasks_code nodes.now tasks.new o ≡ tasks_code nodes.now (task.Triples x list sense label there ∷ tasks.old) o) }
+    ensures less { OnOk result (weights nodes.now tasks.new < weight nodes.now (task.Triples x list sense label there) + weights nodes.now tasks.old) }
+{
+    let last = Worked::Any(Test::Equal, Argument::Is(x), list, sense, label);
+    let Some((b, others)) = split(nodes, list) else {
+        return tasks.first(&[Task::List(list), Task::Instruct(last)]);
+    };
+    let Some((c, others_2)) = split(nodes, others) else {
+        return tasks.first(&[Task::List(list), Task::Instruct(last)]);
+    };
+    let Some((d, others_3)) = split(nodes, others_2) else {
+        return tasks.first(&[Task::List(list), Task::Instruct(last)]);
+    };
+    tasks.first(&[
+        Task::Evaluate(Argument::Of(d)),
+        Task::Evaluate(Argument::Of(c)),
+        Task::Evaluate(Argument::Of(b)),
+        Task::Instruct(Worked::Three(x, b, c, d, there)),
+        Task::Triples(x, others_3, sense, label, there),
+    ])
+}
+
+/// Another test with any of a list, one by one.
+#[tactic(auto, using(crate::proofs::Groups::single_rows))]
+pub(crate) fn single_tests(
+    nodes: &Nodes,
+    test: Test,
+    x: Simple,
+    list: usize,
+    sense: bool,
+    label: Label,
+    there: Label,
+    tasks: &mut Tasks,
+) -> Result<(), AllocError>
+    ensures code { OnOk result ((o : Out) → tasks_code nodes.now tasks.new o ≡ tasks_code nodes.now (task.Singles test x list sense label there ∷ tasks.old) o) }
+    ensures less { OnOk result (weights nodes.now tasks.new < weight nodes.now (task.Singles test x list sense label there) + weights nodes.now tasks.old) }
+{
+    match split(nodes, list) {
+        None => tasks.first(&[
+            Task::Evaluate(Argument::Of(list)),
+            Task::Instruct(Worked::Compare(test, x, list, sense, label)),
+        ]),
+        Some((b, others)) => tasks.first(&[
+            Task::Evaluate(Argument::Of(b)),
+            Task::Instruct(Worked::Compare(test, x, b, true, there)),
+            Task::Singles(test, x, others, sense, label, there),
+        ]),
+    }
+}
