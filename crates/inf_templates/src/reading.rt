@@ -1,5 +1,5 @@
 //! What trees are that templates go by.
-ghost use Rattle.std.specs.Prelude.{◌≡◌, ◌≤◌, ◌+◌, [], ◌∷◌, ◌<◌, MatchOption, Some, None, nat_lt, length};
+ghost use Rattle.std.specs.Prelude.{◌≡◌, ◌≤◌, ◌+◌, [], ◌∷◌, ◌<◌, IfSome, MatchOption, Some, None, nat_lt, length};
 ghost use Rattle.inf_templates.specs.Parts.{operand_of, simple};
 ghost use Rattle.inf_templates.specs.Meaning.{group, most_compared, part, parts, takes_three};
 ghost use Rattle.inf_templates.specs.Weights.{goal_load, load_at};
