@@ -1,0 +1,147 @@
+//! Expressions as a line spells them.
+use inf_area::Target;
+use inf_expressions::{
+    Binary, Forest, Function, Operand, Operation, PropertyPart, Single, Step, Symbol, Test, Unary,
+    Wanted, build,
+};
+use inf_names::symbols::Symbols;
+use inf_scanner::Place;
+use std::alloc::{AllocError, Global};
+
+/// Where all tokens stand.
+pub(crate) const HERE: Place = Place { file: 0, line: 1 };
+
+/// A function of the system, which is no value.
+fn function(word: &str) -> Option<Function> {
+    Some(match word {
+        "child" => Function::Child,
+        "sibling" => Function::Sibling,
+        "parent" => Function::Parent,
+        "random" => Function::Random,
+        "children" => Function::Children,
+        "indirect" => Function::Indirect,
+        _ => return None,
+    })
+}
+
+/// An operator of one part.
+fn unary(word: &str) -> Option<Symbol> {
+    Some(match word {
+        "neg" => Symbol::Prefix(0, Unary::Negate),
+        "~" => Symbol::Prefix(0, Unary::Single(Single::Complement)),
+        "~~" => Symbol::Prefix(0, Unary::Not),
+        "++v" => Symbol::Prefix(0, Unary::Before(Step::Up)),
+        "--v" => Symbol::Prefix(0, Unary::Before(Step::Down)),
+        "v++" => Symbol::Suffix(Unary::Behind(Step::Up)),
+        "v--" => Symbol::Suffix(Unary::Behind(Step::Down)),
+        _ => return None,
+    })
+}
+
+/// An operator of two values.
+fn operation(word: &str) -> Option<Binary> {
+    Some(match word {
+        "+" => Binary::Operation(Operation::Add),
+        "-" => Binary::Operation(Operation::Subtract),
+        "*" => Binary::Operation(Operation::Multiply),
+        "/" => Binary::Operation(Operation::Divide),
+        "%" => Binary::Operation(Operation::Remainder),
+        "&" => Binary::Operation(Operation::BitAnd),
+        "|" => Binary::Operation(Operation::BitOr),
+        "->" => Binary::Operation(Operation::Byte),
+        "-->" => Binary::Operation(Operation::Word),
+        "." => Binary::Property(PropertyPart::Value),
+        ".&" => Binary::Property(PropertyPart::Address),
+        ".#" => Binary::Property(PropertyPart::Length),
+        "=" => Binary::Assign,
+        "," => Binary::Comma,
+        "&&" => Binary::And,
+        "||" => Binary::Or,
+        _ => return None,
+    })
+}
+
+/// A test of a value against a list.
+fn test(word: &str) -> Option<Binary> {
+    Some(match word {
+        "==" => Binary::Test(Test::Equal),
+        "<" => Binary::Test(Test::Less),
+        ">" => Binary::Test(Test::Greater),
+        "<=" => Binary::Test(Test::AtMost),
+        ">=" => Binary::Test(Test::AtLeast),
+        "has" => Binary::Test(Test::Has),
+        "in" => Binary::Test(Test::In),
+        "ofclass" => Binary::Test(Test::OfClass),
+        "provides" => Binary::Test(Test::Provides),
+        "~=" => Binary::Fails(Test::Equal),
+        "hasnt" => Binary::Fails(Test::Has),
+        "notin" => Binary::Fails(Test::In),
+        _ => return None,
+    })
+}
+
+/// An operator.
+fn operator(word: &str) -> Option<Symbol> {
+    if let Some(given) = word.strip_prefix("call:") {
+        return Some(Symbol::Call(given.parse().unwrap_or(0)));
+    }
+    if let Some(joints) = word.strip_prefix("list:") {
+        return Some(Symbol::List(joints.parse().unwrap_or(0)));
+    }
+    let binary = operation(word).or(test(word));
+    match binary {
+        Some(binary) => Some(Symbol::Two(binary)),
+        None => unary(word),
+    }
+}
+
+/// What a name stands for that is known later.
+fn later(names: &mut Symbols<Place>, name: &str) -> Operand {
+    if name.len() > 35 {
+        return Operand::Unknown;
+    }
+    match names.refer(name.as_bytes(), HERE) {
+        Ok(Some(number)) => Operand::Later(Target::Name(number)),
+        Ok(None) | Err(_) => Operand::Unknown,
+    }
+}
+
+/// What a leaf stands for.
+fn operand(names: &mut Symbols<Place>, word: &str) -> Operand {
+    if let Some(function) = function(word) {
+        return Operand::Function(function);
+    }
+    if let Ok(number) = word.parse() {
+        return Operand::Known(number);
+    }
+    match word.strip_prefix('v') {
+        Some(number) => Operand::Variable(number.parse().unwrap_or(0)),
+        None => later(names, word),
+    }
+}
+
+/// The trees of some words.
+pub(crate) fn trees(
+    alloc: Global,
+    names: &mut Symbols<Place>,
+    spelled: &str,
+) -> Result<Forest, AllocError> {
+    let mut symbols = Vec::new(alloc);
+    let mut operands = Vec::new(alloc);
+    for word in spelled.split(' ') {
+        let symbol = match operator(word) {
+            Some(symbol) => symbol,
+            None => {
+                let leaf = operands.len();
+                operands.push(operand(names, word))?;
+                Symbol::Leaf {
+                    first: 0,
+                    token: 0,
+                    leaf,
+                }
+            }
+        };
+        symbols.push(symbol)?;
+    }
+    build(alloc, Wanted::Value, 0, &symbols, &operands)
+}

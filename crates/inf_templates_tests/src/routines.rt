@@ -1,0 +1,220 @@
+//! Routines of expressions.
+use crate::expressions::{HERE, trees};
+use crate::words::{add_bytes, number_or, word};
+use inf_area::FlatArea;
+use inf_assembler::RoutineKind;
+use inf_code::code::{Code, CodeLimits};
+use inf_expressions::{Forest, Root};
+use inf_names::symbols::Symbols;
+use inf_opcode::Opcode;
+use inf_output::{Output, Simple, Veneer};
+use inf_scanner::Place;
+use inf_templates::{
+    Argument, Tasks, lay_alone, lay_branch, lay_call, lay_instruction, lay_routine_call, lay_value,
+};
+use std::alloc::{AllocError, Global};
+
+/// What lays expressions.
+#[derive(Drop)]
+struct Laying {
+    tasks: Tasks,
+    out: Output,
+}
+
+impl Laying {
+    /// Each expression is laid without result.
+    fn alone(&mut self, forest: &Forest) -> Result<(), AllocError> {
+        for root in &forest.roots {
+            lay_alone(&mut self.tasks, &forest.nodes, root.place, &mut self.out)?;
+        }
+        Ok(())
+    }
+
+    /// Each with its value in a variable.
+    fn value(&mut self, forest: &Forest, variable: u8) -> Result<(), AllocError> {
+        for root in &forest.roots {
+            lay_value(
+                &mut self.tasks,
+                &forest.nodes,
+                root.place,
+                variable,
+                &mut self.out,
+            )?;
+        }
+        Ok(())
+    }
+
+    /// Each as a branch over an instruction.
+    fn branch(&mut self, forest: &Forest, sense: bool) -> Result<(), AllocError> {
+        let over = self.out.label();
+        for root in &forest.roots {
+            lay_branch(
+                &mut self.tasks,
+                &forest.nodes,
+                root.place,
+                sense,
+                over,
+                &mut self.out,
+            )?;
+        }
+        self.out.instruct(Opcode::NewLine, &[], None, None)?;
+        self.out.mark(over)
+    }
+
+    /// An instruction of the first two.
+    fn insert(&mut self, forest: &Forest) -> Result<(), AllocError> {
+        let arguments = [argument(forest, 0), argument(forest, 1)];
+        lay_instruction(
+            &mut self.tasks,
+            &forest.nodes,
+            Opcode::InsertObj,
+            &arguments,
+            None,
+            None,
+            &mut self.out,
+        )
+    }
+
+    /// A call of the first with the others, and with a number.
+    fn call(
+        &mut self,
+        alloc: Global,
+        forest: &Forest,
+        store: Option<u8>,
+    ) -> Result<(), AllocError> {
+        let mut arguments = Vec::new(alloc);
+        for root in forest.roots.iter().skip(1) {
+            arguments.push(Argument::Of(root.place))?;
+        }
+        arguments.push(Argument::Is(Simple::Known(5)))?;
+        lay_call(
+            &mut self.tasks,
+            &forest.nodes,
+            argument(forest, 0),
+            &arguments,
+            store,
+            &mut self.out,
+        )
+    }
+
+    /// A call of a routine of the veneer with all.
+    fn spaces(&mut self, alloc: Global, forest: &Forest) -> Result<(), AllocError> {
+        let mut arguments = Vec::new(alloc);
+        for root in &forest.roots {
+            arguments.push(Argument::Of(root.place))?;
+        }
+        lay_routine_call(
+            &mut self.tasks,
+            &forest.nodes,
+            Veneer::Spaces,
+            &arguments,
+            None,
+            &mut self.out,
+        )
+    }
+
+    /// The first behind the others.
+    fn apart(&mut self, alloc: Global, forest: &Forest) -> Result<(), AllocError> {
+        self.out.set_apart(alloc);
+        lay_alone(
+            &mut self.tasks,
+            &forest.nodes,
+            place(forest, 0),
+            &mut self.out,
+        )?;
+        let items = self.out.take_apart(alloc);
+        for root in forest.roots.iter().skip(1) {
+            lay_alone(&mut self.tasks, &forest.nodes, root.place, &mut self.out)?;
+        }
+        self.out.append(&items)
+    }
+
+    /// Expressions are laid in a way.
+    fn lay(&mut self, alloc: Global, way: &str, forest: &Forest) -> Result<(), AllocError> {
+        let variable = word(way, 1).parse();
+        match word(way, 0) {
+            "alone" => self.alone(forest),
+            "value" => self.value(forest, variable.unwrap_or(0)),
+            "true" => self.branch(forest, true),
+            "insert" => self.insert(forest),
+            "call" => self.call(alloc, forest, variable.ok()),
+            "spaces" => self.spaces(alloc, forest),
+            "apart" => self.apart(alloc, forest),
+            _ => self.branch(forest, false),
+        }
+    }
+}
+
+/// The place of an expression.
+fn place(forest: &Forest, number: usize) -> usize {
+    match forest.root(number) {
+        Some(Root { place, .. }) => place,
+        None => 0,
+    }
+}
+
+/// An expression as an argument.
+fn argument(forest: &Forest, number: usize) -> Argument {
+    Argument::Of(place(forest, number))
+}
+
+/// Adds the names that were used.
+fn add_names(alloc: Global, told: &mut String, names: &Symbols<Place>) -> Result<(), AllocError> {
+    told.push_str("; names")?;
+    for number in 0..names.len() {
+        if let Some((spelled, _)) = names.use_at(number) {
+            told.push(' ')?;
+            for byte in spelled {
+                told.push(char::from(*byte))?;
+            }
+        }
+    }
+    Ok(())
+}
+
+/// What stands for names: from 1000 on in hexadecimal digits.
+fn numbers(alloc: Global, names: &Symbols<Place>) -> Result<Vec<u16>, AllocError> {
+    let mut numbers = Vec::new(alloc);
+    let mut number: u16 = 0x1000;
+    for _ in 0..names.len() {
+        numbers.push(number)?;
+        number = number.saturating_add(1);
+    }
+    Ok(numbers)
+}
+
+/// Closes the routine, and tells of its bytes and names.
+fn told_of(alloc: Global, out: Output) -> Result<String, AllocError> {
+    if let Some(limit) = out.full() {
+        return format!(in alloc; "Full({limit:?})");
+    }
+    let names = out.names;
+    let mut code = out.code;
+    if let Err(fault) = code.close(RoutineKind::Plain) {
+        return format!(in alloc; "{fault:?}");
+    }
+    let area: FlatArea = code.fill(&numbers(alloc, &names)?);
+    let mut told = String::from_str(alloc, "bytes")?;
+    add_bytes(alloc, &mut told, &area)?;
+    add_names(alloc, &mut told, &names)?;
+    Ok(told)
+}
+
+/// What comes of some expressions that are laid in a way.
+pub(crate) fn answer(alloc: Global, way: &str, spelled: &str) -> Result<String, AllocError> {
+    let most_names = word(way, 2).parse().unwrap_or(10_000);
+    let limits = CodeLimits {
+        labels: number_or(way, 3, 1_000),
+        code: number_or(way, 4, 262_144),
+        refs: number_or(way, 5, 50_000),
+    };
+    let mut names = Symbols::new(alloc, most_names, false);
+    let forest = trees(alloc, &mut names, spelled)?;
+    let mut laying = Laying {
+        tasks: Tasks::new(alloc),
+        out: Output::new(Code::new(alloc, limits), names, HERE),
+    };
+    laying.out.open(alloc, 15, false)?;
+    laying.lay(alloc, way, &forest)?;
+    told_of(alloc, laying.out)
+}

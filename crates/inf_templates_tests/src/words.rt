@@ -1,0 +1,25 @@
+//! The words of a line, and bytes as they are told.
+use inf_area::{Area, FlatArea};
+use std::alloc::{AllocError, Global};
+
+/// The word at a place, or an empty one.
+pub(crate) fn word(text: &str, place: usize) -> &str {
+    text.split(' ').nth(place).unwrap_or("")
+}
+
+/// The number at a place, or another one.
+pub(crate) fn number_or(text: &str, place: usize, other: usize) -> usize {
+    word(text, place).parse().unwrap_or(other)
+}
+
+/// Adds the bytes of an area.
+pub(crate) fn add_bytes(
+    alloc: Global,
+    told: &mut String,
+    area: &FlatArea,
+) -> Result<(), AllocError> {
+    for at in 0..area.len() {
+        told.push_str(format!(in alloc; " {:02X}", area.byte(at))?.as_str())?;
+    }
+    Ok(())
+}
