@@ -15,10 +15,10 @@ use crate::placing::{
 };
 use crate::reading::{STACK, argument_of, most_compared, operand_of, split};
 use crate::rows::{alone, branch, value};
-use crate::tasks::{Argument, Few, Task, Tasks, Worked};
+use crate::tasks::{Argument, Few, Memory, Task, Tasks, Worked};
 use crate::testing::{single_tests, triple_tests};
 use arrayvec::ArrayVec;
-use inf_expressions::{Node, Nodes, Operation, Relative, Single, Test};
+use inf_expressions::{Node, Nodes, Operation, Relative, Single, Step, Test};
 use inf_opcode::{Label, MOST_OPERANDS, Opcode};
 use inf_output::{Output, Simple, Veneer};
 use std::alloc::AllocError;
@@ -138,6 +138,68 @@ fn find(
     )
 }
 
+/// A test for equality with three.
+fn three(
+    nodes: &Nodes,
+    x: Simple,
+    b: usize,
+    c: usize,
+    d: usize,
+    label: Label,
+    out: &mut Output,
+) -> Result<(), AllocError>
+    ensures { OnOk result (out.new ≡ worked_code nodes.now (worked.Three x b c d label) out.old) }
+{
+    let operands = [
+        x,
+        operand_of(nodes, b),
+        operand_of(nodes, c),
+        operand_of(nodes, d),
+    ];
+    compared(Test::Equal, &operands, true, label, out)
+}
+
+/// A place in memory gets a value.
+fn store(
+    nodes: &Nodes,
+    memory: Memory,
+    a: usize,
+    b: usize,
+    c: usize,
+    out: &mut Output,
+) -> Result<(), AllocError>
+    ensures { OnOk result (out.new ≡ worked_code nodes.now (worked.Store memory a b c) out.old) }
+{
+    let operands = [
+        operand_of(nodes, a),
+        operand_of(nodes, b),
+        operand_of(nodes, c),
+    ];
+    stored(memory, &operands, out)
+}
+
+/// A step of a place in memory.
+fn step_in_memory(
+    nodes: &Nodes,
+    before: bool,
+    step: Step,
+    memory: Memory,
+    a: usize,
+    b: usize,
+    store: Option<u8>,
+    out: &mut Output,
+) -> Result<(), AllocError>
+    ensures { OnOk result (out.new ≡ worked_code nodes.now (worked.StepInMemory before step memory a b store) out.old) }
+{
+    let operands = [
+        operand_of(nodes, a),
+        operand_of(nodes, b),
+        by(step),
+        leaves_new(before),
+    ];
+    calling_routine(stepper(memory), &operands, store, out)
+}
+
 /// A test with any of a list, of whose members one instruction takes the first.
 fn any(
     nodes: &Nodes,
@@ -220,40 +282,19 @@ fn work(nodes: &Nodes, instruction: Worked, out: &mut Output) -> Result<(), Allo
             out.instruct(single_opcode(single), &operands, Some(d), None)
         }
         Worked::Find(relative, a, d, label) => find(nodes, relative, a, d, label, out),
-        Worked::Three(x, b, c, d, label) => {
-            let operands = [
-                x,
-                operand_of(nodes, b),
-                operand_of(nodes, c),
-                operand_of(nodes, d),
-            ];
-            compared(Test::Equal, &operands, true, label, out)
-        }
+        Worked::Three(x, b, c, d, label) => three(nodes, x, b, c, d, label, out),
         Worked::Compare(test, x, b, sense, label) => {
             let operands = [x, operand_of(nodes, b)];
             compared(test, &operands, sense, label, out)
         }
         Worked::Any(test, a, list, sense, label) => any(nodes, test, a, list, sense, label, out),
-        Worked::Store(memory, a, b, c) => {
-            let operands = [
-                operand_of(nodes, a),
-                operand_of(nodes, b),
-                operand_of(nodes, c),
-            ];
-            stored(memory, &operands, out)
-        }
+        Worked::Store(memory, a, b, c) => store(nodes, memory, a, b, c, out),
         Worked::Routine(veneer, few, store) => {
             calling_routine(veneer, &few_operands(nodes, few), store, out)
         }
-        Worked::StepInMemory(before, step, memory, a, b, store) => {
-            let operands = [
-                operand_of(nodes, a),
-                operand_of(nodes, b),
-                by(step),
-                leaves_new(before),
-            ];
-            calling_routine(stepper(memory), &operands, store, out)
-        }
+        Worked::StepInMemory(before, step, memory, a, b, store) => step_in_memory(
+            nodes, before, step, memory, a, b, store, out,
+        ),
         Worked::BareCall(f, store) => calling(operand_of(nodes, f), &[], store, out),
         Worked::Call(f, list, store) => call(nodes, f, list, store, out),
         Worked::Message(a, b, list, store) => message(nodes, a, b, list, store, out),

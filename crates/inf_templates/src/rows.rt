@@ -3,7 +3,7 @@ ghost use Rattle.std.specs.Prelude.{◌≡◌, ◌≤◌, ◌<◌, ◌+◌, [], 
 ghost use Rattle.inf_expressions.specs.Trees.{Tree};
 ghost use Rattle.inf_output.specs.Output.{Out, behind, next_label};
 ghost use Rattle.inf_templates.specs.Parts.{call_routine};
-ghost use Rattle.inf_templates.specs.Meaning.{and_branch, assign_alone, assign_value, both, call_of, leaf_branch, or_branch, part, parts, reader, related, related_opcode, step_alone, step_value, truth_behind};
+ghost use Rattle.inf_templates.specs.Meaning.{and_branch, assign_alone, assign_value, both, call_of, leaf_branch, one, or_branch, part, parts, reader, related, related_opcode, step_alone, step_value, truth_behind, two};
 ghost use Rattle.inf_templates.specs.Weights.{load_at, weight, weights};
 ghost use Rattle.inf_templates.specs.Tasks.{at, task_code, tasks_code};
 ghost use Rattle.inf_output.specs.declared.veneer.Veneer.TheVariants as veneer;
@@ -32,50 +32,86 @@ pub(crate) fn value(
 {
     match nodes.node(place) {
         Node::Leaf(operand) => tasks.first(&[Task::Put(simple(operand), to)]),
-        Node::One(Unary::Negate, a) => tasks.first(&[
+        Node::One(op, a) => one_value(nodes, op, a, to, tasks, out),
+        Node::Two(op, a, b) => two_value(nodes, op, a, b, to, tasks, out),
+    }
+}
+
+/// An operator of one part, with its value in a variable.
+fn one_value(
+    nodes: &Nodes,
+    op: Unary,
+    a: usize,
+    to: u8,
+    tasks: &mut Tasks,
+    out: &mut Output,
+) -> Result<(), AllocError>
+    ensures code { OnOk result (tasks_code nodes.now tasks.new out.new ≡ tasks_code nodes.now tasks.old ((one op (at nodes.now a)).value to out.old)) }
+    ensures less { OnOk result (weights nodes.now tasks.new < 18 + load_at nodes.now a + weights nodes.now tasks.old) }
+{
+    match op {
+        Unary::Negate => tasks.first(&[
             Task::Evaluate(Argument::Of(a)),
             Task::Instruct(Worked::Negate(a, to)),
         ]),
-        Node::One(Unary::Not, a) => {
+        Unary::Not => {
             let fails = truth(to, tasks, out)?;
             tasks.first(&[Task::Branch(a, true, fails)])
         }
-        Node::One(Unary::Single(single), a) => tasks.first(&[
+        Unary::Single(single) => tasks.first(&[
             Task::Evaluate(Argument::Of(a)),
             Task::Instruct(Worked::Single(single, a, to)),
         ]),
-        Node::One(Unary::Before(step), a) => step_value(nodes, true, step, a, to, tasks),
-        Node::One(Unary::Behind(step), a) => step_value(nodes, false, step, a, to, tasks),
-        Node::One(Unary::Relative(relative), a) => related(relative, a, to, tasks, out),
-        Node::One(Unary::Children, a) => children(a, Some(to), tasks),
-        Node::One(Unary::Call, f) => bare_call(nodes, f, Some(to), tasks),
-        Node::One(Unary::Indirect, list) => indirect(list, Some(to), tasks),
-        Node::Two(Binary::Operation(operation), a, b) => tasks.first(&[
+        Unary::Before(step) => step_value(nodes, true, step, a, to, tasks),
+        Unary::Behind(step) => step_value(nodes, false, step, a, to, tasks),
+        Unary::Relative(relative) => related(relative, a, to, tasks, out),
+        Unary::Children => children(a, Some(to), tasks),
+        Unary::Call => bare_call(nodes, a, Some(to), tasks),
+        Unary::Indirect => indirect(a, Some(to), tasks),
+    }
+}
+
+/// An operator of two parts, with its value in a variable.
+fn two_value(
+    nodes: &Nodes,
+    op: Binary,
+    a: usize,
+    b: usize,
+    to: u8,
+    tasks: &mut Tasks,
+    out: &mut Output,
+) -> Result<(), AllocError>
+    ensures code { OnOk result (tasks_code nodes.now tasks.new out.new
+        ≡ tasks_code nodes.now tasks.old ((two op (at nodes.now a) (at nodes.now b)).value to out.old)) }
+    ensures less { OnOk result (weights nodes.now tasks.new < 18 + load_at nodes.now a + load_at nodes.now b + weights nodes.now tasks.old) }
+{
+    match op {
+        Binary::Operation(operation) => tasks.first(&[
             Task::Evaluate(Argument::Of(b)),
             Task::Evaluate(Argument::Of(a)),
             Task::Instruct(Worked::Compute(operation, a, b, to)),
         ]),
-        Node::Two(Binary::Property(asked), a, b) => property(asked, a, b, Some(to), tasks),
-        Node::Two(Binary::Test(test), a, list) => {
+        Binary::Property(asked) => property(asked, a, b, Some(to), tasks),
+        Binary::Test(test) => {
             let fails = truth(to, tasks, out)?;
-            test_branch(nodes, test, a, list, false, fails, tasks, out)
+            test_branch(nodes, test, a, b, false, fails, tasks, out)
         }
-        Node::Two(Binary::Fails(test), a, list) => {
+        Binary::Fails(test) => {
             let fails = truth(to, tasks, out)?;
-            test_branch(nodes, test, a, list, true, fails, tasks, out)
+            test_branch(nodes, test, a, b, true, fails, tasks, out)
         }
-        Node::Two(Binary::Assign, v, a) => assign_value(nodes, v, a, to, tasks),
-        Node::Two(Binary::Comma, a, b) => tasks.first(&[Task::Alone(a), Task::Value(b, to)]),
-        Node::Two(Binary::And, a, b) => {
+        Binary::Assign => assign_value(nodes, a, b, to, tasks),
+        Binary::Comma => tasks.first(&[Task::Alone(a), Task::Value(b, to)]),
+        Binary::And => {
             let fails = truth(to, tasks, out)?;
             and_branch(a, b, false, fails, tasks, out)
         }
-        Node::Two(Binary::Or, a, b) => {
+        Binary::Or => {
             let fails = truth(to, tasks, out)?;
             or_branch(a, b, false, fails, tasks, out)
         }
-        Node::Two(Binary::Call, f, list) => call_of(nodes, f, list, Some(to), tasks),
-        Node::Two(Binary::Then | Binary::To, a, _) => tasks.first(&[Task::Value(a, to)]),
+        Binary::Call => call_of(nodes, a, b, Some(to), tasks),
+        Binary::Then | Binary::To => tasks.first(&[Task::Value(a, to)]),
     }
 }
 
