@@ -1,12 +1,12 @@
 -- What is left to be laid.
-use Rattle.std.specs.Prelude.{ℕ, true, List, [], ◌∷◌, map, take, Some, None}
+use Rattle.std.specs.Prelude.{◌≡◌, ℕ, true, List, [], ◌∷◌, map, take, Some, None}
 use Rattle.inf_opcode.specs.declared.opcodes.Opcode.TheVariants as opcode
 use Rattle.inf_expressions.specs.declared.operators.Test.TheVariants as test
 use Rattle.inf_expressions.specs.Trees.{Tree}
 use Rattle.inf_expressions.specs.Nodes.{tree_at}
 use Rattle.inf_output.specs.declared.operands.Simple.TheVariants.{Known}
 use Rattle.inf_output.specs.declared.veneer.Veneer.TheVariants as veneer
-use Rattle.inf_output.specs.Output.{Code, instruction, jumped, marked, nothing, to, ◌▸◌}
+use Rattle.inf_output.specs.Output.{Code, Out, instruction, jumped, marked, nothing, to, ◌▸◌}
 use Rattle.inf_templates.specs.declared.tasks.Argument.{Argument}
 use Rattle.inf_templates.specs.declared.tasks.Argument.TheVariants.{Of, Is}
 use Rattle.inf_templates.specs.declared.tasks.Few.{Few}
@@ -79,6 +79,14 @@ target_of trees (goal.Memory m a b) = InMemory m (part (at trees a) ∷ part (at
 abbrev pub tasks_code : List Tree → List Task → Code
 tasks_code trees [] = nothing
 tasks_code trees (t ∷ tasks) = task_code trees t ▸ tasks_code trees tasks
+
+-- what is left now, from what there is now, is some code and then what was left, from what there was
+abbrev pub Leads : List Tree → Code → List Task → List Task → Out → Out → Type 0
+Leads trees code old new before now = tasks_code trees new now ≡ tasks_code trees old (code before)
+
+-- the same where nothing was laid meanwhile
+abbrev pub Puts : List Tree → Code → List Task → List Task → Type 0
+Puts trees code old new = (o : Out) → Leads trees code old new o o
 
 -- what is given as the operands of an instruction, as parts
 abbrev pub parts_of : List Tree → List Argument → List Part

@@ -1,5 +1,5 @@
 -- How much there is to do at most: each task weighs more than what it makes of itself.
-use Rattle.std.specs.Prelude.{ℕ, ◌+◌, List, [], ◌∷◌}
+use Rattle.std.specs.Prelude.{ℕ, ◌+◌, ◌<◌, List, [], ◌∷◌}
 use Rattle.inf_expressions.specs.Trees.{Tree, Leaf, One, Two}
 use Rattle.inf_expressions.specs.Nodes.{tree_at}
 use Rattle.inf_templates.specs.declared.tasks.Argument.{Argument}
@@ -41,6 +41,10 @@ weight trees (task.Instruct w) = 1
 abbrev pub weights : List Tree → List Task → ℕ
 weights trees [] = 0
 weights trees (t ∷ tasks) = weight trees t + weights trees tasks
+
+-- what is left now weighs less than this and what was left
+abbrev pub WeighsUnder : List Tree → ℕ → List Task → List Task → Type 0
+WeighsUnder trees most old new = weights trees new < most + weights trees old
 
 -- the parts of what is assigned
 abbrev pub goal_load : List Tree → Goal → ℕ

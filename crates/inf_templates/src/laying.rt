@@ -4,8 +4,8 @@ ghost use Rattle.inf_expressions.specs.Trees.{Tree};
 ghost use Rattle.inf_output.specs.Output.{Out};
 ghost use Rattle.inf_templates.specs.Parts.{operand_of, operands, worked_out};
 ghost use Rattle.inf_templates.specs.Meaning.{part, parts};
-ghost use Rattle.inf_templates.specs.Weights.{weight, weights};
-ghost use Rattle.inf_templates.specs.Tasks.{at, few_parts, task_code, tasks_code, worked_code};
+ghost use Rattle.inf_templates.specs.Weights.{WeighsUnder, weight};
+ghost use Rattle.inf_templates.specs.Tasks.{Leads, at, few_parts, task_code, tasks_code, worked_code};
 ghost use Rattle.inf_templates.specs.declared.tasks.Task.TheVariants as task;
 ghost use Rattle.inf_templates.specs.declared.tasks.Worked.TheVariants as worked;
 
@@ -30,8 +30,8 @@ fn evaluate(
     tasks: &mut Tasks,
     out: &mut Output,
 ) -> Result<(), AllocError>
-    ensures code { OnOk result (tasks_code nodes.now tasks.new out.new ≡ tasks_code nodes.now (task.Evaluate argument ∷ tasks.old) out.old) }
-    ensures less { OnOk result (weights nodes.now tasks.new < weight nodes.now (task.Evaluate argument) + weights nodes.now tasks.old) }
+    ensures code { OnOk result (Leads nodes.now (task_code nodes.now (task.Evaluate argument)) tasks.old tasks.new out.old out.new) }
+    ensures less { OnOk result (WeighsUnder nodes.now (weight nodes.now (task.Evaluate argument)) tasks.old tasks.new) }
 {
     match argument {
         Argument::Is(_) => Ok(()),
@@ -45,7 +45,7 @@ fn evaluate(
 /// The members of a list, from the last to the first.
 fn list(nodes: &Nodes, place: usize, tasks: &mut Tasks) -> Result<(), AllocError>
     ensures code { OnOk result ((o : Out) → tasks_code nodes.now tasks.new o ≡ tasks_code nodes.now (task.List place ∷ tasks.old) o) }
-    ensures less { OnOk result (weights nodes.now tasks.new < weight nodes.now (task.List place) + weights nodes.now tasks.old) }
+    ensures less { OnOk result (WeighsUnder nodes.now (weight nodes.now (task.List place)) tasks.old tasks.new) }
 {
     match split(nodes, place) {
         Some((a, others)) => tasks.first(&[Task::List(others), Task::Evaluate(Argument::Of(a))]),
@@ -304,8 +304,8 @@ fn work(nodes: &Nodes, instruction: Worked, out: &mut Output) -> Result<(), Allo
 
 /// One task, which is done or makes others.
 fn step(nodes: &Nodes, task: Task, tasks: &mut Tasks, out: &mut Output) -> Result<(), AllocError>
-    ensures code { OnOk result (tasks_code nodes.now tasks.new out.new ≡ tasks_code nodes.now (task ∷ tasks.old) out.old) }
-    ensures less { OnOk result (weights nodes.now tasks.new < weight nodes.now task + weights nodes.now tasks.old) }
+    ensures code { OnOk result (Leads nodes.now (task_code nodes.now task) tasks.old tasks.new out.old out.new) }
+    ensures less { OnOk result (WeighsUnder nodes.now (weight nodes.now task) tasks.old tasks.new) }
 {
     match task {
         Task::Value(place, d) => value(nodes, place, d, tasks, out),

@@ -1,11 +1,11 @@
 //! What each operator is laid as, by its parts.
-ghost use Rattle.std.specs.Prelude.{◌≡◌, ◌≤◌, ◌<◌, ◌+◌, [], ◌∷◌, List, OnOk, IfOk, Option};
+ghost use Rattle.std.specs.Prelude.{◌≡◌, ◌+◌, [], ◌∷◌, List, OnOk, IfOk, Option};
 ghost use Rattle.inf_expressions.specs.Trees.{Tree};
-ghost use Rattle.inf_output.specs.Output.{Out, behind, next_label};
+ghost use Rattle.inf_output.specs.Output.{behind, next_label};
 ghost use Rattle.inf_templates.specs.Parts.{call_routine};
 ghost use Rattle.inf_templates.specs.Meaning.{and_branch, assign_alone, assign_value, both, call_of, leaf_branch, one, or_branch, part, parts, reader, related, related_opcode, step_alone, step_value, truth_behind, two};
-ghost use Rattle.inf_templates.specs.Weights.{load_at, weight, weights};
-ghost use Rattle.inf_templates.specs.Tasks.{at, task_code, tasks_code};
+ghost use Rattle.inf_templates.specs.Weights.{WeighsUnder, load_at, weight};
+ghost use Rattle.inf_templates.specs.Tasks.{Leads, Puts, at, task_code};
 ghost use Rattle.inf_output.specs.declared.veneer.Veneer.TheVariants as veneer;
 ghost use Rattle.inf_templates.specs.declared.tasks.Task.TheVariants as task;
 ghost use Rattle.inf_templates.specs.declared.tasks.Worked.TheVariants as worked;
@@ -27,8 +27,8 @@ pub(crate) fn value(
     tasks: &mut Tasks,
     out: &mut Output,
 ) -> Result<(), AllocError>
-    ensures code { OnOk result (tasks_code nodes.now tasks.new out.new ≡ tasks_code nodes.now (task.Value place to ∷ tasks.old) out.old) }
-    ensures less { OnOk result (weights nodes.now tasks.new < weight nodes.now (task.Value place to) + weights nodes.now tasks.old) }
+    ensures code { OnOk result (Leads nodes.now (task_code nodes.now (task.Value place to)) tasks.old tasks.new out.old out.new) }
+    ensures less { OnOk result (WeighsUnder nodes.now (weight nodes.now (task.Value place to)) tasks.old tasks.new) }
 {
     match nodes.node(place) {
         Node::Leaf(operand) => tasks.first(&[Task::Put(simple(operand), to)]),
@@ -46,8 +46,8 @@ fn one_value(
     tasks: &mut Tasks,
     out: &mut Output,
 ) -> Result<(), AllocError>
-    ensures code { OnOk result (tasks_code nodes.now tasks.new out.new ≡ tasks_code nodes.now tasks.old ((one op (at nodes.now a)).value to out.old)) }
-    ensures less { OnOk result (weights nodes.now tasks.new < 18 + load_at nodes.now a + weights nodes.now tasks.old) }
+    ensures code { OnOk result (Leads nodes.now ((one op (at nodes.now a)).value to) tasks.old tasks.new out.old out.new) }
+    ensures less { OnOk result (WeighsUnder nodes.now (18 + load_at nodes.now a) tasks.old tasks.new) }
 {
     match op {
         Unary::Negate => tasks.first(&[
@@ -81,9 +81,9 @@ fn two_value(
     tasks: &mut Tasks,
     out: &mut Output,
 ) -> Result<(), AllocError>
-    ensures code { OnOk result (tasks_code nodes.now tasks.new out.new
-        ≡ tasks_code nodes.now tasks.old ((two op (at nodes.now a) (at nodes.now b)).value to out.old)) }
-    ensures less { OnOk result (weights nodes.now tasks.new < 18 + load_at nodes.now a + load_at nodes.now b + weights nodes.now tasks.old) }
+    ensures code { let code = (two op (at nodes.now a) (at nodes.now b)).value to in
+        OnOk result (Leads nodes.now code tasks.old tasks.new out.old out.new) }
+    ensures less { OnOk result (WeighsUnder nodes.now (18 + load_at nodes.now a + load_at nodes.now b) tasks.old tasks.new) }
 {
     match op {
         Binary::Operation(operation) => tasks.first(&[
@@ -122,8 +122,8 @@ pub(crate) fn alone(
     tasks: &mut Tasks,
     out: &mut Output,
 ) -> Result<(), AllocError>
-    ensures code { OnOk result (tasks_code nodes.now tasks.new out.new ≡ tasks_code nodes.now (task.Alone place ∷ tasks.old) out.old) }
-    ensures less { OnOk result (weights nodes.now tasks.new < weight nodes.now (task.Alone place) + weights nodes.now tasks.old) }
+    ensures code { OnOk result (Leads nodes.now (task_code nodes.now (task.Alone place)) tasks.old tasks.new out.old out.new) }
+    ensures less { OnOk result (WeighsUnder nodes.now (weight nodes.now (task.Alone place)) tasks.old tasks.new) }
 {
     match nodes.node(place) {
         Node::Leaf(_) => Ok(()),
@@ -159,8 +159,9 @@ pub(crate) fn branch(
     tasks: &mut Tasks,
     out: &mut Output,
 ) -> Result<(), AllocError>
-    ensures code { OnOk result (tasks_code nodes.now tasks.new out.new ≡ tasks_code nodes.now (task.Branch place sense label ∷ tasks.old) out.old) }
-    ensures less { OnOk result (weights nodes.now tasks.new < weight nodes.now (task.Branch place sense label) + weights nodes.now tasks.old) }
+    ensures code { let code = task_code nodes.now (task.Branch place sense label) in
+        OnOk result (Leads nodes.now code tasks.old tasks.new out.old out.new) }
+    ensures less { OnOk result (WeighsUnder nodes.now (weight nodes.now (task.Branch place sense label)) tasks.old tasks.new) }
 {
     match nodes.node(place) {
         Node::Leaf(operand) => leaf_branch(simple(operand), sense, label, tasks),
@@ -203,8 +204,9 @@ pub(crate) fn branch(
 
 /// What stands behind the branch of a condition whose value is wanted: 1 where it does not go to the label that is answered, and else 0.
 fn truth(d: u8, tasks: &mut Tasks, out: &mut Output) -> Result<Label, AllocError>
-    ensures code { IfOk result (λ fails. (trees : List Tree) (o : Out) → tasks_code trees tasks.new o ≡ tasks_code trees tasks.old (truth_behind fails (next_label (record out.old { next = behind out.old.next })) d o)) }
-    ensures less { OnOk result ((trees : List Tree) → weights trees tasks.new ≤ 5 + weights trees tasks.old) }
+    ensures code { IfOk result (λ fails. (trees : List Tree) →
+        Puts trees (truth_behind fails (next_label (record out.old { next = behind out.old.next })) d) tasks.old tasks.new) }
+    ensures less { OnOk result ((trees : List Tree) → WeighsUnder trees 6 tasks.old tasks.new) }
     ensures label { IfOk result (λ fails. fails ≡ next_label out.old) }
     ensures out { out.new ≡ record out.old { next = behind (behind out.old.next) } }
 {
@@ -227,8 +229,8 @@ fn leaf_branch(
     label: Label,
     tasks: &mut Tasks,
 ) -> Result<(), AllocError>
-    ensures code { OnOk result ((trees : List Tree) (o : Out) → tasks_code trees tasks.new o ≡ tasks_code trees tasks.old (leaf_branch operand sense label o)) }
-    ensures less { OnOk result ((trees : List Tree) → weights trees tasks.new ≤ 1 + weights trees tasks.old) }
+    ensures code { OnOk result ((trees : List Tree) → Puts trees (leaf_branch operand sense label) tasks.old tasks.new) }
+    ensures less { OnOk result ((trees : List Tree) → WeighsUnder trees 2 tasks.old tasks.new) }
 {
     match operand {
         Simple::Known(number) => {
@@ -254,8 +256,9 @@ fn and_branch(
     tasks: &mut Tasks,
     out: &mut Output,
 ) -> Result<(), AllocError>
-    ensures code { OnOk result ((trees : List Tree) → tasks_code trees tasks.new out.new ≡ tasks_code trees tasks.old (and_branch (at trees a) (at trees b) sense label out.old)) }
-    ensures less { OnOk result ((trees : List Tree) → weights trees tasks.new ≤ 7 + load_at trees a + load_at trees b + weights trees tasks.old) }
+    ensures code { OnOk result ((trees : List Tree) →
+        Leads trees (and_branch (at trees a) (at trees b) sense label) tasks.old tasks.new out.old out.new) }
+    ensures less { OnOk result ((trees : List Tree) → WeighsUnder trees (8 + load_at trees a + load_at trees b) tasks.old tasks.new) }
 {
     if sense {
         both(a, b, true, label, tasks, out)
@@ -274,8 +277,9 @@ fn or_branch(
     tasks: &mut Tasks,
     out: &mut Output,
 ) -> Result<(), AllocError>
-    ensures code { OnOk result ((trees : List Tree) → tasks_code trees tasks.new out.new ≡ tasks_code trees tasks.old (or_branch (at trees a) (at trees b) sense label out.old)) }
-    ensures less { OnOk result ((trees : List Tree) → weights trees tasks.new ≤ 7 + load_at trees a + load_at trees b + weights trees tasks.old) }
+    ensures code { OnOk result ((trees : List Tree) →
+        Leads trees (or_branch (at trees a) (at trees b) sense label) tasks.old tasks.new out.old out.new) }
+    ensures less { OnOk result ((trees : List Tree) → WeighsUnder trees (8 + load_at trees a + load_at trees b) tasks.old tasks.new) }
 {
     if sense {
         tasks.first(&[Task::Branch(a, true, label), Task::Branch(b, true, label)])
@@ -293,8 +297,9 @@ fn both(
     tasks: &mut Tasks,
     out: &mut Output,
 ) -> Result<(), AllocError>
-    ensures code { OnOk result ((trees : List Tree) → tasks_code trees tasks.new out.new ≡ tasks_code trees tasks.old (both (at trees a) (at trees b) sense label out.old)) }
-    ensures less { OnOk result ((trees : List Tree) → weights trees tasks.new ≤ 7 + load_at trees a + load_at trees b + weights trees tasks.old) }
+    ensures code { OnOk result ((trees : List Tree) →
+        Leads trees (both (at trees a) (at trees b) sense label) tasks.old tasks.new out.old out.new) }
+    ensures less { OnOk result ((trees : List Tree) → WeighsUnder trees (8 + load_at trees a + load_at trees b) tasks.old tasks.new) }
 {
     let over = out.label();
     tasks.first(&[
@@ -314,8 +319,8 @@ fn step_value(
     to: u8,
     tasks: &mut Tasks,
 ) -> Result<(), AllocError>
-    ensures code { OnOk result ((o : Out) → tasks_code nodes.now tasks.new o ≡ tasks_code nodes.now tasks.old (step_value before step (at nodes.now a) to o)) }
-    ensures less { OnOk result (weights nodes.now tasks.new ≤ 5 + load_at nodes.now a + weights nodes.now tasks.old) }
+    ensures code { OnOk result (Puts nodes.now (step_value before step (at nodes.now a) to) tasks.old tasks.new) }
+    ensures less { OnOk result (WeighsUnder nodes.now (6 + load_at nodes.now a) tasks.old tasks.new) }
 {
     match target(nodes, a) {
         Goal::Nowhere => tasks.first(&[Task::Value(a, to)]),
@@ -342,8 +347,8 @@ fn step_alone(
     a: usize,
     tasks: &mut Tasks,
 ) -> Result<(), AllocError>
-    ensures code { OnOk result ((o : Out) → tasks_code nodes.now tasks.new o ≡ tasks_code nodes.now tasks.old (step_alone before step (at nodes.now a) o)) }
-    ensures less { OnOk result (weights nodes.now tasks.new ≤ 5 + load_at nodes.now a + weights nodes.now tasks.old) }
+    ensures code { OnOk result (Puts nodes.now (step_alone before step (at nodes.now a)) tasks.old tasks.new) }
+    ensures less { OnOk result (WeighsUnder nodes.now (6 + load_at nodes.now a) tasks.old tasks.new) }
 {
     match target(nodes, a) {
         Goal::Nowhere => tasks.first(&[Task::Alone(a)]),
@@ -365,8 +370,8 @@ fn assign_value(
     to: u8,
     tasks: &mut Tasks,
 ) -> Result<(), AllocError>
-    ensures code { OnOk result ((o : Out) → tasks_code nodes.now tasks.new o ≡ tasks_code nodes.now tasks.old (assign_value (at nodes.now v) (at nodes.now a) to o)) }
-    ensures less { OnOk result (weights nodes.now tasks.new ≤ 7 + load_at nodes.now v + load_at nodes.now a + weights nodes.now tasks.old) }
+    ensures code { OnOk result (Puts nodes.now (assign_value (at nodes.now v) (at nodes.now a) to) tasks.old tasks.new) }
+    ensures less { OnOk result (WeighsUnder nodes.now (8 + load_at nodes.now v + load_at nodes.now a) tasks.old tasks.new) }
 {
     match target(nodes, v) {
         Goal::Nowhere => tasks.first(&[Task::Value(a, to)]),
@@ -386,8 +391,8 @@ fn assign_value(
 /// An assignment without result.
 #[tactic(auto, unfolding(crate::specs::Meaning::assign_alone))]
 fn assign_alone(nodes: &Nodes, v: usize, a: usize, tasks: &mut Tasks) -> Result<(), AllocError>
-    ensures code { OnOk result ((o : Out) → tasks_code nodes.now tasks.new o ≡ tasks_code nodes.now tasks.old (assign_alone (at nodes.now v) (at nodes.now a) o)) }
-    ensures less { OnOk result (weights nodes.now tasks.new ≤ 7 + load_at nodes.now v + load_at nodes.now a + weights nodes.now tasks.old) }
+    ensures code { OnOk result (Puts nodes.now (assign_alone (at nodes.now v) (at nodes.now a)) tasks.old tasks.new) }
+    ensures less { OnOk result (WeighsUnder nodes.now (8 + load_at nodes.now v + load_at nodes.now a) tasks.old tasks.new) }
 {
     match target(nodes, v) {
         Goal::Nowhere => tasks.first(&[Task::Alone(a)]),
@@ -409,8 +414,8 @@ fn bare_call(
     store: Option<u8>,
     tasks: &mut Tasks,
 ) -> Result<(), AllocError>
-    ensures code { OnOk result ((o : Out) → tasks_code nodes.now tasks.new o ≡ tasks_code nodes.now tasks.old (call_of (at nodes.now f) [] store o)) }
-    ensures less { OnOk result (weights nodes.now tasks.new ≤ 5 + load_at nodes.now f + weights nodes.now tasks.old) }
+    ensures code { OnOk result (Puts nodes.now (call_of (at nodes.now f) [] store) tasks.old tasks.new) }
+    ensures less { OnOk result (WeighsUnder nodes.now (6 + load_at nodes.now f) tasks.old tasks.new) }
 {
     match target(nodes, f) {
         Goal::Memory(Memory::Property, a, b) => tasks.first(&[
@@ -436,8 +441,8 @@ fn call_of(
     store: Option<u8>,
     tasks: &mut Tasks,
 ) -> Result<(), AllocError>
-    ensures code { OnOk result ((o : Out) → tasks_code nodes.now tasks.new o ≡ tasks_code nodes.now tasks.old (call_of (at nodes.now f) (parts (at nodes.now list)) store o)) }
-    ensures less { OnOk result (weights nodes.now tasks.new ≤ 8 + load_at nodes.now f + load_at nodes.now list + weights nodes.now tasks.old) }
+    ensures code { OnOk result (Puts nodes.now (call_of (at nodes.now f) (parts (at nodes.now list)) store) tasks.old tasks.new) }
+    ensures less { OnOk result (WeighsUnder nodes.now (9 + load_at nodes.now f + load_at nodes.now list) tasks.old tasks.new) }
 {
     match target(nodes, f) {
         Goal::Memory(Memory::Property, a, b) => tasks.first(&[
@@ -468,8 +473,9 @@ fn indirect(list: usize, store: Option<u8>, tasks: &mut Tasks) -> Result<(), All
 
 /// The number of an object's children is counted by a routine of the veneer.
 fn children(a: usize, store: Option<u8>, tasks: &mut Tasks) -> Result<(), AllocError>
-    ensures code { OnOk result ((trees : List Tree) (o : Out) → tasks_code trees tasks.new o ≡ tasks_code trees tasks.old (call_routine veneer.Children (part (at trees a) ∷ []) store o)) }
-    ensures less { OnOk result ((trees : List Tree) → weights trees tasks.new ≤ 3 + load_at trees a + weights trees tasks.old) }
+    ensures code { OnOk result ((trees : List Tree) →
+        Puts trees (call_routine veneer.Children (part (at trees a) ∷ []) store) tasks.old tasks.new) }
+    ensures less { OnOk result ((trees : List Tree) → WeighsUnder trees (4 + load_at trees a) tasks.old tasks.new) }
 {
     tasks.first(&[
         Task::Evaluate(Argument::Of(a)),
@@ -485,8 +491,9 @@ fn property(
     store: Option<u8>,
     tasks: &mut Tasks,
 ) -> Result<(), AllocError>
-    ensures code { OnOk result ((trees : List Tree) (o : Out) → tasks_code trees tasks.new o ≡ tasks_code trees tasks.old (call_routine (reader asked) (part (at trees a) ∷ part (at trees b) ∷ []) store o)) }
-    ensures less { OnOk result ((trees : List Tree) → weights trees tasks.new ≤ 5 + load_at trees a + load_at trees b + weights trees tasks.old) }
+    ensures code { OnOk result ((trees : List Tree) →
+        Puts trees (call_routine (reader asked) (part (at trees a) ∷ part (at trees b) ∷ []) store) tasks.old tasks.new) }
+    ensures less { OnOk result ((trees : List Tree) → WeighsUnder trees (6 + load_at trees a + load_at trees b) tasks.old tasks.new) }
 {
     let veneer = match asked {
         PropertyPart::Value => Veneer::ReadProperty,
@@ -509,8 +516,9 @@ fn related(
     tasks: &mut Tasks,
     out: &mut Output,
 ) -> Result<(), AllocError>
-    ensures code { OnOk result ((trees : List Tree) → tasks_code trees tasks.new out.new ≡ tasks_code trees tasks.old (related (related_opcode relative) (part (at trees a)) to out.old)) }
-    ensures less { OnOk result ((trees : List Tree) → weights trees tasks.new ≤ 4 + load_at trees a + weights trees tasks.old) }
+    ensures code { OnOk result ((trees : List Tree) →
+        Leads trees (related (related_opcode relative) (part (at trees a)) to) tasks.old tasks.new out.old out.new) }
+    ensures less { OnOk result ((trees : List Tree) → WeighsUnder trees (5 + load_at trees a) tasks.old tasks.new) }
 {
     let next = out.label();
     tasks.first(&[

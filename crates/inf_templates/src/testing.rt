@@ -3,8 +3,8 @@ ghost use Rattle.std.specs.Prelude.{◌≡◌, ◌≤◌, ◌<◌, ◌+◌, [], 
 ghost use Rattle.inf_expressions.specs.Trees.{Tree};
 ghost use Rattle.inf_output.specs.Output.{Out};
 ghost use Rattle.inf_templates.specs.Meaning.{group, parts, takes_three, test_branch, tests};
-ghost use Rattle.inf_templates.specs.Weights.{load_at, weight, weights};
-ghost use Rattle.inf_templates.specs.Tasks.{at, task_code, tasks_code};
+ghost use Rattle.inf_templates.specs.Weights.{WeighsUnder, load_at, weight};
+ghost use Rattle.inf_templates.specs.Tasks.{Leads, Puts, at, task_code};
 ghost use Rattle.inf_templates.specs.declared.tasks.Task.TheVariants as task;
 
 use crate::reading::{TEMP, group, has_more, simple_of, split, takes_three};
@@ -26,8 +26,9 @@ pub(crate) fn test_branch(
     tasks: &mut Tasks,
     out: &mut Output,
 ) -> Result<(), AllocError>
-    ensures code { OnOk result (tasks_code nodes.now tasks.new out.new ≡ tasks_code nodes.now tasks.old (test_branch test (at nodes.now a) (at nodes.now list) sense label out.old)) }
-    ensures less { OnOk result (weights nodes.now tasks.new ≤ 9 + load_at nodes.now a + load_at nodes.now list + weights nodes.now tasks.old) }
+    ensures code { let code = test_branch test (at nodes.now a) (at nodes.now list) sense label in
+        OnOk result (Leads nodes.now code tasks.old tasks.new out.old out.new) }
+    ensures less { OnOk result (WeighsUnder nodes.now (10 + load_at nodes.now a + load_at nodes.now list) tasks.old tasks.new) }
 {
     let over = out.label();
     let there = chosen(sense, label, over);
@@ -84,8 +85,8 @@ pub(crate) fn triple_tests(
     there: Label,
     tasks: &mut Tasks,
 ) -> Result<(), AllocError>
-    ensures code { OnOk result ((o : Out) → tasks_code nodes.now tasks.new o ≡ tasks_code nodes.now (task.Triples x list sense label there ∷ tasks.old) o) }
-    ensures less { OnOk result (weights nodes.now tasks.new < weight nodes.now (task.Triples x list sense label there) + weights nodes.now tasks.old) }
+    ensures code { OnOk result (Puts nodes.now (task_code nodes.now (task.Triples x list sense label there)) tasks.old tasks.new) }
+    ensures less { OnOk result (WeighsUnder nodes.now (weight nodes.now (task.Triples x list sense label there)) tasks.old tasks.new) }
 {
     let last = Worked::Any(Test::Equal, Argument::Is(x), list, sense, label);
     let Some((b, others)) = split(nodes, list) else {
@@ -118,8 +119,9 @@ pub(crate) fn single_tests(
     there: Label,
     tasks: &mut Tasks,
 ) -> Result<(), AllocError>
-    ensures code { OnOk result ((o : Out) → tasks_code nodes.now tasks.new o ≡ tasks_code nodes.now (task.Singles test x list sense label there ∷ tasks.old) o) }
-    ensures less { OnOk result (weights nodes.now tasks.new < weight nodes.now (task.Singles test x list sense label there) + weights nodes.now tasks.old) }
+    ensures code { OnOk result (Puts nodes.now (task_code nodes.now (task.Singles test x list sense label there)) tasks.old tasks.new) }
+    ensures less { let most = weight nodes.now (task.Singles test x list sense label there) in
+        OnOk result (WeighsUnder nodes.now most tasks.old tasks.new) }
 {
     match split(nodes, list) {
         None => tasks.first(&[
