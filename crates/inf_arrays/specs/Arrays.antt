@@ -74,9 +74,9 @@ open_fault kind arrays = if nat_lt arrays.limit (arrays_size (all_of arrays) + c
 abbrev pub more_fault : ℕ → Bool → AllArrays → Listed → Option ArrayFault
 more_fault added fit arrays array = option_or (misfit_by array.kind (length array.entries) added fit)
     (if nat_lt arrays.limit (arrays_size (all_of arrays) + entry_size array.kind * added) then Some fault.Full else None) where
-  option_or : Option ArrayFault → Option ArrayFault → Option ArrayFault
-  option_or None other = other
-  option_or (Some f) other = Some f
+      option_or : Option ArrayFault → Option ArrayFault → Option ArrayFault
+      option_or None other = other
+      option_or (Some f) other = Some f
 
 abbrev pub fault_in : Option Listed → ℕ → Bool → AllArrays → Option ArrayFault
 fault_in None added fit arrays = None

@@ -12,8 +12,7 @@ use crate::globals::Globals;
 pub fn written_arrays(arrays: &Arrays)
     ensures size { length (bytes_of (arrays_cells (all_of arrays.now))) ≡ arrays_size (all_of arrays.now) }
     ensures laters { later_count (arrays_cells (all_of arrays.now)) ≡ arrays_laters (all_of arrays.now) }
-{
-}
+{}
 
 /// What is written of global variables has 480 bytes, and as many numbers that are known later as they count.
 pub fn written_globals(globals: &Globals)

@@ -182,9 +182,9 @@ part_at [] n at front is within = absurd (omega (arith, within))
 part_at (v ∷ vs) zero at front is within = dropped front (bytes_of (parts_cells (v ∷ vs))) at is
 part_at (v ∷ vs) (suc n) at front is within =
     ap (drop (get_or (places_from (at + part_size v) vs) n 0))
-        (ap (λ bs. front ++ bs) (bytes_joined (verb_cells v) (parts_cells vs)) ∙ sym (append_assoc front (bytes_of (verb_cells v)) (bytes_of (parts_cells vs))))
+    (ap (λ bs. front ++ bs) (bytes_joined (verb_cells v) (parts_cells vs)) ∙ sym (append_assoc front (bytes_of (verb_cells v)) (bytes_of (parts_cells vs))))
     ∙ part_at vs n (at + part_size v) (front ++ bytes_of (verb_cells v))
-        (omega (arith, is, length-append front (bytes_of (verb_cells v)), bytes_verb v)) (omega (arith, within))
+    (omega (arith, is, length-append front (bytes_of (verb_cells v)), bytes_verb v)) (omega (arith, within))
 
 pub verb_at_place : (vs : List VerbOf) (n : ℕ) → n < length vs
     → drop (get_or (places_of vs) n 0) (bytes_of (grammar_cells vs)) ≡ bytes_of (parts_cells (drop n vs))
@@ -206,14 +206,26 @@ prepositions_more_first first rest line =
 pub size_more_last : (first front back : List LineOf) (line : LineOf)
     → lines_size (first ++ (front ++ (back ++ line ∷ []))) ≡ lines_size (first ++ (front ++ back)) + line_size line
 size_more_last first front back line =
-    omega (arith, lines_size_joined first (front ++ (back ++ line ∷ [])), lines_size_joined front (back ++ line ∷ []), lines_size_joined back (line ∷ []),
-        lines_size_joined first (front ++ back), lines_size_joined front back)
+    omega (
+      arith,
+      lines_size_joined first (front ++ (back ++ line ∷ [])),
+      lines_size_joined front (back ++ line ∷ []),
+      lines_size_joined back (line ∷ []),
+      lines_size_joined first (front ++ back),
+      lines_size_joined front back,
+    )
 
 pub prepositions_more_last : (first front back : List LineOf) (line : LineOf)
     → lines_prepositions (first ++ (front ++ (back ++ line ∷ []))) ≡ lines_prepositions (first ++ (front ++ back)) + prepositions line.tokens
 prepositions_more_last first front back line =
-    omega (arith, prepositions_joined first (front ++ (back ++ line ∷ [])), prepositions_joined front (back ++ line ∷ []), prepositions_joined back (line ∷ []),
-        prepositions_joined first (front ++ back), prepositions_joined front back)
+    omega (
+      arith,
+      prepositions_joined first (front ++ (back ++ line ∷ [])),
+      prepositions_joined front (back ++ line ∷ []),
+      prepositions_joined back (line ∷ []),
+      prepositions_joined first (front ++ back),
+      prepositions_joined front back,
+    )
 
 pub lines_more_last : (front back : List LineOf) (line : LineOf) → (front ++ back) ++ line ∷ [] ≡ front ++ (back ++ line ∷ [])
 lines_more_last front back line = append_assoc front back (line ∷ [])
@@ -287,11 +299,14 @@ pub line_stands : (xs : List VerbOf) (n : ℕ) (how : Place) (line : LineOf) (ol
     → n < length xs → old ≡ get_or xs n old → new ≡ with_line how line old → size ≡ verbs_size xs → later ≡ verbs_laters xs
     → length xs ≤ 255 → length xs ≤ limit → size + s ≤ space → s ≡ line_size line → l ≡ prepositions line.tokens
     → (size + s ≡ verbs_size (set xs n new)) × (later + l ≡ verbs_laters (set xs n new)) × (length (set xs n new) ≤ 255)
-        × (length (set xs n new) ≤ limit) × (size + s ≤ space)
-line_stands xs n how line old new size later limit space s l within is_old is_new is_size is_later few limited room is_s is_l =
-    (omega (arith, size_set xs n new old within, with_line_size how line old, is_size, is_s, ap (λ v. lines_size (lines_of v)) is_old, ap (λ v. lines_size (lines_of v)) is_new),
-     omega (arith, laters_set xs n new old within, with_line_laters how line old, is_later, is_l, ap (λ v. lines_prepositions (lines_of v)) is_old, ap (λ v. lines_prepositions (lines_of v)) is_new),
-     omega (arith, length-set xs n new, few), omega (arith, length-set xs n new, limited), room)
+    × (length (set xs n new) ≤ limit) × (size + s ≤ space)
+line_stands xs n how line old new size later limit space s l within is_old is_new is_size is_later few limited room is_s is_l = (
+  omega (arith, size_set xs n new old within, with_line_size how line old, is_size, is_s, ap (λ v. lines_size (lines_of v)) is_old, ap (λ v. lines_size (lines_of v)) is_new),
+  omega (arith, laters_set xs n new old within, with_line_laters how line old, is_later, is_l, ap (λ v. lines_prepositions (lines_of v)) is_old, ap (λ v. lines_prepositions (lines_of v)) is_new),
+  omega (arith, length-set xs n new, few),
+  omega (arith, length-set xs n new, limited),
+  room,
+)
 
 -- a verb that stands at a place has no more bytes than all
 pub bytes_fit : (xs : List VerbOf) (n : ℕ) (old : VerbOf) → n < length xs → old ≡ get_or xs n old → lines_size (lines_of old) ≤ verbs_size xs
@@ -310,9 +325,9 @@ pub extended_stands : (xs : List VerbOf) (n : ℕ) (how : Place) (old again chan
     → n < length xs → old ≡ get_or xs n old → again ≡ get_or xs n again → changed ≡ extended how again
     → new ≡ get_or (set xs n changed) n new → size ≡ verbs_size xs → later ≡ verbs_laters xs → length xs ≤ 255 → length xs ≤ limit → size ≤ space
     → (size - lines_size (lines_of old) + lines_size (lines_of new) ≡ verbs_size (set xs n changed))
-        × (later - lines_prepositions (lines_of old) + lines_prepositions (lines_of new) ≡ verbs_laters (set xs n changed))
-        × (length (set xs n changed) ≤ 255) × (length (set xs n changed) ≤ limit)
-        × (size - lines_size (lines_of old) + lines_size (lines_of new) ≤ space)
+    × (later - lines_prepositions (lines_of old) + lines_prepositions (lines_of new) ≡ verbs_laters (set xs n changed))
+    × (length (set xs n changed) ≤ 255) × (length (set xs n changed) ≤ limit)
+    × (size - lines_size (lines_of old) + lines_size (lines_of new) ≤ space)
 extended_stands xs n how old again changed new size later limit space within is_old is_again is_changed is_new is_size is_later few limited room =
     let is_same : old ≡ again = same_at xs n old again within is_old is_again in
     let is_there : new ≡ changed = is_new ∙ get_or-set_same xs n changed new within in
@@ -321,8 +336,10 @@ extended_stands xs n how old again changed new size later limit space within is_
     let changed_size = ap (λ v. lines_size (lines_of v)) is_changed in
     let old_laters = ap (λ v. lines_prepositions (lines_of v)) is_same in
     let new_laters = ap (λ v. lines_prepositions (lines_of v)) is_there in
-    let changed_laters = ap (λ v. lines_prepositions (lines_of v)) is_changed in
-    (omega (arith, size_set xs n changed again within, ap (λ v. lines_size (lines_of v)) is_again, bytes_fit xs n old within is_old, is_size, old_size, new_size),
-     omega (arith, laters_set xs n changed again within, ap (λ v. lines_prepositions (lines_of v)) is_again, laters_fit xs n old within is_old, is_later, old_laters, new_laters),
-     omega (arith, length-set xs n changed, few), omega (arith, length-set xs n changed, limited),
-     omega (arith, bytes_fit xs n old within is_old, is_size, old_size, new_size, changed_size, extended_size how again, room))
+    let changed_laters = ap (λ v. lines_prepositions (lines_of v)) is_changed in (
+      omega (arith, size_set xs n changed again within, ap (λ v. lines_size (lines_of v)) is_again, bytes_fit xs n old within is_old, is_size, old_size, new_size),
+      omega (arith, laters_set xs n changed again within, ap (λ v. lines_prepositions (lines_of v)) is_again, laters_fit xs n old within is_old, is_later, old_laters, new_laters),
+      omega (arith, length-set xs n changed, few),
+      omega (arith, length-set xs n changed, limited),
+      omega (arith, bytes_fit xs n old within is_old, is_size, old_size, new_size, changed_size, extended_size how again, room),
+    )

@@ -142,14 +142,7 @@ impl Verb {
     }
 
     // A line behind all.
-    #[tactic(
-        auto,
-        using(
-            crate::proofs::Sizes::size_more_last,
-            crate::proofs::Sizes::prepositions_more_last,
-            crate::proofs::Sizes::lines_more_last
-        )
-    )]
+    #[tactic(auto, using(crate::proofs::Sizes::size_more_last, crate::proofs::Sizes::prepositions_more_last, crate::proofs::Sizes::lines_more_last))]
     fn add_last(&mut self, line: Line, size: usize, later: usize) -> Result<(), AllocError>
         requires size { size ≡ line_size line }
         requires later { later ≡ prepositions line.tokens }

@@ -11,6 +11,6 @@ invariant_of-self c =
     let none = ap (λ a. a.open_one) c.self.view_is ∙ c.requires.none in
     let room = subst (λ a. arrays_size (all_of a) + count_size c.args.kind ≤ a.limit) (sym c.self.view_is) c.requires.room in
     rw c.new.ensures.items (opened_stands closed c.args.kind c.self.inside.size c.self.inside.later c.self.inside.limit c.count_size.result
-        (c.self.invariant.0 ∙ ap (λ o. arrays_size (closed ++ option_to_list o)) none)
-        (c.self.invariant.1 ∙ ap (λ o. arrays_laters (closed ++ option_to_list o)) none)
-        (search rules) (omega (arith, room, c.self.invariant.0, c.count_size.ensures)) (search rules))
+    (c.self.invariant.0 ∙ ap (λ o. arrays_size (closed ++ option_to_list o)) none)
+    (c.self.invariant.1 ∙ ap (λ o. arrays_laters (closed ++ option_to_list o)) none)
+    (search rules) (omega (arith, room, c.self.invariant.0, c.count_size.ensures)) (search rules))

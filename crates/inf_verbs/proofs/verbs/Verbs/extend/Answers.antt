@@ -20,6 +20,6 @@ invariant_of-self-2 c =
     let xs = c.self.inside.verbs.items in
     let within : c.args.number < length xs = subst (λ (a : AllVerbs). c.args.number < length a.list) (sym c.self.view_is) c.requires in
     rw c.size-size.ensures (rw c.size.ensures (rw c.later_count-later.ensures (rw c.later_count.ensures
-        (extended_stands xs c.args.number c.args.place c.index-old.result.now c.index_mut.result.now c.extend.new.self c.index-new.result.now
-            c.self.inside.size c.self.inside.later c.self.inside.limit c.self.inside.space within c.index-old.ensures c.index_mut.ensures.value c.in_ok-extend.ensures.ok
-            c.index-new.ensures c.self.invariant.0 c.self.invariant.1 c.self.invariant.2 c.self.invariant.3 c.self.invariant.4))))
+    (extended_stands xs c.args.number c.args.place c.index-old.result.now c.index_mut.result.now c.extend.new.self c.index-new.result.now
+    c.self.inside.size c.self.inside.later c.self.inside.limit c.self.inside.space within c.index-old.ensures c.index_mut.ensures.value c.in_ok-extend.ensures.ok
+    c.index-new.ensures c.self.invariant.0 c.self.invariant.1 c.self.invariant.2 c.self.invariant.3 c.self.invariant.4))))
