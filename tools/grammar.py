@@ -34,6 +34,7 @@ MARKS = {
     "?": "Question", "@": "At",
 }
 LITERALS = ["NUMBER", "CHAR", "WORD", "TEXT"]
+LATER = "later"
 
 
 # Reading the page
@@ -51,7 +52,10 @@ def clauses(text):
 
 
 class Page:
-    """What the page says: words, classes (name -> how it is made), rules (name -> rows), preferences (rule -> class)."""
+    """What the page says: words, classes (name -> how it is made), rules (name -> rows), preferences (rule -> class).
+
+    Rows that come later are in no rule, but `parts` has those of all rows, so numbers and names stay when a row comes.
+    """
 
     def __init__(self, text):
         self.classes, self.rules, self.preferences = {}, {}, {}
@@ -64,6 +68,8 @@ class Page:
                 self.classes[clause[0]] = clause[2:]
             else:
                 self.add_rule(clause[0], clause[2:])
+        self.parts = [part for rows in self.rules.values() for row in rows for part in row if part != LATER]
+        self.rules = {rule: [row for row in rows if row[:1] != [LATER]] for rule, rows in self.rules.items()}
 
     def add_rule(self, name, words):
         self.groups = 0
@@ -200,7 +206,7 @@ class Facts:
     def steps_of(self, rule):
         """More than the steps through any of its rows to a token."""
         if rule not in self.steps:
-            self.steps[rule] = 1 + max(self.steps_through(row) for row in self.rules[rule])
+            self.steps[rule] = 1 + max((self.steps_through(row) for row in self.rules[rule]), default=0)
         return self.steps[rule]
 
     def steps_through(self, row):
@@ -258,10 +264,9 @@ class Tables:
         self.atoms = Atoms(page)
         self.facts = Facts(page, self.atoms)
         self.rule_numbers = {rule: number for number, rule in enumerate(page.rules)}
-        parts = [part for rows in page.rules.values() for row in rows for part in row]
-        tokens = [part for part in parts if part not in page.rules and (part[0] != "@")]
+        tokens = [part for part in page.parts if part not in page.rules and (part[0] != "@")]
         self.tokens = list(dict.fromkeys(tokens))
-        self.actions = list(dict.fromkeys(part for part in parts if part[0] == "@"))
+        self.actions = list(dict.fromkeys(part for part in page.parts if part[0] == "@"))
 
     def files(self):
         made = {

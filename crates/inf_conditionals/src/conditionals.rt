@@ -3,7 +3,7 @@ ghost use Rattle.std.specs.Prelude.{◌≡◌, ◌≤◌, length, IfOk, OnOk, Is
 ghost use Rattle.inf_conditionals.specs.Ends.{with_all_lone, with_lone};
 ghost use Rattle.inf_conditionals.specs.Open.{ends_at, levels_behind, turned_first};
 ghost use Rattle.inf_conditionals.specs.Words.{word_of};
-ghost use Rattle.inf_unit.specs.Statements.{name_of};
+ghost use Rattle.inf_unit.specs.Tokens.{name_of};
 ghost use Rattle.inf_unit.specs.Tokens.{spelled};
 
 use crate::judged::{Handed, Judged, Sign, Site};

@@ -1,10 +1,7 @@
 -- A bad token is passed over as the tokens before it tell.
-use Rattle.std.proofs.Common.{◌≡◌, ℕ, suc, zero, ◌+◌, ◌<◌, List, [], ◌∷◌, map, codes, Bool, true, false, not, ◌&&◌, ◌||◌, ◌==◌, Some, is_some, inl, inr, refl, sym, ap, ◌∙◌, arith, if◌then◌else◌}
-use Rattle.std.specs.List.{list_all, list_any}
-use Rattle.std.specs.Str.{bytes_eq, str_eq_ignore_ascii_case}
-use Rattle.std.proofs.lemmas.Bool.{and_parts, eqb-true, ne_eqb, not-true, or_cases}
+use Rattle.std.proofs.Common.{◌≡◌, ℕ, suc, zero, ◌+◌, ◌<◌, List, [], ◌∷◌, map, codes, Bool, true, false, not, ◌&&◌, ◌||◌, ◌==◌, is_some, bit_and, refl, sym, ap, ◌∙◌, arith, if◌then◌else◌}
+use Rattle.std.proofs.lemmas.Bool.{eqb-true, ne_eqb}
 use Rattle.inf_scanner.specs.declared.tokens.Mark.TheVariants as mark
-use Rattle.inf_scanner.specs.declared.tokens.Place.{Place}
 use Rattle.inf_scanner.specs.declared.tokens.TokenKind.{TokenKind}
 use Rattle.inf_scanner.specs.declared.tokens.TokenKind.TheVariants as kind
 use Rattle.inf_unit.specs.Messages.{FileNames}
@@ -12,7 +9,10 @@ use Rattle.inf_unit.specs.Tokens.{Spelled, is_mark}
 use Rattle.inf_machine.specs.declared.symbols.Symbol.{Symbol}
 use Rattle.inf_machine.specs.declared.symbols.Symbol.TheVariants.{Rule}
 use Rattle.inf_machine.specs.Grammar.{has}
-use Rattle.inf_machine.specs.Machine.{taken, read}
+use Rattle.inf_machine.specs.Decided.{beginning}
+use Rattle.inf_machine.specs.Machine.{fits, taken, read}
+use Rattle.inf_machine.proofs.Rows.{fits_is_begun}
+use Rattle.inf_machine.proofs.Sets.{has_and, has_zero}
 use Rattle.inf_machine.proofs.TokenLaws.{bad_tokens_begin_nothing}
 use Rattle.inf_syntax.specs.declared.actions.Action.{Action}
 use Rattle.inf_syntax.specs.Atoms.{mark_atom, of_word, place_in}
@@ -22,16 +22,12 @@ use Rattle.inf_grammar.specs.Language.{grammar, known}
 use Rattle.inf_grammar.specs.Routines.{is_in_routine}
 use Rattle.inf_grammar.specs.Sources.{is_inside}
 use Rattle.inf_syntax.specs.Words.{words}
-use Rattle.inf_grammar.proofs.OpenRoutines.{first_taken, open_routines_are_bracketed}
+use Rattle.inf_grammar.proofs.OpenRoutines.{FirstTaken, first_taken, open_routines_are_bracketed}
 use Rattle.inf_reader.specs.Tests.{name_atom, atom_of_kind, atom_of}
-use Rattle.inf_unit.specs.Statements.{Unit, head_of, next_unit, no_unit, unit_behind}
 use Rattle.inf_reader.specs.Cursors.{next_token}
-use Rattle.inf_reader.specs.Selection.{begins_piece, begins_piece_by, directive_words, have_come, is_piece_come}
 use Rattle.inf_reader.specs.Reading.{Reading, State, piece_rule, passed, between, turn}
 use Rattle.inf_reader.specs.Pieces.{BeginsPiece, AllAreTaken, front, behind, turned, at_hand_by, at_hand, taking}
 use Rattle.inf_reader.specs.declared.mode.Mode.TheVariants as mode
-use Rattle.inf_names.specs.Symbols.{folded}
-use Rattle.inf_laws.proofs.SameNames.{same_names}
 use Rattle.inf_laws.specs.BadTokens.{opened_by, opened_by_all, skip_behind, BadTokensArePassedOver}
 
 -- Brackets among tokens and among what the grammar sees of them
@@ -84,100 +80,57 @@ all_alike is_open [] = refl
 all_alike is_open (t ∷ tokens) =
     ap (λ b. open_behind_all b (map atom_of tokens)) (one_alike is_open t) ∙ all_alike (opened_by is_open t) tokens
 
--- The words of arrays
+-- No array has come
 
 abbrev array_set : ℕ
 array_set = of_word (codes "array")
 
--- where a name stands among words, by its bytes without case
-abbrev place_folded : List ℕ → List (List ℕ) → ℕ
-place_folded key [] = 0
-place_folded key (word ∷ rest) = if bytes_eq key (folded word) then 0 else 1 + place_folded key rest
-
-place_is : (bytes : List ℕ) (among : List (List ℕ)) → place_in bytes among ≡ place_folded (folded bytes) among
-place_is bytes [] = refl
-place_is bytes (word ∷ rest) = ap (λ n. if str_eq_ignore_ascii_case bytes word then 0 else 1 + n) (place_is bytes rest)
-
-same_atom : (bytes word : List ℕ) → str_eq_ignore_ascii_case bytes word ≡ true → name_atom bytes ≡ name_atom word
-same_atom bytes word e =
-    ap (λ n. 40 + 0 + n) (place_is bytes words ∙ ap (λ key. place_folded key words) (same_names bytes word e) ∙ sym (place_is word words))
-
--- a name that is one of some words, none of which is that of arrays
-no_array_name : (bytes : List ℕ) (among : List (List ℕ)) → list_all (λ word. not (has array_set (name_atom word))) among ≡ true
-    → list_any (λ word. str_eq_ignore_ascii_case bytes word) among ≡ true → has array_set (name_atom bytes) ≡ false
-no_array_name bytes [] all some = cc
-no_array_name bytes (word ∷ rest) all some =
-    let both = and_parts (not (has array_set (name_atom word))) (list_all (λ word. not (has array_set (name_atom word))) rest) all in
-    elim (or_cases (str_eq_ignore_ascii_case bytes word) (list_any (λ word. str_eq_ignore_ascii_case bytes word) rest) some) [
-      | inl e ↦ ap (has array_set) (same_atom bytes word e) ∙ not-true (has array_set (name_atom word)) both.0
-      | inr later ↦ no_array_name bytes rest both.1 later
-    ]
-
-none_of_arrays : list_all (λ word. not (has array_set (name_atom word))) directive_words ≡ true
-none_of_arrays = refl
-
--- what begins a piece that has come is no such word
-no_array_mark : (atom : ℕ) → (((atom == open_atom) || (atom == semicolon_atom)) || (atom == hash_atom)) ≡ true → has array_set atom ≡ false
-no_array_mark atom h =
-    elim (or_cases ((atom == open_atom) || (atom == semicolon_atom)) (atom == hash_atom) h) [
-      | inl other ↦ elim (or_cases (atom == open_atom) (atom == semicolon_atom) other) [
-        | inl e ↦ ap (has array_set) (eqb-true atom open_atom e)
-        | inr e ↦ ap (has array_set) (eqb-true atom semicolon_atom e)
-      ]
-      | inr e ↦ ap (has array_set) (eqb-true atom hash_atom e)
-    ]
-
-no_array_front : (k : TokenKind) (bytes : List ℕ) → begins_piece_by k bytes ≡ true → has array_set (atom_of_kind k bytes) ≡ false
-no_array_front (kind.Mark m) bytes h = no_array_mark (mark_atom m) h
-no_array_front kind.Name bytes h = no_array_name bytes directive_words none_of_arrays h
-no_array_front (kind.Number n) bytes h = cc
-no_array_front (kind.Char c) bytes h = cc
-no_array_front (kind.Word w) bytes h = cc
-no_array_front kind.Text bytes h = cc
-no_array_front (kind.Bad b) bytes h = cc
-no_array_front kind.End bytes h = cc
-
--- behind a `#` the unit is still at the front of its piece
-abbrev signed : Place → Unit
-signed place = record no_unit { sign = Some place }
-
-hash_behind : (k : TokenKind) (bytes : List ℕ) (place : Place) → (atom_of_kind k bytes == hash_atom) ≡ true → unit_behind (record { kind = k; bytes = bytes; place = place }) no_unit ≡ signed place
-hash_behind (kind.Mark m) bytes place h =
-    let t : Spelled = record { kind = kind.Mark m; bytes = bytes; place = place } in
-    let headed : Unit = record no_unit { head = Some (head_of t no_unit) } in
-    ap (λ n. if (n == semicolon_atom) || (n == close_atom) then next_unit else if n == hash_atom then signed place else headed) (eqb-true (mark_atom m) hash_atom h)
-hash_behind kind.Name bytes place h =
-    let other : true ≡ false = sym h ∙ name_is_none bytes hash_atom (omega arith) in cc
-hash_behind (kind.Number n) bytes place h = cc
-hash_behind (kind.Char c) bytes place h = cc
-hash_behind (kind.Word w) bytes place h = cc
-hash_behind kind.Text bytes place h = cc
-hash_behind (kind.Bad b) bytes place h = cc
-hash_behind kind.End bytes place h = cc
-
-no_array_behind : (place : Place) (tokens : List Spelled) → have_come (signed place) tokens ≡ true → begin_array (map atom_of tokens) ≡ false
-no_array_behind place [] h = refl
-no_array_behind place (t ∷ tokens) h =
-    no_array_front t.kind t.bytes (and_parts (begins_piece t) (have_come (unit_behind t (signed place)) tokens) h).0
-
--- a piece that has come is no array's
-no_array : (tokens : List Spelled) → is_piece_come tokens ≡ true → is_array (map atom_of tokens) ≡ false
-no_array [] h = refl
-no_array (t ∷ tokens) h =
-    let both = and_parts (begins_piece t) (have_come (unit_behind t no_unit) tokens) h in
-    ap (λ b. b || ((atom_of t == hash_atom) && begin_array (map atom_of tokens))) (no_array_front t.kind t.bytes both.0)
-    ∙ by_sign (atom_of t == hash_atom) refl both.1
+-- what no word of an array begins, an array does not begin
+no_array : (atom : ℕ) (parts : List (Symbol Action)) → (bit_and (beginning grammar known parts) array_set == 0) ≡ true → fits grammar known atom parts ≡ true → has array_set atom ≡ false
+no_array atom parts apart f =
+    other (has (beginning grammar known parts) atom) (has array_set atom) (sym (fits_is_begun grammar known atom parts) ∙ f)
+    (sym (has_and (beginning grammar known parts) array_set atom) ∙ ap (λ s. has s atom) (eqb-true (bit_and (beginning grammar known parts) array_set) 0 apart) ∙ has_zero atom)
   where
-    by_sign : (b : Bool) → (atom_of t == hash_atom) ≡ b → have_come (unit_behind t no_unit) tokens ≡ true → ((atom_of t == hash_atom) && begin_array (map atom_of tokens)) ≡ false
-    by_sign true e come =
-        ap (λ b. b && begin_array (map atom_of tokens)) e
-        ∙ no_array_behind t.place tokens (ap (λ u. have_come u tokens) (sym (hash_behind t.kind t.bytes t.place e)) ∙ come)
-    by_sign false e come = ap (λ b. b && begin_array (map atom_of tokens)) e
+    other : (x y : Bool) → x ≡ true → (x && y) ≡ false → y ≡ false
+    other true y e g = g
+    other false y e g = cc
+
+pieces_apart : (bit_and (beginning grammar known (Rule piece_rule ∷ [])) array_set == 0) ≡ true
+unfolding grammar known
+pieces_apart = refl
+
+directives_apart : (bit_and (beginning grammar known (Rule 2 ∷ [])) array_set == 0) ≡ true
+unfolding grammar known
+directives_apart = refl
+
+-- behind a `#` a directive is read
+behind_hash : (taken grammar known hash_atom (Rule piece_rule ∷ [])).left ≡ Rule 2 ∷ []
+unfolding grammar known
+behind_hash = refl
+
+no_array_behind : (atoms : List ℕ) → is_some (read grammar known (Rule 2 ∷ []) atoms) ≡ true → begin_array atoms ≡ false
+no_array_behind [] some = refl
+no_array_behind (atom ∷ atoms) some = no_array atom (Rule 2 ∷ []) directives_apart (first_taken (Rule 2 ∷ []) atom atoms some).fits_it
+
+-- a piece is no array's
+no_array_piece : (atoms : List ℕ) → is_some (read grammar known (Rule piece_rule ∷ []) atoms) ≡ true → is_array atoms ≡ false
+no_array_piece [] some = refl
+no_array_piece (atom ∷ atoms) some =
+    ap (λ b. b || ((atom == hash_atom) && begin_array atoms)) (no_array atom (Rule piece_rule ∷ []) pieces_apart t.fits_it) ∙ by_sign (atom == hash_atom) refl
+  where
+    t : FirstTaken (Rule piece_rule ∷ []) atom atoms
+    t = first_taken (Rule piece_rule ∷ []) atom atoms some
+
+    by_sign : (b : Bool) → (atom == hash_atom) ≡ b → ((atom == hash_atom) && begin_array atoms) ≡ false
+    by_sign true e =
+        let left : (taken grammar known atom (Rule piece_rule ∷ [])).left ≡ Rule 2 ∷ [] = ap (λ a. (taken grammar known a (Rule piece_rule ∷ [])).left) (eqb-true atom hash_atom e) ∙ behind_hash in
+        ap (λ b. b && begin_array atoms) e ∙ no_array_behind atoms (sym (ap (λ symbols. is_some (read grammar known symbols atoms)) left) ∙ t.goes_on)
+    by_sign false e = ap (λ b. b && begin_array atoms) e
 
 bracketed : (tokens : List Spelled) → BeginsPiece tokens → is_inside (read grammar known (Rule piece_rule ∷ []) (map atom_of tokens)) ≡ opened_by_all false tokens
 bracketed tokens b =
     open_routines_are_bracketed (map atom_of tokens) b.begins
-    ∙ ap (λ a. not a && open_behind_all false (map atom_of tokens)) (no_array tokens b.has_come)
+    ∙ ap (λ a. not a && open_behind_all false (map atom_of tokens)) (no_array_piece (map atom_of tokens) ((bad_tokens_begin_nothing grammar known piece_rule (map atom_of tokens) language_is_decided).1 b.begins))
     ∙ all_alike false tokens
 
 -- What is left to be read where tokens of a piece were taken

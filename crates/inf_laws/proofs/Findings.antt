@@ -11,9 +11,8 @@ use Rattle.inf_names.specs.declared.symbols.Found.TheVariants as found
 use Rattle.inf_symbol.specs.Spellings.{Name}
 use Rattle.inf_symbol.specs.Locals.{Headed, Local, Repeated, earlier, local_of, most_locals, no_locals, number_from, number_of, with_local_by, with_locals}
 use Rattle.inf_unit.specs.Messages.{Blame, FileNames}
-use Rattle.inf_work.specs.Units.{first_fault, header_fault, is_system_name, local_fault, name_fault, operand_fault, operand_fault_by, operands_fault}
-use Rattle.inf_laws.specs.UnusedLocals.{is_local}
-use Rattle.inf_laws.specs.Findings.{CallsTellTheFirst, Finding, HeadersTellTheFirst, IsBefore, IsLeast, IsTold, ReturnsTellTheFirst, declared_before, different, first_named, many_arguments, many_locals, repeated_local, repeated_locals, repeated_one, taken_as, taken_name, system_operand, system_routine, too_many_arguments, too_many_locals, wrong_name, wrong_names}
+use Rattle.inf_work.specs.Findings.{first_fault, header_fault, local_fault, name_fault}
+use Rattle.inf_laws.specs.Findings.{Finding, HeadersTellTheFirst, IsBefore, IsLeast, IsTold, declared_before, different, first_named, many_locals, repeated_local, repeated_locals, repeated_one, taken_as, taken_name, system_routine, too_many_locals}
 use Rattle.inf_laws.proofs.Choices.{either, either-none}
 use Rattle.inf_laws.proofs.SameNames.{same_names}
 
@@ -98,87 +97,9 @@ among_if : (t : Bool) (f g : Finding) → Contains (found_if t f) g → g ≡ f
 among_if true f g among = one_of_one f g among
 among_if false f g among = absurd (one_of_none g among)
 
--- Names as operands
-
-number_tells : (n : ℕ) (name : List ℕ) (locals : List Local) → is_some (number_from n name locals) ≡ is_local name locals
-number_tells n name [] = refl
-number_tells n name (l ∷ locals) = go (str_eq_ignore_ascii_case l.name name) (number_tells (n + 1) name locals)
-  where
-    go : (t : Bool) → is_some (number_from (n + 1) name locals) ≡ is_local name locals → is_some (cond t (Some n) (number_from (n + 1) name locals)) ≡ (t || is_local name locals)
-    go true later = refl
-    go false later = later
-
-name_told : (locals : List Local) (token : ℕ) (n : Name) → IsTold (operand_fault locals n) (wrong_name locals token n)
-name_told locals token n = go (number_of n.bytes locals) (is_local n.bytes locals) (number_tells 1 n.bytes locals)
-  where
-    hidden : (b : Bool) → found_if (b && false) (system_operand token n) ≡ []
-    hidden true = refl
-    hidden false = refl
-
-    plain : (b : Bool) → IsTold (cond b (Some (system_operand 0 n).blame) None) (found_if (b && true) (system_operand token n))
-    plain true = told_one (system_operand token n)
-    plain false = refl
-
-    go : (o : Option ℕ) (local : Bool) → is_some o ≡ local → IsTold (operand_fault_by o n) (found_if (is_system_name n.bytes && not local) (system_operand token n))
-    go (Some number) true e = hidden (is_system_name n.bytes)
-    go (Some number) false e = cc
-    go None true e = cc
-    go None false e = plain (is_system_name n.bytes)
-
-among_name : (locals : List Local) (token : ℕ) (n : Name) (g : Finding) → Contains (wrong_name locals token n) g → g ≡ system_operand token n
-among_name locals token n g among = among_if (is_system_name n.bytes && not (is_local n.bytes locals)) (system_operand token n) g among
-
-among_names : (locals : List Local) (token : ℕ) (names : List Name) (g : Finding) → Contains (wrong_names locals token names) g → token ≤ g.token
-among_names locals token [] g among = absurd (one_of_none g among)
-among_names locals token (n ∷ names) g among =
-    go (Contains-append_cases (wrong_name locals token n) (wrong_names locals (token + 2) names) g among) (among_names locals (token + 2) names g)
-  where
-    go : Contains (wrong_name locals token n) g ⊎ Contains (wrong_names locals (token + 2) names) g → (Contains (wrong_names locals (token + 2) names) g → token + 2 ≤ g.token) → token ≤ g.token
-    go (inl here) later = let at : g.token ≡ token = ap (λ f. f.token) (among_name locals token n g here) in omega (arith, at)
-    go (inr there) later = omega (arith, later there)
-
-names_told : (locals : List Local) (token : ℕ) (names : List Name) → IsTold (operands_fault locals names) (wrong_names locals token names)
-names_told locals token [] = refl
-names_told locals token (n ∷ names) =
-    told_first (operand_fault locals n) (operands_fault locals names) (wrong_name locals token n) (wrong_names locals (token + 2) names)
-    (name_told locals token n) (names_told locals (token + 2) names)
-    (λ f g here there. let at : f.token ≡ token = ap (λ f. f.token) (among_name locals token n f here) in
-    inl (omega (arith, at, among_names locals (token + 2) names g there)))
-
-pub returns_tell_the_first : ReturnsTellTheFirst
-returns_tell_the_first locals n = name_told locals 1 n
-
--- Calls
-
 choice : (t : Bool) (b : Blame) (y : Option Blame) → first_fault (cond t (Some b) None) y ≡ cond t (Some b) y
 choice true b y = refl
 choice false b y = refl
-
-pub calls_tell_the_first : CallsTellTheFirst
-calls_tell_the_first unit locals called arguments =
-    let names = wrong_names locals 2 arguments in
-    let too_many : Bool = ltb 7 (length arguments) in
-    let told : Option Blame = cond too_many (Some (too_many_arguments unit).blame) None in
-    let rest : IsTold (first_fault told (operands_fault locals arguments)) (names ++ many_arguments unit arguments) =
-    told_second (operands_fault locals arguments) told names (many_arguments unit arguments) (names_told locals 2 arguments) (told_if too_many (too_many_arguments unit))
-    (λ f g here there. let at : f.token ≡ 0 = ap (λ f. f.token) (among_if too_many (too_many_arguments unit) f here) in
-    inl (omega (arith, at, among_names locals 2 arguments g there))) in
-    let all =
-    told_first (operand_fault locals called) (first_fault told (operands_fault locals arguments)) (wrong_name locals 0 called) (names ++ many_arguments unit arguments)
-    (name_told locals 0 called) rest
-    (λ f g here there. behind f g (among_name locals 0 called f here) (Contains-append_cases names (many_arguments unit arguments) g there)) in
-    subst (λ x. IsTold (first_fault (operand_fault locals called) x) (wrong_name locals 0 called ++ names ++ many_arguments unit arguments))
-    (choice too_many (too_many_arguments unit).blame (operands_fault locals arguments))
-    (subst (IsTold (first_fault (operand_fault locals called) (first_fault told (operands_fault locals arguments))))
-    (sym (append_assoc (wrong_name locals 0 called) names (many_arguments unit arguments))) all)
-  where
-    behind : (f g : Finding) → f ≡ system_operand 0 called → Contains (wrong_names locals 2 arguments) g ⊎ Contains (many_arguments unit arguments) g → IsBefore f g
-    behind f g is (inl there) = let at : f.token ≡ 0 = ap (λ f. f.token) is in inl (omega (arith, at, among_names locals 2 arguments g there))
-    behind f g is (inr there) =
-        let same : g ≡ too_many_arguments unit = among_if (ltb 7 (length arguments)) (too_many_arguments unit) g there in
-        let number : f.number ≡ (system_operand 0 called).number = ap (λ f. f.number) is in
-        let other : g.number ≡ (too_many_arguments unit).number = ap (λ f. f.number) same in
-        inr (ap (λ f. f.token) is ∙ sym (ap (λ f. f.token) same), omega (arith, number, other))
 
 -- Headers
 

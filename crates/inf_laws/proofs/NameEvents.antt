@@ -17,46 +17,37 @@ use Rattle.inf_names.proofs.Putting.{length-put}
 use Rattle.inf_report.specs.Messages.{Undeclared}
 use Rattle.inf_symbol.specs.Spellings.{Name}
 use Rattle.inf_unit.specs.Messages.{FileNames, Reported, location, with_error}
-use Rattle.inf_unit.specs.Names.{constant_in, with_all_undeclared, with_undeclared}
-use Rattle.inf_work.specs.Units.{name_full, used, with_constant_by, with_name}
-use Rattle.inf_laws.specs.NameEvents.{Declares, Event, FirstDeclarationsCount, FewHaveRoom, HaveRoom, OperandsUse, UndeclaredAreTold, UnitsDeclare, Use, Uses, declares, first_declaration, is_too_many, stands_for, undeclared_use, undeclared_uses, uses, with_event, with_events, with_uses_told}
+use Rattle.inf_unit.specs.Names.{with_all_undeclared, with_undeclared}
+use Rattle.inf_names.specs.declared.symbols.DeclareFault.TheVariants as declaring
+use Rattle.inf_output.specs.Output.{declared_by, referred_by}
+use Rattle.inf_laws.specs.NameEvents.{Declares, Event, is_full_fault, FirstDeclarationsCount, FewHaveRoom, HaveRoom, OperandsUse, UndeclaredAreTold, UnitsDeclare, Use, Uses, declares, first_declaration, is_too_many, stands_for, undeclared_use, undeclared_uses, uses, with_event, with_events, with_uses_told}
 use Rattle.inf_laws.proofs.Choices.{cond-again, cond-swap, either, or-assoc, or-false, or-known}
 use Rattle.inf_laws.proofs.SameNames.{bytes_eq-sym, key_same, same_key}
 
 -- What the compiler does is an event
 
 pub units_declare : UnitsDeclare
-units_declare n m t = go (declare_fault n.bytes t)
+units_declare n m o = go (declare_fault n.bytes o.names)
   where
-    go : (o : Option (DeclareFault Place)) → with_name n m o t ≡ cond (is_some o) t (with_declared n.bytes n.place m t)
+    go : (f : Option (DeclareFault Place)) → (declared_by f n.bytes n.place m o).names ≡ cond (is_some f) o.names (with_declared n.bytes n.place m o.names)
     go None = refl
-    go (Some fault) = refl
-
--- a constant is known as before
-constant_stays : (f : Found Place) (number : ℕ) (n : Name) (t : Table Place) → constant_in f ≡ Some number
-    → t ≡ cond (is_some (refer_fault_by f (is_full t))) t (with_used_by f n.bytes n.place t)
-constant_stays (found.System m) number n t is = cc
-constant_stays (found.Declared m place) number n t is = refl
-constant_stays found.Used number n t is = cc
-constant_stays found.Unknown number n t is = cc
+    go (Some declaring.Full) = refl
+    go (Some declaring.Memory) = refl
+    go (Some (declaring.Present place)) = refl
 
 pub operands_use : OperandsUse
-operands_use n o = by_constant (constant_in (found_in n.bytes o.names)) refl
+operands_use n o = go (refer_fault n.bytes o.names)
   where
-    go : (r : Option ReferFault) → (used r n o).names ≡ cond (is_some r) o.names (with_used_by (found_in n.bytes o.names) n.bytes n.place o.names)
+    go : (r : Option ReferFault) → (referred_by r n.bytes n.place o).names ≡ cond (is_some r) o.names (with_used_by (found_in n.bytes o.names) n.bytes n.place o.names)
     go None = refl
     go (Some fault) = refl
-
-    by_constant : (c : Option ℕ) → constant_in (found_in n.bytes o.names) ≡ c → (with_constant_by c n o).names ≡ with_event (Uses n.bytes n.place) o.names
-    by_constant None is = go (refer_fault n.bytes o.names)
-    by_constant (Some number) is = constant_stays (found_in n.bytes o.names) number n o.names is
 
 -- Room for names
 
 no_fault : (e : Event) (t : Table Place) → is_full t ≡ false → is_too_many e t ≡ false
-no_fault (Declares name m place) t room = ap (λ full. is_some (name_full (declare_fault_by (found_in name t) full))) room ∙ go (found_in name t)
+no_fault (Declares name m place) t room = ap (λ full. is_full_fault (declare_fault_by (found_in name t) full)) room ∙ go (found_in name t)
   where
-    go : (f : Found Place) → is_some (name_full (declare_fault_by f false)) ≡ false
+    go : (f : Found Place) → is_full_fault (declare_fault_by f false) ≡ false
     go (found.System x) = refl
     go (found.Declared x first) = refl
     go found.Used = refl
@@ -178,7 +169,7 @@ declared_behind name other m place t room = go (bytes_eq (folded name) (folded o
     apart true e = refl
     apart false e = found-other name other new t e
 
-    same : (f : Found Place) (full : Bool) → found_in name t ≡ f → bytes_eq (folded name) (folded other) ≡ true → is_some (name_full (declare_fault_by f full)) ≡ false → found_in name (cond (is_some (declare_fault_by f full)) t (with_declared other place m t)) ≡ behind_declared true m place f
+    same : (f : Found Place) (full : Bool) → found_in name t ≡ f → bytes_eq (folded name) (folded other) ≡ true → is_full_fault (declare_fault_by f full) ≡ false → found_in name (cond (is_some (declare_fault_by f full)) t (with_declared other place m t)) ≡ behind_declared true m place f
     same (found.System x) full is e room = is
     same (found.Declared x first) full is e room = is
     same found.Used full is e room = found-put name other new t e

@@ -1,21 +1,19 @@
--- The error of a unit: each rule finds its own errors, and the first of all, by its token and then by its number, is told.
+-- The error of a header: each rule finds its own errors, and the first of all, by its token and then by its number, is told.
 use Rattle.std.specs.Prelude.{◌≡◌, ◌+◌, ◌<◌, ◌⊎◌, ℕ, List, [], ◌∷◌, ◌++◌, length, find, Contains, ◌&&◌, not, nat_lt, if◌then◌else◌, Option, Some, None, is_some}
 use Rattle.std.specs.Str.{str_eq_ignore_ascii_case}
 use Rattle.inf_scanner.specs.declared.tokens.Place.{Place}
 use Rattle.inf_names.specs.Symbols.{Table, declare_fault, found_in}
 use Rattle.inf_names.specs.declared.symbols.Found.{Found}
 use Rattle.inf_names.specs.declared.symbols.Found.TheVariants as found
-use Rattle.inf_report.specs.Messages.{Bytes, Declared, SystemName, WrongKind, TooManyArguments, TooMany}
+use Rattle.inf_report.specs.Messages.{Declared, SystemName, TooMany}
 use Rattle.inf_report.specs.declared.messages.Countable.TheVariants as countable
 use Rattle.inf_symbol.specs.Spellings.{Name}
-use Rattle.inf_symbol.specs.Locals.{Local, with_locals, no_locals}
+use Rattle.inf_symbol.specs.Locals.{with_locals, no_locals}
 use Rattle.inf_unit.specs.Messages.{FileNames, Blame, location}
-use Rattle.inf_work.specs.Units.{is_system_name, call_fault, operand_fault, header_fault, name_fault}
-use Rattle.inf_laws.specs.UnusedLocals.{is_local}
+use Rattle.inf_work.specs.Findings.{header_fault, name_fault}
 
 -- What a rule finds: at which token of the unit, counted from 0, the unit's first; the number of the kind of its message; and
--- the message at its place. The kinds: 8, a name that was declared before or is a system name; 9, a name of the wrong kind;
--- 14, too many arguments; 19, too many locals.
+-- the message at its place. The kinds: 8, a name that was declared before or is a system name; 19, too many locals.
 pub record Finding : Type 0 where
   pub token : ℕ
   pub number : ℕ
@@ -35,37 +33,6 @@ pub record IsLeast (f : Finding) (all : List Finding) : Type 0 where
 abbrev pub IsTold : Option Blame → List Finding → Type 0
 IsTold None all = all ≡ []
 IsTold (Some b) all = (f : Finding) × (f.blame ≡ b) × IsLeast f all
-
--- A call and a return
-
--- a system name as an operand: its kind is wrong
-abbrev pub system_operand : ℕ → Name → Finding
-system_operand token n = record { token = token; number = 9; blame = record { place = n.place; message = WrongKind (Bytes n.bytes) } }
-
--- it is found where no local of this name hides it
-abbrev pub wrong_name : List Local → ℕ → Name → List Finding
-wrong_name locals token n =
-    if is_system_name n.bytes && not (is_local n.bytes locals) then system_operand token n ∷ [] else []
-
--- The names of a call are every second of its tokens: a parenthesis or a comma stands behind each.
-abbrev pub wrong_names : List Local → ℕ → List Name → List Finding
-wrong_names locals token [] = []
-wrong_names locals token (n ∷ names) = wrong_name locals token n ++ wrong_names locals (token + 2) names
-
--- more than seven arguments, which is told where the call begins
-abbrev pub too_many_arguments : Place → Finding
-too_many_arguments unit = record { token = 0; number = 14; blame = record { place = unit; message = TooManyArguments } }
-
-abbrev pub many_arguments : Place → List Name → List Finding
-many_arguments unit arguments = if nat_lt 7 (length arguments) then too_many_arguments unit ∷ [] else []
-
-abbrev pub call_findings : Place → List Local → Name → List Name → List Finding
-call_findings unit locals called arguments =
-    wrong_names locals 0 (called ∷ arguments) ++ many_arguments unit arguments
-
--- the name stands behind the word `return`
-abbrev pub return_findings : List Local → Name → List Finding
-return_findings locals n = wrong_name locals 1 n
 
 -- A header
 
@@ -124,13 +91,6 @@ header_findings files unit names name locals =
     taken_name files names name ++ (repeated_locals files [] 2 locals ++ many_locals unit locals)
 
 -- What is told of a unit that begins at this place
-
-abbrev pub CallsTellTheFirst : Type 0
-CallsTellTheFirst = (unit : Place) (locals : List Local) (called : Name) (arguments : List Name)
-    → IsTold (call_fault unit locals called arguments) (call_findings unit locals called arguments)
-
-abbrev pub ReturnsTellTheFirst : Type 0
-ReturnsTellTheFirst = (locals : List Local) (n : Name) → IsTold (operand_fault locals n) (return_findings locals n)
 
 abbrev pub HeadersTellTheFirst : Type 0
 HeadersTellTheFirst = (files : FileNames) (unit : Place) (names : Table Place) (name : Name) (locals : List Name)

@@ -1,5 +1,5 @@
 -- What is known of names, said of the declarations and uses of a source in their order.
-use Rattle.std.specs.Prelude.{◌≡◌, ◌≤◌, ℕ, List, [], ◌∷◌, ◌++◌, length, Bool, false, ◌||◌, if◌then◌else◌, Option, Some, None, is_some, ⊤}
+use Rattle.std.specs.Prelude.{◌≡◌, ◌≤◌, ℕ, List, [], ◌∷◌, ◌++◌, length, Bool, true, false, ◌||◌, if◌then◌else◌, Option, Some, None, is_some, ⊤}
 use Rattle.std.specs.List.{list_any}
 use Rattle.std.specs.Str.{str_eq_ignore_ascii_case}
 use Rattle.inf_scanner.specs.declared.tokens.Place.{Place}
@@ -12,7 +12,10 @@ use Rattle.inf_report.specs.Messages.{Undeclared}
 use Rattle.inf_symbol.specs.Spellings.{Name}
 use Rattle.inf_unit.specs.Messages.{FileNames, Reported, location, with_error}
 use Rattle.inf_unit.specs.Names.{with_all_undeclared}
-use Rattle.inf_work.specs.Units.{Operands, name_full, with_name, with_operand_by}
+use Rattle.inf_names.specs.declared.symbols.DeclareFault.{DeclareFault}
+use Rattle.inf_names.specs.declared.symbols.DeclareFault.TheVariants as declaring
+use Rattle.inf_output.specs.Output.{Out, declared}
+use Rattle.inf_work.specs.Operands.{settled_by}
 
 -- a name is declared with what it stands for, or used as it is spelled, at a place
 pub data Event : Type 0 where
@@ -28,9 +31,14 @@ abbrev pub with_events : List Event → Table Place → Table Place
 with_events [] t = t
 with_events (e ∷ events) t = with_events events (with_event e t)
 
+-- whether a name is not declared for want of room
+abbrev pub is_full_fault : Option (DeclareFault Place) → Bool
+is_full_fault (Some declaring.Full) = true
+is_full_fault _ = false
+
 -- whether the name of an event is one more than there may be, which ends a compilation
 abbrev pub is_too_many : Event → Table Place → Bool
-is_too_many (Declares name m place) t = is_some (name_full (declare_fault name t))
+is_too_many (Declares name m place) t = is_full_fault (declare_fault name t)
 is_too_many (Uses name place) t = is_some (refer_fault name t)
 
 -- None is.
@@ -45,11 +53,11 @@ FewHaveRoom = (limit : ℕ) (debugging : Bool) (events : List Event) → length 
 -- What a name is declared with is such an event: the place of a routine, by its header, or the number of a constant. So is an operand
 -- that is no local.
 abbrev pub UnitsDeclare : Type 0
-UnitsDeclare = (n : Name) (stands_for : Meaning) (t : Table Place)
-    → with_name n stands_for (declare_fault n.bytes t) t ≡ with_event (Declares n.bytes stands_for n.place) t
+UnitsDeclare = (n : Name) (stands_for : Meaning) (o : Out)
+    → (declared n.bytes n.place stands_for o).names ≡ with_event (Declares n.bytes stands_for n.place) o.names
 
 abbrev pub OperandsUse : Type 0
-OperandsUse = (n : Name) (o : Operands) → (with_operand_by None n o).names ≡ with_event (Uses n.bytes n.place) o.names
+OperandsUse = (n : Name) (o : Out) → (settled_by None n.bytes n.place o).0.names ≡ with_event (Uses n.bytes n.place) o.names
 
 -- The first declaration of a name counts
 

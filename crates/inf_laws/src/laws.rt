@@ -1,16 +1,14 @@
 //! What the definitions give together.
 ghost use Rattle.inf_laws.specs.BadTokens.{BadTokensArePassedOver};
-ghost use Rattle.inf_laws.specs.Findings.{CallsTellTheFirst, HeadersTellTheFirst, ReturnsTellTheFirst};
+ghost use Rattle.inf_laws.specs.Findings.{HeadersTellTheFirst};
 ghost use Rattle.inf_laws.specs.NameEvents.{FewHaveRoom, FirstDeclarationsCount, OperandsUse, UndeclaredAreTold, UnitsDeclare};
 ghost use Rattle.inf_laws.specs.Skipping.{DirectivesAreSkipped, RoutinesAreSkipped, SourcesEnd};
 ghost use Rattle.inf_laws.specs.UnusedLocals.{HeadersMakeNew, UnusedAreWarned};
 
-/// Of all errors that its rules find, a call, a return and a header of a routine tell the first by
-/// token, and of two at one token the one whose message has the lower number.
+/// Of all errors that its rules find, a header of a routine tells the first by token, and of two at one token the one whose
+/// message has the lower number.
 pub fn first_errors_are_told()
-    ensures calls { CallsTellTheFirst }
-    ensures returns { ReturnsTellTheFirst }
-    ensures headers { HeadersTellTheFirst }
+    ensures { HeadersTellTheFirst }
 {}
 
 /// A name that is used and never declared, and that the language does not have, is told once, at its

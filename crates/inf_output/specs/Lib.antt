@@ -1,3 +1,4 @@
+pub mod Limits
 pub mod Operands
 pub mod Output
 pub mod Veneer

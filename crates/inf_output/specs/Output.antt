@@ -14,16 +14,21 @@ use Rattle.inf_opcode.specs.Cells.{Of}
 use Rattle.inf_opcode.specs.Counts.{counts_of}
 use Rattle.inf_opcode.specs.Instructions.{front_cells}
 use Rattle.inf_opcode.specs.Opcodes.{row_of}
+use Rattle.inf_assembler.specs.declared.routines.CloseFault.{CloseFault}
+use Rattle.inf_assembler.specs.declared.routines.CloseFault.TheVariants as close_fault
+use Rattle.inf_assembler.specs.declared.routines.RoutineKind.{RoutineKind}
 use Rattle.inf_assembler.specs.declared.routines.Setting.{Setting as CodeSetting}
 use Rattle.inf_assembler.specs.declared.routines.Setting.TheVariants as code_setting
 use Rattle.inf_code.specs.declared.code.CodeLimits.{CodeLimits}
-use Rattle.inf_code.specs.Code.{Routines, full_label, full_opened, full_with, left, with_item, with_label as with_mark, with_none_open, with_opened}
+use Rattle.inf_code.specs.Code.{Routines, begun as code_begun, fault_closed, full_begun, full_label, full_opened, full_with, left, with_item, with_closed, with_label as with_mark, with_none_open, with_opened}
 use Rattle.inf_names.specs.declared.meanings.Meaning.{Meaning}
 use Rattle.inf_names.specs.declared.meanings.Meaning.TheVariants as meaning
 use Rattle.inf_names.specs.declared.symbols.Found.{Found}
 use Rattle.inf_names.specs.declared.symbols.Found.TheVariants as found
 use Rattle.inf_names.specs.declared.symbols.ReferFault.{ReferFault}
-use Rattle.inf_names.specs.Symbols.{Table, found_in, number_of, refer_fault, with_used}
+use Rattle.inf_names.specs.declared.symbols.DeclareFault.{DeclareFault}
+use Rattle.inf_names.specs.declared.symbols.DeclareFault.TheVariants as declaring
+use Rattle.inf_names.specs.Symbols.{Table, declare_fault, found_in, number_of, refer_fault, with_declared, with_used}
 use Rattle.inf_settings.specs.declared.setting.Setting.{Setting}
 use Rattle.inf_settings.specs.declared.setting.Setting.TheVariants as setting
 use Rattle.inf_output.specs.declared.items.Item.{Item}
@@ -156,6 +161,53 @@ opened_by (Some limit) locals is_lost o =
 
 abbrev pub opened : ℕ → Bool → Code
 opened locals is_lost o = opened_by (full_opened is_lost o.code) locals is_lost o
+
+-- Code begins with the first routine of the story, unless it has begun. Where that would pass a limit it does not begin, and the limit is passed.
+abbrev pub begun_by : Option CodeSetting → Code
+begun_by None o = record o { code = code_begun o.code }
+begun_by (Some limit) o = record o { code = code_begun o.code; past = Some (passed_limit limit (past_of o)) }
+
+abbrev pub begun : Code
+begun o = begun_by (full_begun o.code) o
+
+-- The open routine is closed, if there is one. Where something is wrong with it, it is given up.
+abbrev pub closed_by : Option CloseFault → RoutineKind → Code
+closed_by None kind o = record o { code = with_closed kind o.code }
+closed_by (Some (close_fault.Full limit)) kind o = record o { code = with_none_open o.code; past = Some (passed_limit limit (past_by o.past (left (with_none_open o.code)))) }
+closed_by (Some fault) kind o = record o { code = with_none_open o.code }
+
+abbrev pub closed : RoutineKind → Code
+closed kind o = closed_by (fault_closed kind o.code) kind o
+
+-- Names
+
+abbrev pub symbols_passed : Code
+symbols_passed o = record o { past = Some (record (past_of o) { symbols = true }) }
+
+-- a name is declared, unless something is wrong with that
+abbrev pub declared_by : Option (DeclareFault Place) → List ℕ → Place → Meaning → Code
+declared_by None name place m o = record o { names = with_declared name place m o.names }
+declared_by (Some declaring.Full) name place m o = symbols_passed o
+declared_by (Some fault) name place m o = o
+
+abbrev pub declared : List ℕ → Place → Meaning → Code
+declared name place m o = declared_by (declare_fault name o.names) name place m o
+
+-- a name is used at a place; where it is one too many, that limit is passed
+abbrev pub referred_by : Option ReferFault → List ℕ → Place → Code
+referred_by None name place o = record o { names = with_used name place o.names }
+referred_by (Some fault) name place o = symbols_passed o
+
+abbrev pub referred : List ℕ → Place → Code
+referred name place o = referred_by (refer_fault name o.names) name place o
+
+-- what looking for it found, and its number among the names
+abbrev pub referred_as_by : Option ReferFault → List ℕ → Table Place → Option (Found Place × Option ℕ)
+referred_as_by None name names = Some (found_in name names, number_of name names)
+referred_as_by (Some fault) name names = None
+
+abbrev pub referred_as : List ℕ → Out → Option (Found Place × Option ℕ)
+referred_as name o = referred_as_by (refer_fault name o.names) name o.names
 
 -- Words
 

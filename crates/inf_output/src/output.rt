@@ -3,19 +3,21 @@ ghost use Rattle.std.specs.Prelude.{◌≡◌, ◌≤◌, [], IfOk, None, OnOk, 
 ghost use Rattle.inf_opcode.specs.Counts.{counts_of};
 ghost use Rattle.inf_opcode.specs.Instructions.{IsProper, front_cells};
 ghost use Rattle.inf_opcode.specs.PartsOf.{parts_of};
+ghost use Rattle.inf_code.specs.Code.{fault_closed};
+ghost use Rattle.inf_names.specs.Symbols.{declare_fault};
 ghost use Rattle.inf_names.specs.declared.meanings.Meaning.{Meaning as Standing};
 ghost use Rattle.inf_output.specs.declared.items.Item.TheVariants as item;
-ghost use Rattle.inf_output.specs.Output.{Takes, TakesVariable, apart, behind, found_simple, full, full_of, full_past, in_routine, instruction, items_of, jumped, laid, laid_all, less, marked, naming, next_label, opened, passed, passed_limit, past_of, routine, simple_by, standing_simple, taken, together, used, whole};
+ghost use Rattle.inf_output.specs.Output.{Takes, TakesVariable, apart, begun, behind, closed, declared, found_simple, full, full_of, full_past, in_routine, instruction, items_of, jumped, laid, laid_all, less, marked, naming, next_label, opened, passed, passed_limit, past_of, referred, referred_as, routine, simple_by, standing_simple, symbols_passed, taken, together, used, whole};
 
 use crate::items::{Item, Items, proper_operands};
 use crate::operands::{Simple, with_written};
 use crate::veneer::Veneer;
 use arrayvec::ArrayVec;
 use inf_area::Target;
-use inf_assembler::{GrowFault, Setting as CodeSetting};
+use inf_assembler::{CloseFault, GrowFault, RoutineKind, Setting as CodeSetting};
 use inf_code::code::{Code, CodeLimits};
 use inf_names::meanings::Meaning;
-use inf_names::symbols::{Found, ReferFault, Symbols};
+use inf_names::symbols::{DeclareFault, Found, ReferFault, Symbols};
 use inf_opcode::{Branch, Counts, Instruction, Label, Opcode, Operand, instruction_counts};
 use inf_scanner::Place;
 use inf_settings::setting::Setting;
@@ -379,6 +381,85 @@ impl Output {
         })
     }
 
+    /// Code begins with the first routine of the story, unless it has begun. Where that would pass a limit it does not begin, and the limit is passed.
+    pub fn begin(&mut self)
+        ensures { self.new ≡ begun self.old }
+    {
+        if let Some(limit) = self.code.begin() {
+            self.past = Some(self.rest().passed(limit));
+        }
+    }
+
+    /// The open routine is closed, if there is one. Answers what is wrong with it, if anything is: then it is given up, and where that is a limit, it is
+    /// passed.
+    pub fn close(&mut self, kind: RoutineKind) -> Result<Option<CloseFault>, AllocError>
+        ensures value { OnOk result (self.new ≡ closed kind self.old) }
+        ensures fault { IfOk result (λ fault. fault ≡ fault_closed kind self.old.code) }
+    {
+        match self.code.close(kind) {
+            Ok(()) => Ok(None),
+            Err(CloseFault::Memory) => Err(AllocError),
+            Err(CloseFault::Full(limit)) => {
+                self.past = Some(self.rest().passed(limit));
+                Ok(Some(CloseFault::Full(limit)))
+            }
+            Err(fault) => Ok(Some(fault)),
+        }
+    }
+
+    /// A name is declared with what it stands for. Answers what is wrong with that, if anything is: then nothing is declared, and where it would be one
+    /// too many, that limit is passed.
+    pub fn declare(
+        &mut self,
+        name: &[u8],
+        place: Place,
+        meaning: Meaning,
+    ) -> Result<Option<DeclareFault<Place>>, AllocError>
+        requires { length name.now ≤ 35 }
+        ensures value { OnOk result (self.new ≡ declared name.now place meaning self.old) }
+        ensures fault { IfOk result (λ fault. fault ≡ declare_fault name.now self.old.names) }
+    {
+        match self.names.declare(name, place, meaning) {
+            Ok(_) => Ok(None),
+            Err(DeclareFault::Memory) => Err(AllocError),
+            Err(DeclareFault::Full) => {
+                self.pass_symbols();
+                Ok(Some(DeclareFault::Full))
+            }
+            Err(DeclareFault::Present(first)) => Ok(Some(DeclareFault::Present(first))),
+        }
+    }
+
+    /// A name is used at a place. Answers what looking for it found, with its number; nothing where it would be one too many: then that limit is passed.
+    pub fn refer(
+        &mut self,
+        name: &[u8],
+        place: Place,
+    ) -> Result<Option<(Found<Place>, Option<usize>)>, AllocError>
+        requires { length name.now ≤ 35 }
+        ensures value { OnOk result (self.new ≡ referred name.now place self.old) }
+        ensures found { IfOk result (λ found. found ≡ referred_as name.now self.old) }
+    {
+        match self.names.find_and_refer(name, place) {
+            Ok(found) => Ok(Some(found)),
+            Err(ReferFault::Full) => {
+                self.pass_symbols();
+                Ok(None)
+            }
+            Err(ReferFault::Memory) => Err(AllocError),
+        }
+    }
+
+    /// There would be more names than there may be.
+    fn pass_symbols(&mut self)
+        ensures { self.new ≡ symbols_passed self.old }
+    {
+        self.past = Some(Past {
+            symbols: true,
+            ..self.rest()
+        });
+    }
+
     /// The operand by which a routine of the veneer is called, whose name is looked up, and used at the first token of the unit.
     #[tactic(auto, unfolding(crate::specs::Output::routine, crate::specs::Output::used))]
     pub fn routine(&mut self, veneer: Veneer) -> Result<Simple, AllocError>
@@ -391,10 +472,7 @@ impl Output {
         {
             Ok((what, number)) => Ok(found(what, number)),
             Err(ReferFault::Full) => {
-                self.past = Some(Past {
-                    symbols: true,
-                    ..self.rest()
-                });
+                self.pass_symbols();
                 Ok(Simple::Later(Target::Name(0)))
             }
             Err(ReferFault::Memory) => Err(AllocError),

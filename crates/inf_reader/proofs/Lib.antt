@@ -5,4 +5,4 @@ pub mod ReadingLaws
 pub mod Constants
 pub mod Handing
 pub mod Limits
-pub mod OtherNames
+pub mod Inside

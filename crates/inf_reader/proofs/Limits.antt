@@ -1,5 +1,4 @@
 -- No token changes what there may be of names and of code.
-use Rattle.std.specs.Prelude.{◌&&◌}
 use Rattle.std.proofs.Common.{Bool, List, [], ◌∷◌, Option, Some, None, refl}
 use Rattle.inf_scanner.specs.declared.tokens.Place.{Place}
 use Rattle.inf_grammar.specs.Language.{grammar, known}
@@ -13,12 +12,11 @@ use Rattle.inf_conditionals.specs.declared.judged.Handed.{Handed}
 use Rattle.inf_conditionals.specs.declared.judged.Handed.TheVariants as handed
 use Rattle.inf_conditionals.specs.declared.judged.Judged.{Judged}
 use Rattle.inf_conditionals.specs.declared.judged.Sign.{Sign}
-use Rattle.inf_work.specs.Actions.{Work}
+use Rattle.inf_work.specs.Actions.{Work, acted, piece_begun as work_begun, took as work_took}
 use Rattle.inf_work.specs.Limits.{SameLimits}
-use Rattle.inf_work.proofs.Limits.{acted_same, begun_at_same, same_then}
+use Rattle.inf_work.proofs.Limits.{acted_same, begun_at_same, cut_same, same_then, took_same as work_took_same}
 use Rattle.inf_reader.specs.Handing.{handed_as, hash, judged_taken, lone_told, sign_taken, token_taken, unfit_in, unit_ended}
 use Rattle.inf_reader.specs.Reading.{Reading, Stand, bad, judged, piece_begun, read_at, step, step_in, took}
-use Rattle.inf_reader.specs.Selection.{begins_piece, has_come}
 use Rattle.inf_reader.specs.Tests.{atom_of}
 use Rattle.inf_reader.specs.declared.mode.Mode.{Mode}
 use Rattle.inf_reader.specs.declared.mode.Mode.TheVariants as mode
@@ -28,20 +26,23 @@ abbrev Keeps : Work → Stand → Type 0
 Keeps w s = SameLimits w s.work
 
 bad_same : (files : FileNames) (t : Spelled) (r : Reading) (w : Work) → Keeps w (bad files t r w)
-bad_same files t r w = (refl, refl)
+bad_same files t r w = cut_same files w
 
 took_same : (files : FileNames) (t : Spelled) (r : Reading) (w : Work) → Keeps w (took files t r w)
-took_same files t r w = acted_same files r.unit t.place (taken grammar known (atom_of t) r.stack).actions w
+took_same files t r w =
+    let acts = (taken grammar known (atom_of t) r.stack).actions in
+    let w' = acted files t.place acts w in
+    same_then w w' (work_took files t w') (acted_same files t.place acts w) (work_took_same files t w')
 
-judged_same : (files : FileNames) (has_come : Bool) (t : Spelled) (r : Reading) (w : Work) → Keeps w (judged files has_come t r w)
-judged_same files has_come t r w =
-    of_both (Keeps w) (has_come && fits grammar known (atom_of t) r.stack) (took files t r w) (bad files t r w) (λ _. took_same files t r w) (λ _. bad_same files t r w)
+judged_same : (files : FileNames) (t : Spelled) (r : Reading) (w : Work) → Keeps w (judged files t r w)
+judged_same files t r w =
+    of_both (Keeps w) (fits grammar known (atom_of t) r.stack) (took files t r w) (bad files t r w) (λ _. took_same files t r w) (λ _. bad_same files t r w)
 
 read_same : (files : FileNames) (t : Spelled) (stack : List (Symbol Action)) (r : Reading) (w : Work) → Keeps w (read_at files t stack r w)
 read_same files t [] r w =
-    of_both (Keeps w) (is_end t.kind) (record { reading = record r { mode = mode.Ended }; work = w }) (judged files (begins_piece t) t (piece_begun r) w)
-    (λ _. (refl, refl)) (λ _. judged_same files (begins_piece t) t (piece_begun r) w)
-read_same files t (s ∷ stack) r w = judged_same files (has_come r.unit t) t r w
+    of_both (Keeps w) (is_end t.kind) (record { reading = record r { mode = mode.Ended }; work = w }) (judged files t (piece_begun r) (work_begun w))
+    (λ _. (refl, refl)) (λ _. judged_same files t (piece_begun r) (work_begun w))
+read_same files t (s ∷ stack) r w = judged_same files t r w
 
 step_in_same : (m : Mode) (files : FileNames) (t : Spelled) (r : Reading) (w : Work) → Keeps w (step_in m files t r w)
 step_in_same mode.Reads files t r w = read_same files t r.stack r w

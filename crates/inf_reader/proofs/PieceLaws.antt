@@ -1,6 +1,5 @@
 -- Reading leads through a piece or to its bad token.
-use Rattle.std.proofs.Common.{◌≡◌, ℕ, suc, zero, ◌<◌, List, [], ◌∷◌, ◌++◌, length, map, take, drop, cond, ◌&&◌, Bool, true, false, Option, Some, None, is_some, refl, sym, ap, subst, ◌∙◌, arith, append_assoc}
-use Rattle.std.proofs.lemmas.Bool.{and_parts, and_from}
+use Rattle.std.proofs.Common.{◌≡◌, ℕ, suc, zero, ◌<◌, List, [], ◌∷◌, ◌++◌, length, map, take, drop, cond, Bool, true, false, Option, Some, None, is_some, refl, sym, ap, subst, ◌∙◌, arith, append_assoc}
 use Rattle.std.proofs.lemmas.List.{append-nil, map-append, take-append-drop}
 use Rattle.inf_scanner.specs.declared.tokens.TokenKind.{TokenKind}
 use Rattle.inf_scanner.specs.declared.tokens.TokenKind.TheVariants as kind
@@ -17,10 +16,9 @@ use Rattle.inf_machine.specs.Machine.{fits, taken, read, Read}
 use Rattle.inf_grammar.specs.Evaluated.{language_is_decided}
 use Rattle.inf_machine.proofs.TokenLaws.{bad_tokens_begin_nothing, texts_are_taken}
 use Rattle.inf_reader.specs.Tests.{fault_of_kind, bad_atom, end_atom, atom_of_kind, atom_of}
-use Rattle.inf_unit.specs.Statements.{Unit, no_unit, unit_behind}
-use Rattle.inf_reader.specs.Selection.{begins_piece, has_come, have_come, is_piece_come}
+use Rattle.inf_work.specs.Actions.{piece_begun as work_begun}
 use Rattle.inf_reader.specs.Reading.{Reading, State, Stand, piece_rule, piece_begun, took, bad, judged, read_at, step_in, stand, turn, run}
-use Rattle.inf_reader.specs.Pieces.{IsPiece, BeginsPiece, front, at_hand_by, at_hand, taking, AllAreTaken, Leads, ToItsEnd, ToABadToken, PiecesAreRead, PiecesBegin, FrontsBegin, FaultyTokensFitNothing, TurnsAreRead}
+use Rattle.inf_reader.specs.Pieces.{IsPiece, BeginsPiece, front, at_hand_by, at_hand, taking, work_at, work_by, AllAreTaken, Leads, ToItsEnd, ToABadToken, PiecesAreRead, PiecesBegin, FrontsBegin, FaultyTokensFitNothing, TurnsAreRead}
 use Rattle.inf_reader.specs.declared.mode.Mode.TheVariants as mode
 use Rattle.inf_reader.proofs.Turns.{next_moves, less_behind}
 use Rattle.inf_reader.proofs.Misfits.{bad_fits_nothing, end_fits_nothing}
@@ -35,60 +33,44 @@ turns_are_read files (suc n) s going =
 abbrev piece : List (Symbol Action)
 piece = Rule piece_rule ∷ []
 
--- What the tokens of a piece so far say of those behind them: whether each may come, and behind which unit.
-record At (tokens : List Spelled) (may_come : Spelled → Bool) (r : Reading) : Type 0 where
+-- What reading stands at behind the tokens of a piece so far.
+record At (tokens : List Spelled) (r : Reading) : Type 0 where
   reads : r.mode ≡ mode.Reads
   is_read : OneMore grammar known piece (map atom_of tokens) r.stack
-  so_far : is_piece_come tokens ≡ true
-  on : (t : Spelled) (more : List Spelled) → is_piece_come (tokens ++ t ∷ more) ≡ (may_come t && have_come (unit_behind t r.unit) more)
 
-begins : (tokens : List Spelled) (may_come : Spelled → Bool) (r : Reading) → At tokens may_come r → BeginsPiece tokens
-begins tokens may_come r at = record {
-  has_come = at.so_far;
+begins : (tokens : List Spelled) (r : Reading) → At tokens r → BeginsPiece tokens
+begins tokens r at = record {
   begins = (bad_tokens_begin_nothing grammar known piece_rule (map atom_of tokens) language_is_decided).0 (ap is_some at.is_read.is_read);
 }
 
--- a token that may not come, or does not fit, begins nothing behind them
-stops : (tokens : List Spelled) (may_come : Spelled → Bool) (r : Reading) (t : Spelled) → At tokens may_come r → (may_come t && fits grammar known (atom_of t) r.stack) ≡ false → BeginsPiece (tokens ++ t ∷ []) → ⊥
-stops tokens may_come r t at out b = no_fit (fits grammar known (atom_of t) r.stack) refl
+-- a token that does not fit begins nothing behind them
+stops : (tokens : List Spelled) (r : Reading) (t : Spelled) → At tokens r → fits grammar known (atom_of t) r.stack ≡ false → BeginsPiece (tokens ++ t ∷ []) → ⊥
+stops tokens r t at out b = let absent : true ≡ false = sym some ∙ ap (λ atoms. is_some (read grammar known piece atoms)) (map-append atom_of tokens (t ∷ [])) ∙ ap is_some nothing in cc
   where
-    comes : may_come t ≡ true
-    comes = (and_parts (may_come t) true (sym (at.on t []) ∙ b.has_come)).0
-
     some : is_some (read grammar known piece (map atom_of (tokens ++ t ∷ []))) ≡ true
     some = (bad_tokens_begin_nothing grammar known piece_rule (map atom_of (tokens ++ t ∷ [])) language_is_decided).1 b.begins
 
-    no_fit : (f : Bool) → fits grammar known (atom_of t) r.stack ≡ f → ⊥
-    no_fit true e =
-        let both : true ≡ false = sym (ap (λ x. x && fits grammar known (atom_of t) r.stack) comes ∙ e) ∙ out in cc
-    no_fit false e =
-        let nothing = reads_none grammar known piece (map atom_of tokens) (atom_of t) r.stack at.is_read e in
-        let absent : true ≡ false = sym some ∙ ap (λ atoms. is_some (read grammar known piece atoms)) (map-append atom_of tokens (t ∷ [])) ∙ ap is_some nothing in cc
+    nothing : read grammar known piece (map atom_of tokens ++ map atom_of (t ∷ [])) ≡ None
+    nothing = reads_none grammar known piece (map atom_of tokens) (atom_of t) r.stack at.is_read out
 
 -- a token that is taken
-goes : (tokens : List Spelled) (may_come : Spelled → Bool) (r after : Reading) (t : Spelled) → At tokens may_come r → may_come t ≡ true → fits grammar known (atom_of t) r.stack ≡ true
-    → after ≡ record { mode = r.mode; stack = (taken grammar known (atom_of t) r.stack).left; unit = unit_behind t r.unit }
-    → At (tokens ++ t ∷ []) (has_come after.unit) after
-goes tokens may_come r after t at comes f same =
-    let now : Reading = record { mode = r.mode; stack = (taken grammar known (atom_of t) r.stack).left; unit = unit_behind t r.unit } in
-    let there : At (tokens ++ t ∷ []) (has_come now.unit) now = record {
+goes : (tokens : List Spelled) (r after : Reading) (t : Spelled) → At tokens r → fits grammar known (atom_of t) r.stack ≡ true
+    → after ≡ record { mode = r.mode; stack = (taken grammar known (atom_of t) r.stack).left } → At (tokens ++ t ∷ []) after
+goes tokens r after t at f same =
+    let now : Reading = record { mode = r.mode; stack = (taken grammar known (atom_of t) r.stack).left } in
+    let there : At (tokens ++ t ∷ []) now = record {
       reads = at.reads;
       is_read = subst (λ atoms. OneMore grammar known piece atoms now.stack) (sym (map-append atom_of tokens (t ∷ [])))
           (reads_one grammar known piece (map atom_of tokens) (atom_of t) r.stack at.is_read f);
-      so_far = at.on t [] ∙ ap (λ b. b && true) comes;
-      on = λ u more.
-          ap is_piece_come (append_assoc tokens (t ∷ []) (u ∷ more)) ∙ at.on t (u ∷ more)
-          ∙ ap (λ b. b && have_come now.unit (u ∷ more)) comes;
     } in
-    subst (λ x. At (tokens ++ t ∷ []) (has_come x.unit) x) (sym same) there
+    subst (At (tokens ++ t ∷ [])) (sym same) there
 
 -- where the machine has nothing more to read the tokens are a piece
-ends : (tokens : List Spelled) (may_come : Spelled → Bool) (r : Reading) → At tokens may_come r → r.stack ≡ [] → IsPiece tokens
-ends tokens may_come r at empty =
+ends : (tokens : List Spelled) (r : Reading) → At tokens r → r.stack ≡ [] → IsPiece tokens
+ends tokens r at empty =
     let q : Read Action = at.is_read.r in
     let nothing_left : [] ≡ q.left = sym (at.is_read.leaves ∙ empty) in
     record {
-      has_come = at.so_far;
       events = q.events ++ [];
       is_text = (texts_are_taken grammar known piece_rule (map atom_of tokens) (q.events ++ []) language_is_decided).1
           (q, [], at.is_read.is_read, refl, subst (λ symbols. IsText grammar symbols [] []) nothing_left here);
@@ -112,12 +94,12 @@ none_taken : (files : FileNames) (s : State) → AllAreTaken files 0 s
 none_taken files s m less = absurd (omega arith)
 
 -- one token is judged, if reading leads on from behind each token that is taken
-step : (files : FileNames) (tokens : List Spelled) (may_come : Spelled → Bool) (s : State)
-    → turn files s ≡ stand (record s { cursor = (next_token s.cursor).1 }) (judged files (may_come (next_token s.cursor).0) (next_token s.cursor).0 (at_hand s.reading) s.work)
-    → At tokens may_come (at_hand s.reading)
-    → ((next : State) → next ≡ taking files s → fits grammar known (atom_of (next_token s.cursor).0) (at_hand s.reading).stack ≡ true → At (tokens ++ (next_token s.cursor).0 ∷ []) (has_come next.reading.unit) next.reading → Leads files (tokens ++ (next_token s.cursor).0 ∷ []) next)
+step : (files : FileNames) (tokens : List Spelled) (s : State)
+    → turn files s ≡ stand (record s { cursor = (next_token s.cursor).1 }) (judged files (next_token s.cursor).0 (at_hand s.reading) (work_at s))
+    → At tokens (at_hand s.reading)
+    → ((next : State) → next ≡ taking files s → fits grammar known (atom_of (next_token s.cursor).0) (at_hand s.reading).stack ≡ true → At (tokens ++ (next_token s.cursor).0 ∷ []) next.reading → Leads files (tokens ++ (next_token s.cursor).0 ∷ []) next)
     → Leads files tokens s
-step files tokens may_come s turns at later = by_come (may_come t) refl (fits grammar known (atom_of t) r.stack) refl
+step files tokens s turns at later = by_fit (fits grammar known (atom_of t) r.stack) refl
   where
     t : Spelled
     t = (next_token s.cursor).0
@@ -128,19 +110,14 @@ step files tokens may_come s turns at later = by_come (may_come t) refl (fits gr
     there : Stand → State
     there x = stand (record s { cursor = (next_token s.cursor).1 }) x
 
-    by_come : (c : Bool) → may_come t ≡ c → (f : Bool) → fits grammar known (atom_of t) r.stack ≡ f → Leads files tokens s
-    by_come true c true f =
-        let takes : turn files s ≡ taking files s = turns ∙ ap (λ b. there (cond b (took files t r s.work) (bad files t r s.work))) (ap (λ b. b && fits grammar known (atom_of t) r.stack) c ∙ f) in
+    by_fit : (f : Bool) → fits grammar known (atom_of t) r.stack ≡ f → Leads files tokens s
+    by_fit true f =
+        let takes : turn files s ≡ taking files s = turns ∙ ap (λ b. there (cond b (took files t r (work_at s)) (bad files t r (work_at s)))) f in
         let standing : (turn files s).reading ≡ (taking files s).reading = ap (λ x. x.reading) takes in
-        extend files tokens s takes (later (turn files s) takes f (goes tokens may_come r (turn files s).reading t at c f standing))
-    by_come true c false f =
-        let out = ap (λ b. b && fits grammar known (atom_of t) r.stack) c ∙ f in
-        ToABadToken 0 (none_taken files s) (turns ∙ ap (λ b. there (cond b (took files t r s.work) (bad files t r s.work))) out)
-        (subst BeginsPiece (sym (append-nil tokens)) (begins tokens may_come r at)) (stops tokens may_come r t at out)
-    by_come false c f g =
-        let out = ap (λ b. b && fits grammar known (atom_of t) r.stack) c in
-        ToABadToken 0 (none_taken files s) (turns ∙ ap (λ b. there (cond b (took files t r s.work) (bad files t r s.work))) out)
-        (subst BeginsPiece (sym (append-nil tokens)) (begins tokens may_come r at)) (stops tokens may_come r t at out)
+        extend files tokens s takes (later (turn files s) takes f (goes tokens r (turn files s).reading t at f standing))
+    by_fit false f =
+        ToABadToken 0 (none_taken files s) (turns ∙ ap (λ b. there (cond b (took files t r (work_at s)) (bad files t r (work_at s)))) f)
+        (subst BeginsPiece (sym (append-nil tokens)) (begins tokens r at)) (stops tokens r t at f)
 
 -- the end fits nowhere, so a token that fits leaves less of the source
 end_is : (k : TokenKind) (bytes : List ℕ) → is_end k ≡ true → atom_of_kind k bytes ≡ end_atom
@@ -165,7 +142,7 @@ shorter files m s next less is f =
     omega (arith, fewer, same, less)
 
 -- inside of a piece
-inside : (files : FileNames) (m : ℕ) (tokens : List Spelled) (s : State) → At tokens (has_come s.reading.unit) s.reading → length s.cursor.rest < m → Leads files tokens s
+inside : (files : FileNames) (m : ℕ) (tokens : List Spelled) (s : State) → At tokens s.reading → length s.cursor.rest < m → Leads files tokens s
 inside files zero tokens s at less = absurd (omega arith)
 inside files (suc m) tokens s at less =
     by_stack (λ next is f on. inside files m (tokens ++ (next_token s.cursor).0 ∷ []) next on (shorter files m s next less is f)) s.reading.stack refl
@@ -176,58 +153,46 @@ inside files (suc m) tokens s at less =
     there : Stand → State
     there x = stand (record s { cursor = (next_token s.cursor).1 }) x
 
-    by_stack : ((next : State) → next ≡ taking files s → fits grammar known (atom_of t) (at_hand s.reading).stack ≡ true → At (tokens ++ t ∷ []) (has_come next.reading.unit) next.reading → Leads files (tokens ++ t ∷ []) next)
+    by_stack : ((next : State) → next ≡ taking files s → fits grammar known (atom_of t) (at_hand s.reading).stack ≡ true → At (tokens ++ t ∷ []) next.reading → Leads files (tokens ++ t ∷ []) next)
         → (stack : List (Symbol Action)) → s.reading.stack ≡ stack → Leads files tokens s
-    by_stack later [] e = ToItsEnd 0 (none_taken files s) at.reads e refl (subst IsPiece (sym (append-nil tokens)) (ends tokens (has_come s.reading.unit) s.reading at e))
+    by_stack later [] e = ToItsEnd 0 (none_taken files s) at.reads e refl (subst IsPiece (sym (append-nil tokens)) (ends tokens s.reading at e))
     by_stack later (symbol ∷ symbols) e =
         let same : s.reading ≡ at_hand s.reading = sym (ap (λ stack. at_hand_by stack s.reading) e) in
-        let turns : turn files s ≡ there (judged files (has_come s.reading.unit t) t (at_hand s.reading) s.work) =
+        let worked : s.work ≡ work_at s = sym (ap (λ stack. work_by stack s.work) e) in
+        let turns : turn files s ≡ there (judged files t (at_hand s.reading) (work_at s)) =
         ap (λ m. there (step_in m files t s.reading s.work)) at.reads
         ∙ ap (λ stack. there (read_at files t stack s.reading s.work)) e
-        ∙ ap (λ r. there (judged files (has_come s.reading.unit t) t r s.work)) same in
-        step files tokens (has_come s.reading.unit) s turns (subst (λ r. At tokens (has_come s.reading.unit) r) same at) later
+        ∙ ap (λ r. there (judged files t r s.work)) same
+        ∙ ap (λ w. there (judged files t (at_hand s.reading) w)) worked in
+        step files tokens s turns (subst (At tokens) same at) later
 
 -- between the pieces
-nothing_read : (r : Reading) → r.mode ≡ mode.Reads → At [] begins_piece (piece_begun r)
+nothing_read : (r : Reading) → r.mode ≡ mode.Reads → At [] (piece_begun r)
 nothing_read r reads = record {
   reads = reads;
   is_read = record { r = record { events = []; left = piece }; is_read = refl; leaves = refl };
-  so_far = refl;
-  on = λ t more. refl;
 }
 
 pub pieces_are_read : PiecesAreRead
 pieces_are_read files s reads empty going =
     let t : Spelled = (next_token s.cursor).0 in
     let same : piece_begun s.reading ≡ at_hand s.reading = sym (ap (λ stack. at_hand_by stack s.reading) empty) in
+    let worked : work_begun s.work ≡ work_at s = sym (ap (λ stack. work_by stack s.work) empty) in
     let behind_t : State = record s { cursor = (next_token s.cursor).1 } in
     let over : Stand = record { reading = record s.reading { mode = mode.Ended }; work = s.work } in
-    let turns : turn files s ≡ stand behind_t (judged files (begins_piece t) t (at_hand s.reading) s.work) =
+    let turns : turn files s ≡ stand behind_t (judged files t (at_hand s.reading) (work_at s)) =
     ap (λ m. stand behind_t (step_in m files t s.reading s.work)) reads
     ∙ ap (λ stack. stand behind_t (read_at files t stack s.reading s.work)) empty
-    ∙ ap (λ b. stand behind_t (cond b over (judged files (begins_piece t) t (piece_begun s.reading) s.work))) going
-    ∙ ap (λ r. stand behind_t (judged files (begins_piece t) t r s.work)) same in
-    step files [] begins_piece s turns (subst (λ r. At [] begins_piece r) same (nothing_read s.reading reads))
+    ∙ ap (λ b. stand behind_t (cond b over (judged files t (piece_begun s.reading) (work_begun s.work)))) going
+    ∙ ap (λ r. stand behind_t (judged files t r (work_begun s.work))) same
+    ∙ ap (λ w. stand behind_t (judged files t (at_hand s.reading) w)) worked in
+    step files [] s turns (subst (At []) same (nothing_read s.reading reads))
     (λ next is f on. inside files (length s.cursor.rest) (t ∷ []) next on (shorter files (length s.cursor.rest) s next (omega arith) is f))
 
 -- What pieces begin
 
 pub pieces_begin : PiecesBegin
-pieces_begin tokens p = record { has_come = p.has_come; begins = (p.events, [], p.is_text) }
-
-have_come_front : (u : Unit) (tokens : List Spelled) (n : ℕ) → have_come u tokens ≡ true → have_come u (take n tokens) ≡ true
-have_come_front u tokens zero h = refl
-have_come_front u [] (suc n) h = refl
-have_come_front u (t ∷ tokens) (suc n) h =
-    let both = and_parts (has_come u t) (have_come (unit_behind t u) tokens) h in
-    and_from (has_come u t) (have_come (unit_behind t u) (take n tokens)) both.0 (have_come_front (unit_behind t u) tokens n both.1)
-
-piece_front : (tokens : List Spelled) (n : ℕ) → is_piece_come tokens ≡ true → is_piece_come (take n tokens) ≡ true
-piece_front tokens zero h = refl
-piece_front [] (suc n) h = refl
-piece_front (t ∷ tokens) (suc n) h =
-    let both = and_parts (begins_piece t) (have_come (unit_behind t no_unit) tokens) h in
-    and_from (begins_piece t) (have_come (unit_behind t no_unit) (take n tokens)) both.0 (have_come_front (unit_behind t no_unit) tokens n both.1)
+pieces_begin tokens p = record { begins = (p.events, [], p.is_text) }
 
 -- what is read on is read up to there
 read_before : (o : Option (Read Action)) (atoms : List ℕ) → is_some (read_on grammar known o atoms) ≡ true → is_some o ≡ true
@@ -236,7 +201,6 @@ read_before None atoms h = h
 
 pub fronts_begin : FrontsBegin
 fronts_begin tokens n b = record {
-  has_come = piece_front tokens n b.has_come;
   begins = (bad_tokens_begin_nothing grammar known piece_rule (map atom_of (take n tokens)) language_is_decided).0
       (read_before (read grammar known piece (map atom_of (take n tokens))) (map atom_of (drop n tokens)) whole);
 }

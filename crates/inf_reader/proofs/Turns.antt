@@ -1,6 +1,6 @@
 -- Reading ends: each turn ends it or leaves less of the source, so enough turns read the whole.
-use Rattle.std.proofs.Common.{◌≡◌, ◌⊎◌, inl, inr, ℕ, suc, zero, ◌<◌, ◌≤◌, List, [], ◌∷◌, length, cond, ◌||◌, ◌&&◌, Bool, true, false, refl, sym, ap, ◌∙◌, arith}
-use Rattle.std.proofs.Math.Bool.{or-true, and-false}
+use Rattle.std.proofs.Common.{◌≡◌, ◌⊎◌, inl, inr, ℕ, suc, zero, ◌<◌, ◌≤◌, List, [], ◌∷◌, length, cond, ◌||◌, Bool, true, false, refl, sym, ap, ◌∙◌, arith}
+use Rattle.std.proofs.Math.Bool.{or-true}
 use Rattle.inf_scanner.specs.declared.tokens.Place.{Place}
 use Rattle.inf_scanner.specs.declared.tokens.TokenKind.{TokenKind}
 use Rattle.inf_scanner.specs.declared.tokens.TokenKind.TheVariants as kind
@@ -15,7 +15,6 @@ use Rattle.inf_work.specs.Actions.{Work}
 use Rattle.inf_unit.specs.Messages.{FileNames}
 use Rattle.inf_sources.specs.Cursors.{Cursor}
 use Rattle.inf_reader.specs.Cursors.{next_token, read_token}
-use Rattle.inf_reader.specs.Selection.{has_come}
 use Rattle.inf_reader.specs.Reading.{Reading, State, Stand, bad, took, judged, read_at, step_in, step, taken_at, is_mode_ended, has_ended, turn, run}
 use Rattle.inf_reader.specs.declared.mode.Mode.{Mode}
 use Rattle.inf_reader.specs.declared.mode.Mode.TheVariants as mode
@@ -49,18 +48,17 @@ Shortens n s = (has_ended s ≡ true) ⊎ (length s.cursor.rest < n)
 -- The end of the source ends the reading
 
 -- it fits nowhere, so in a piece it is the bad token
-end_in_piece : (files : FileNames) (come : Bool) (bytes : List ℕ) (place : Place) (r : Reading) (w : Work)
-    → (judged files come (record { kind = kind.End; bytes = bytes; place = place }) r w).reading.mode ≡ mode.Ended
-end_in_piece files come bytes place r w =
+end_in_piece : (files : FileNames) (bytes : List ℕ) (place : Place) (r : Reading) (w : Work)
+    → (judged files (record { kind = kind.End; bytes = bytes; place = place }) r w).reading.mode ≡ mode.Ended
+end_in_piece files bytes place r w =
     let t : Spelled = record { kind = kind.End; bytes = bytes; place = place } in
-    ap (λ b. (cond (come && b) (took files t r w) (bad files t r w)).reading.mode) (end_fits_nothing r.stack)
-    ∙ ap (λ b. (cond b (took files t r w) (bad files t r w)).reading.mode) (and-false come)
+    ap (λ b. (cond b (took files t r w) (bad files t r w)).reading.mode) (end_fits_nothing r.stack)
 
 end_read : (files : FileNames) (bytes : List ℕ) (place : Place) (stack : List (Symbol Action)) (r : Reading) (w : Work)
     → (read_at files (record { kind = kind.End; bytes = bytes; place = place }) stack r w).reading.mode ≡ mode.Ended
 end_read files bytes place [] r w = refl
 end_read files bytes place (symbol ∷ stack) r w =
-    end_in_piece files (has_come r.unit (record { kind = kind.End; bytes = bytes; place = place })) bytes place r w
+    end_in_piece files bytes place r w
 
 pub end_at : (m : Mode) (files : FileNames) (k : TokenKind) (bytes : List ℕ) (place : Place) (r : Reading) (w : Work) → is_end k ≡ true → r.mode ≡ m
     → (step_in m files (record { kind = k; bytes = bytes; place = place }) r w).reading.mode ≡ mode.Ended

@@ -14,7 +14,7 @@ work_of source = (compiled set.Latin1 defaults (codes "t.inf" ∷ []) source).wo
 
 -- the bytes of its code, with the numbers of its names, and the lines of its messages
 abbrev pub bytes_of : List ℕ → List ℕ
-bytes_of source = let w = work_of source in code_bytes (map number_of (values w.names.names)) w.output.code.finished
+bytes_of source = let w = work_of source in code_bytes (map number_of (values w.output.names.names)) w.output.code.finished
 
 abbrev pub lines_of : List ℕ → List ℕ
 lines_of source = (work_of source).report.lines
@@ -32,8 +32,8 @@ NumbersAreWritten =
     bytes_of (codes "Constant K 256; #Constant Z; [ Main; return K; ]; [ F; return Z; ]; [ G; z(); ];")
     ≡ 0x00 ∷ 0x8B ∷ 0x01 ∷ 0x00 ∷ 0x00 ∷ 0xB1 ∷ 0x00 ∷ 0x00 ∷ 0x00 ∷ 0x9F ∷ 0x00 ∷ 0xB0 ∷ []
 
--- a name that stands already, one that the language has, and what does not stand behind a number
+-- a name that stands already, one that the language has, what does not stand behind a number, a division by 0, and a name that is not declared
 abbrev pub ConstantsAreRefused : Type 0
 ConstantsAreRefused =
-    lines_of (codes "Constant K = 3;\nConstant k;\nConstant child;\nConstant L = 1\n+ 2;\n")
-    ≡ codes "t.inf(2): Error: \"k\" was declared at t.inf(1)\nt.inf(3): Error: \"child\" is a system name\nt.inf(5): Error: Syntax error at \"+\"\n"
+    lines_of (codes "Constant K = 3;\nConstant k;\nConstant child;\nConstant L = 1\n2;\nConstant M = 1 / 0;\nConstant N = Main;\n")
+    ≡ codes "t.inf(2): Error: \"k\" was declared at t.inf(1)\nt.inf(3): Error: \"child\" is a system name\nt.inf(5): Error: Syntax error at \"2\"\nt.inf(6): Error: Constant out of range\nt.inf(7): Error: Not a constant known here\n"

@@ -1,6 +1,5 @@
 pub mod Cursors
 pub mod Tests
-pub mod Selection
 pub mod Reading
 pub mod Pieces
 pub mod Standing

@@ -13,19 +13,17 @@ use Rattle.inf_machine.specs.Grammar.{Event, IsText, Begins}
 use Rattle.inf_grammar.specs.Language.{grammar, known}
 use Rattle.inf_machine.specs.Machine.{fits}
 use Rattle.inf_reader.specs.Tests.{fault_of, atom_of}
-use Rattle.inf_reader.specs.Selection.{is_piece_come}
+use Rattle.inf_work.specs.Actions.{Work, piece_begun as work_begun}
 use Rattle.inf_reader.specs.Reading.{Reading, State, piece_rule, piece_begun, took, bad, stand, turn, run, has_ended}
 use Rattle.inf_reader.specs.declared.mode.Mode.TheVariants as mode
 
--- The tokens are a piece: a text of the grammar's rule for pieces, of what has come.
+-- The tokens are a piece: a text of the grammar's rule for pieces.
 pub record IsPiece (tokens : List Spelled) : Type 0 where
-  pub has_come : is_piece_come tokens ≡ true
   pub events : List (Event Action)
   pub is_text : IsText grammar (Rule piece_rule ∷ []) (map atom_of tokens) events
 
 -- They begin one, as far as they go.
 pub record BeginsPiece (tokens : List Spelled) : Type 0 where
-  pub has_come : is_piece_come tokens ≡ true
   pub begins : Begins grammar (Rule piece_rule ∷ []) (map atom_of tokens)
 
 -- The tokens from a place on
@@ -53,13 +51,21 @@ at_hand_by (_ ∷ _) r = r
 abbrev pub at_hand : Reading → Reading
 at_hand r = at_hand_by r.stack r
 
+-- and what was compiled: a new piece has no tokens
+abbrev pub work_by : List (Symbol Action) → Work → Work
+work_by [] w = work_begun w
+work_by (_ ∷ _) w = w
+
+abbrev pub work_at : State → Work
+work_at s = work_by s.reading.stack s.work
+
 -- the next token is taken: the actions on the way to it act, and the grammar's machine goes on behind it
 abbrev pub taking : FileNames → State → State
-taking files s = let t = next_token s.cursor in stand (record s { cursor = t.1 }) (took files t.0 (at_hand s.reading) s.work)
+taking files s = let t = next_token s.cursor in stand (record s { cursor = t.1 }) (took files t.0 (at_hand s.reading) (work_at s))
 
 -- it is told as bad, and is the first that is passed over
 abbrev pub telling : FileNames → State → State
-telling files s = let t = next_token s.cursor in stand (record s { cursor = t.1 }) (bad files t.0 (at_hand s.reading) s.work)
+telling files s = let t = next_token s.cursor in stand (record s { cursor = t.1 }) (bad files t.0 (at_hand s.reading) (work_at s))
 
 -- each of the next n tokens is taken
 abbrev pub AllAreTaken : FileNames → ℕ → State → Type 0

@@ -2,7 +2,7 @@
 -- A token that fits is taken, and the actions on the way to it act. One that does not is the bad token of its piece; it is told,
 -- and tokens are passed over to where the piece ends. The unit that it cuts gives nothing.
 -- Designer's Manual, fourth edition, sections 1.3, 1.4 and 1.7.
-use Rattle.std.specs.Prelude.{ℕ, List, [], ◌∷◌, length, Bool, true, false, ◌||◌, ◌&&◌, if◌then◌else◌, zero, suc, Option, Some, None}
+use Rattle.std.specs.Prelude.{ℕ, List, [], ◌∷◌, length, Bool, true, false, ◌||◌, if◌then◌else◌, zero, suc}
 use Rattle.inf_characters.specs.declared.characters.CharSet.{CharSet}
 use Rattle.inf_scanner.specs.declared.tokens.Mark.TheVariants as mark
 use Rattle.inf_scanner.specs.declared.tokens.TokenKind.{TokenKind}
@@ -14,33 +14,28 @@ use Rattle.inf_report.specs.Messages.{Location, Message, kind_of}
 use Rattle.inf_report.specs.declared.messages.Kind.{Kind}
 use Rattle.inf_report.specs.declared.messages.Kind.TheVariants as weight
 use Rattle.inf_unit.specs.Messages.{FileNames, Reported, location, with_error, with_fatal}
-use Rattle.inf_unit.specs.Tokens.{Spelled, is_end, is_mark, number_of}
+use Rattle.inf_unit.specs.Tokens.{Spelled, is_end, is_mark}
 use Rattle.inf_syntax.specs.declared.actions.Action.{Action}
 use Rattle.inf_machine.specs.declared.symbols.Symbol.{Symbol}
 use Rattle.inf_machine.specs.declared.symbols.Symbol.TheVariants.{Rule}
 use Rattle.inf_machine.specs.Machine.{fits, taken}
 use Rattle.inf_grammar.specs.Routines.{is_in_routine}
 use Rattle.inf_grammar.specs.Language.{grammar, known}
-use Rattle.inf_unit.specs.Statements.{Unit, name_of, no_unit, unit_behind}
-use Rattle.inf_unit.specs.declared.unit.Head.{Head}
-use Rattle.inf_unit.specs.declared.unit.Head.TheVariants as head
-use Rattle.inf_work.specs.Actions.{Gathered, Work, no_work, acted}
+use Rattle.inf_work.specs.Actions.{Work, acted, cut, no_work, piece_begun as work_begun, took as work_took}
 use Rattle.inf_sources.specs.Cursors.{Cursor, front}
 use Rattle.inf_reader.specs.Cursors.{next_token}
-use Rattle.inf_reader.specs.Tests.{atom_of, complaint_of, read_of}
-use Rattle.inf_reader.specs.Selection.{begins_piece, has_come}
+use Rattle.inf_reader.specs.Tests.{atom_of, complaint_of}
 use Rattle.inf_reader.specs.declared.mode.Mode.{Mode}
 use Rattle.inf_reader.specs.declared.mode.Mode.TheVariants as mode
 
--- What is read: how, what of the piece at hand is still to come, and the tokens of the unit at hand.
+-- What is read: how, and what of the piece at hand is still to come.
 pub record Reading : Type 0 where
   pub mode : Mode
   pub stack : List (Symbol Action)
-  pub unit : Unit
 
 -- between the pieces of a source
 abbrev pub between : Mode → Reading
-between m = record { mode = m; stack = []; unit = no_unit }
+between m = record { mode = m; stack = [] }
 
 -- What is still to come of the source, what is read of it, and what was compiled.
 pub record State : Type 0 where
@@ -104,35 +99,22 @@ with_complaint at m r = with_complaint_of (kind_of m) at m r
 -- The bad token of a piece is told, and is the first that is passed over. The unit that it stands in gives nothing, and a
 -- routine that it stands in is never finished: what there is of it and of its locals is left, and nothing reads it.
 abbrev pub bad : FileNames → Spelled → Reading → Work → Stand
-bad files t r w = record {
-  reading = between (passed (skip_of r.stack) t.kind);
-  work = record w { report = with_complaint (location files t.place) (complaint_of t) w.report };
-}
-
--- whether a token is a text of a directive, of which the bytes are kept and not the characters
-abbrev pub is_quoted : Option Head → TokenKind → Bool
-is_quoted (Some (head.Directive d place)) kind.Text = true
-is_quoted _ _ = false
-
--- what is gathered behind a token that was taken, of a unit that begins so, in a character set
-abbrev pub gathering : CharSet → Option Head → Spelled → Gathered → Gathered
-gathering set h t g =
-    if is_quoted h t.kind then record g { named = None; read = None; number = None; quoted = t.bytes }
-    else record g { named = name_of t; read = read_of set t; number = number_of t.kind }
+bad files t r w =
+    let c = cut files w in
+    record {
+      reading = between (passed (skip_of r.stack) t.kind);
+      work = record c { report = with_complaint (location files t.place) (complaint_of t) c.report };
+    }
 
 -- A token that fits is taken: first the actions on the way to it act.
 abbrev pub took : FileNames → Spelled → Reading → Work → Stand
 took files t r w =
     let n = taken grammar known (atom_of t) r.stack in
-    let acted_on = acted files r.unit t.place n.actions w in
-    record {
-      reading = record { mode = r.mode; stack = n.left; unit = unit_behind t r.unit };
-      work = record acted_on { gathered = gathering acted_on.set r.unit.head t acted_on.gathered };
-    }
+    record { reading = record { mode = r.mode; stack = n.left }; work = work_took files t (acted files t.place n.actions w) }
 
--- a token of a piece, if it may go on with it as far as what has come goes, is taken where it fits; else it is the bad one
-abbrev pub judged : FileNames → Bool → Spelled → Reading → Work → Stand
-judged files has_come t r w = if has_come && fits grammar known (atom_of t) r.stack then took files t r w else bad files t r w
+-- a token of a piece is taken where it fits; else it is the bad one
+abbrev pub judged : FileNames → Spelled → Reading → Work → Stand
+judged files t r w = if fits grammar known (atom_of t) r.stack then took files t r w else bad files t r w
 
 -- the rule of the pieces
 abbrev pub piece_rule : ℕ
@@ -140,14 +122,14 @@ piece_rule = 1
 
 -- a piece is read next
 abbrev pub piece_begun : Reading → Reading
-piece_begun r = record { mode = r.mode; stack = Rule piece_rule ∷ []; unit = no_unit }
+piece_begun r = record { mode = r.mode; stack = Rule piece_rule ∷ [] }
 
 -- the next token where this is still to come: of a new piece, or of the one at hand
 abbrev pub read_at : FileNames → Spelled → List (Symbol Action) → Reading → Work → Stand
 read_at files t [] r w =
     if is_end t.kind then record { reading = record r { mode = mode.Ended }; work = w }
-    else judged files (begins_piece t) t (piece_begun r) w
-read_at files t (_ ∷ _) r w = judged files (has_come r.unit t) t r w
+    else judged files t (piece_begun r) (work_begun w)
+read_at files t (_ ∷ _) r w = judged files t r w
 
 abbrev pub step_in : Mode → FileNames → Spelled → Reading → Work → Stand
 step_in mode.Reads files t r w = read_at files t r.stack r w

@@ -1,10 +1,5 @@
--- Tests of a token, what is wrong with one by itself, and how the grammar sees one.
-use Rattle.std.specs.Prelude.{ℕ, ◌+◌, List, ◌&&◌, Bool, true, false, not, Option, Some, None, Result, Ok, Err, unwrap_or}
-use Rattle.inf_characters.specs.Reading.{text_of}
-use Rattle.inf_characters.specs.declared.characters.CharSet.{CharSet}
-use Rattle.inf_characters.specs.declared.reading.Mode.TheVariants as mode
-use Rattle.inf_characters.specs.declared.reading.TextFault.{TextFault}
-use Rattle.inf_characters.specs.declared.texts.TextItem.{TextItem}
+-- What is wrong with a token by itself, and how the grammar sees one.
+use Rattle.std.specs.Prelude.{ℕ, ◌+◌, List, Option, Some, None, unwrap_or}
 use Rattle.inf_scanner.specs.declared.tokens.BadToken.{BadToken}
 use Rattle.inf_scanner.specs.declared.tokens.BadToken.TheVariants as bad
 use Rattle.inf_scanner.specs.declared.tokens.TokenKind.{TokenKind}
@@ -13,36 +8,7 @@ use Rattle.inf_settings.specs.declared.setting.Setting.TheVariants.{QuotedText}
 use Rattle.inf_report.specs.Messages.{Message, Syntax, IllegalCharacter, UnclosedQuote, NumberOutOfRange, UnknownEscape, LongName, NoZscii, Exceeded}
 use Rattle.inf_syntax.specs.Atoms.{mark_atom, place_in, first_word, first_literal}
 use Rattle.inf_syntax.specs.Words.{words}
-use Rattle.inf_unit.specs.Keywords.{is_condition_word}
 use Rattle.inf_unit.specs.Tokens.{Spelled, told}
-
--- a name
-abbrev pub is_name : TokenKind → Bool
-is_name kind.Name = true
-is_name _ = false
-
--- a name that may stand for a routine or a local variable in a statement: not has, in, or and the like
-abbrev pub is_operand : Spelled → Bool
-is_operand t = is_name t.kind && not (is_condition_word t.bytes)
-
--- Texts
-
--- the characters of a text of a source in a character set
-abbrev pub characters : CharSet → List ℕ → Result (List TextItem) TextFault
-characters set bytes = text_of set mode.Text bytes
-
--- the same, where they have no fault
-abbrev pub fit_characters : Result (List TextItem) TextFault → Option (List TextItem)
-fit_characters (Ok items) = Some items
-fit_characters (Err _) = None
-
--- the characters of a token that is a text
-abbrev pub read_of_kind : CharSet → TokenKind → List ℕ → Option (List TextItem)
-read_of_kind set kind.Text bytes = fit_characters (characters set bytes)
-read_of_kind set _ bytes = None
-
-abbrev pub read_of : CharSet → Spelled → Option (List TextItem)
-read_of set t = read_of_kind set t.kind t.bytes
 
 -- What is wrong with a token by itself
 

@@ -5,7 +5,6 @@ mod laws;
 pub mod mode;
 pub mod progress;
 pub mod reader;
-mod selection;
 mod tokens;
 
 pub use laws::{constants_have_these_numbers, limits_stay, pieces_are_read, sources_are_read};

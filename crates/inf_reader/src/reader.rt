@@ -9,15 +9,13 @@ ghost use Rattle.inf_reader.specs.declared.mode.Mode.TheVariants as mode;
 use crate::mode::{Mode, passed};
 use inf_grammar::{Action, Machine, PIECE};
 use inf_unit::tokens::Spelled;
-use inf_unit::unit::Unit;
 use std::alloc::{AllocError, Global};
 
-/// How the next token is read, what of the piece at hand is still to come, and the unit at hand.
+/// How the next token is read, and what of the piece at hand is still to come.
 #[derive(Drop)]
 pub struct Reader {
     pub mode: Mode,
     pub machine: Machine,
-    pub unit: Unit,
 }
 
 impl Reader {
@@ -28,7 +26,6 @@ impl Reader {
         Reader {
             mode: Mode::Reads,
             machine: Machine::new(alloc),
-            unit: Unit::new(alloc),
         }
     }
 
@@ -37,7 +34,6 @@ impl Reader {
         requires { (reading self.old).stack ≡ [] }
         ensures { OnOk result (reading self.new ≡ piece_begun (reading self.old)) }
     {
-        self.unit.clear();
         self.machine.start(PIECE)
     }
 
@@ -65,6 +61,5 @@ impl Reader {
         };
         self.mode = passed(skip, token);
         self.machine.clear();
-        self.unit.clear();
     }
 }

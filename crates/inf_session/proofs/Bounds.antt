@@ -102,11 +102,11 @@ first_fits o names going =
     ltb-false (number_of References o.settings) 4 (none_told (nat_lt (number_of References o.settings) 4) names o.has_warnings going)
 
 pub bounded_first : (p : Setup) (progress : Progress) (names : FileNames) → standing progress ≡ begun_with (chosen p) names
-    → (progress.work.names.limit ≡ number_of Symbols (chosen p).settings)
+    → (progress.work.output.names.limit ≡ number_of Symbols (chosen p).settings)
     × ((progress.work.output.code.limits ≡ limits_of (chosen p).settings)
     × ((0 ≤ most_quoted (chosen p)) × ((standing progress).work.report.counts.is_over ≡ false → 4 ≤ number_of References (chosen p).settings)))
 bounded_first p progress names begun = (
-  ap (λ (s : Stand). s.work.names.limit) begun,
+  ap (λ (s : Stand). s.work.output.names.limit) begun,
   (
     ap (λ (s : Stand). s.work.output.code.limits) begun,
     (omega arith, λ going. first_fits (chosen p) names (ap (λ (s : Stand). s.work.report.counts.is_over) (sym begun) ∙ going)),
@@ -115,7 +115,7 @@ bounded_first p progress names begun = (
 
 -- The counts
 
-pub within : (s : Session) (names code refs : ℕ) → IsBounded s → is_fatal s ≡ false → names ≤ s.progress.work.names.limit
+pub within : (s : Session) (names code refs : ℕ) → IsBounded s → is_fatal s ≡ false → names ≤ s.progress.work.output.names.limit
     → code ≤ s.progress.work.output.code.limits.code → (4 ≤ s.progress.work.output.code.limits.refs → refs ≤ s.progress.work.output.code.limits.refs)
     → AreWithin (s.quoted ∷ 0 ∷ names ∷ 0 ∷ 0 ∷ 0 ∷ 0 ∷ 0 ∷ 0 ∷ 0 ∷ 0 ∷ 0 ∷ code ∷ 0 ∷ refs ∷ []) all_settings (chosen s.setup).settings
 within s names code refs bounded going few_names few_code few_refs =

@@ -19,7 +19,7 @@ abbrev HasNone : Ending → Type 0
 HasNone e = e.status ≡ status.Errors → e.story ≡ None
 
 laid_none : (serial : List ℕ) (files : FileNames) (main : ℕ) (w : Work) (r : Reported) → HasNone (laid serial files main w r)
-laid_none serial files main w r = of_both HasNone (is_too_long main (values w.names.names) w.output.code.finished) _ _ (λ _ _. refl) (λ _ e. cc)
+laid_none serial files main w r = of_both HasNone (is_too_long main (values w.output.names.names) w.output.code.finished) _ _ (λ _ _. refl) (λ _ e. cc)
 
 begun_none : (serial : List ℕ) (files : FileNames) (w : Work) (r : Reported) (main : Option ℕ) → HasNone (begun serial files w r main)
 begun_none serial files w r None = λ _. refl
@@ -29,7 +29,7 @@ begun_none serial files w r (Some main) =
 pub errors_none : (serial : List ℕ) (files : FileNames) (w : Work) → (finished serial files w).status ≡ status.Errors → (finished serial files w).story ≡ None
 errors_none serial files w =
     let b = begun_at files first_place w in
-    begun_none serial files b (with_all_undeclared files b.names.names b.report) (main_of b.names)
+    begun_none serial files b (with_all_undeclared files b.output.names.names b.report) (main_of b.output.names)
 
 -- with no error the lines end with the one that says so
 abbrev CleanIf : Ending → Type 0
@@ -45,7 +45,7 @@ closing_clean lines false errors warnings e =
 
 laid_clean : (serial : List ℕ) (files : FileNames) (main : ℕ) (w : Work) (r : Reported) → is_clean r ≡ true → CleanIf (laid serial files main w r)
 laid_clean serial files main w r clean =
-    of_both CleanIf (is_too_long main (values w.names.names) w.output.code.finished) _ _ (λ _ e. cc) (λ _ _. closing_clean r.lines r.counts.is_over r.counts.errors r.counts.warnings clean)
+    of_both CleanIf (is_too_long main (values w.output.names.names) w.output.code.finished) _ _ (λ _ e. cc) (λ _ _. closing_clean r.lines r.counts.is_over r.counts.errors r.counts.warnings clean)
 
 begun_clean : (serial : List ℕ) (files : FileNames) (w : Work) (r : Reported) (main : Option ℕ) → CleanIf (begun serial files w r main)
 begun_clean serial files w r None = λ e. cc
@@ -55,7 +55,7 @@ begun_clean serial files w r (Some main) =
 pub finished_clean : (serial : List ℕ) (files : FileNames) (w : Work) → (finished serial files w).status ≡ status.Success → IsClean (finished serial files w).messages
 finished_clean serial files w =
     let b = begun_at files first_place w in
-    begun_clean serial files b (with_all_undeclared files b.names.names b.report) (main_of b.names)
+    begun_clean serial files b (with_all_undeclared files b.output.names.names b.report) (main_of b.output.names)
 
 -- so what was taken in all ends so
 taken_clean : (e : List ℕ) (old new : Option (List ℕ)) → Takes old new e → IsClean e → EndsClean new

@@ -4,5 +4,6 @@ pub mod Opening
 pub mod Weighing
 pub mod Standings
 pub mod Stepping
+pub mod Taking
 pub mod Bounds
 pub mod Delivering

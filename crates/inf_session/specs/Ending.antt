@@ -30,11 +30,11 @@ first_line files = location files first_place
 -- the story of the routines, where it is not too long
 abbrev pub laid : List ℕ → FileNames → ℕ → Work → Reported → Ending
 laid serial files main w r =
-    if is_too_long main (values w.names.names) w.output.code.finished
+    if is_too_long main (values w.output.names.names) w.output.code.finished
     then refused (with_fatal (first_line files) (StoryTooLong most_bytes) r)
     else record {
       messages = (with_closing r).lines;
-      story = Some (story serial main (values w.names.names) w.output.code.finished);
+      story = Some (story serial main (values w.output.names.names) w.output.code.finished);
       status = status.Success;
     }
 
@@ -45,7 +45,7 @@ begun serial files w r (Some main) = if is_clean r then laid serial files main w
 
 -- The names are told that were used and never declared.
 abbrev pub finished_with : List ℕ → FileNames → Work → Ending
-finished_with serial files w = begun serial files w (with_all_undeclared files w.names.names w.report) (main_of w.names)
+finished_with serial files w = begun serial files w (with_all_undeclared files w.output.names.names w.report) (main_of w.output.names)
 
 -- At the end, at the latest, code begins.
 abbrev pub finished : List ℕ → FileNames → Work → Ending

@@ -102,7 +102,7 @@ quoted_behind site j t quoted =
 abbrev pub stepped : State → State
 stepped s =
     let t = token_of s.nesting.cursor in
-    let b = judged (site_of s.reading) s.work.names t s.conditions in
+    let b = judged (site_of s.reading) s.work.output.names t s.conditions in
     let n = judged_taken s.nesting.names t b.judged (stand_of s) in
     record {
       nesting = record s.nesting { cursor = behind s.nesting.cursor (read s.nesting.cursor) };
@@ -172,7 +172,7 @@ is_resting s = (site_of s.reading).is_between && is_none_pending s.conditions.pe
 -- Behind a directive the conditionals are told that are open in it.
 abbrev pub piece_closed : State → State
 piece_closed s = record s {
-  conditions = piece_ended s.work.names.declared s.conditions;
+  conditions = piece_ended s.work.output.names.declared s.conditions;
   work = record s.work { report = piece_told s.nesting.names s.conditions s.work.report };
 }
 
@@ -206,7 +206,7 @@ part sources o (suc n) s =
 -- code, the references, and nothing yet of the others.
 abbrev pub held : State → List ℕ
 held s =
-    s.quoted ∷ 0 ∷ length s.work.names.names ∷ 0 ∷ 0 ∷ 0 ∷ 0 ∷ 0 ∷ 0 ∷ 0 ∷ 0 ∷ 0
+    s.quoted ∷ 0 ∷ length s.work.output.names.names ∷ 0 ∷ 0 ∷ 0 ∷ 0 ∷ 0 ∷ 0 ∷ 0 ∷ 0 ∷ 0
     ∷ code_count s.work.output.code ∷ 0 ∷ reference_count s.work.output.code ∷ []
 
 -- at most n turns

@@ -49,7 +49,7 @@ is_fatal s = (standing s.progress).work.report.counts.is_over
 abbrev pub IsBounded : Session → Type 0
 IsBounded s =
     let settings = (chosen s.setup).settings in
-    (s.progress.work.names.limit ≡ number_of Symbols settings)
+    (s.progress.work.output.names.limit ≡ number_of Symbols settings)
     × ((s.progress.work.output.code.limits ≡ limits_of settings)
     × ((s.quoted ≤ most_quoted (chosen s.setup)) × (is_fatal s ≡ false → 4 ≤ number_of References settings)))
 
@@ -77,5 +77,5 @@ came_to had_ended s = if is_fatal s then step.Fatal else if had_ended then step.
 -- how much there is of what each setting bounds
 abbrev pub held_by : Session → List ℕ
 held_by s =
-    s.quoted ∷ 0 ∷ length s.progress.work.names.names ∷ 0 ∷ 0 ∷ 0 ∷ 0 ∷ 0 ∷ 0 ∷ 0 ∷ 0 ∷ 0
+    s.quoted ∷ 0 ∷ length s.progress.work.output.names.names ∷ 0 ∷ 0 ∷ 0 ∷ 0 ∷ 0 ∷ 0 ∷ 0 ∷ 0 ∷ 0
     ∷ code_count s.progress.work.output.code ∷ 0 ∷ reference_count s.progress.work.output.code ∷ []

@@ -14,6 +14,7 @@ use inf_code::code::Code;
 use inf_layout::layout::{MOST_BYTES, story};
 use inf_lexer::{Place, Stack};
 use inf_names::symbols::Symbols;
+use inf_output::Output;
 use inf_report::messages::{Location, Message};
 use inf_unit::messages::{Messages, location};
 use inf_unit::names::{main_of, numbers_of, tell_undeclared};
@@ -49,10 +50,10 @@ pub(crate) fn finish(
 /// Begins code, unless it has begun, and tells each name that was used and never declared.
 fn tell_last(files: &Stack, work: &mut Work) -> Result<(), AllocError>
     ensures { let begun = begun_at files.now.names first_place (work_of work.old) in
-        OnOk result (work_of work.new ≡ record begun { report = with_all_undeclared files.now.names begun.names.names begun.report }) }
+        OnOk result (work_of work.new ≡ record begun { report = with_all_undeclared files.now.names begun.output.names.names begun.report }) }
 {
     work.begin(files, FIRST_LINE)?;
-    tell_undeclared(&work.names, files, &mut work.report)
+    tell_undeclared(&work.output.names, files, &mut work.report)
 }
 
 /// Ends a compilation of which all is told but that there is no routine `Main`.
@@ -62,9 +63,9 @@ fn finish_told(
     serial: &[u8],
     work: Work,
 ) -> Result<Ending, AllocError>
-    ensures { IfOk result (λ t. seen t ≡ begun serial.now files.now.names (work_of work) work.report (main_of work.names)) }
+    ensures { IfOk result (λ t. seen t ≡ begun serial.now files.now.names (work_of work) work.report (main_of work.output.names)) }
 {
-    let Some(main) = main_of(&work.names) else {
+    let Some(main) = main_of(&work.output.names) else {
         return without_main(files, report_of(work));
     };
     if !is_clean(&work.report) {
@@ -99,9 +100,11 @@ fn report_of(work: Work) -> Messages
 
 /// The names of some work, its code, and what was told in it.
 fn parts_of(work: Work) -> (Symbols<Place>, Code, Messages)
-    ensures { (result.0 ≡ work.names) × (result.1 ≡ work.output.code) × (result.2 ≡ work.report) }
+    ensures { (result.0 ≡ work.output.names) × (result.1 ≡ work.output.code) × (result.2 ≡ work.report) }
 {
-    (work.names, work.output.code, work.report)
+    let Work { output, report, .. } = work;
+    let Output { code, names, .. } = output;
+    (names, code, report)
 }
 
 /// Ends the compilation of a source without an error, in which the routine at a place is called

@@ -288,7 +288,7 @@ impl<'a> Session<'a> {
         let work = &self.progress.work;
         let mut held = [0; 15];
         held[0] = self.quoted;
-        held[2] = work.names.len();
+        held[2] = work.output.names.len();
         held[12] = work.output.code.count();
         held[14] = work.output.code.references();
         held
@@ -390,7 +390,7 @@ impl<'a> Session<'a> {
         let site = self.progress.site();
         let judged = self
             .conditionals
-            .take(site, &self.progress.work.names, &spelled)?;
+            .take(site, &self.progress.work.output.names, &spelled)?;
         self.quoted = quoted_behind(site, judged, &spelled, self.quoted);
         self.progress
             .take_judged(self.open_files.names(), &spelled, judged)?;
@@ -499,7 +499,7 @@ impl<'a> Session<'a> {
         if self.has_ended() || !self.is_resting() {
             return Ok(());
         }
-        let declared = self.progress.work.names.declared();
+        let declared = self.progress.work.output.names.declared();
         self.conditionals.end_piece(
             declared,
             self.open_files.names(),

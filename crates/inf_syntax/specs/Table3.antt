@@ -3,13 +3,12 @@ use Rattle.std.specs.Prelude.{List, [], ◌∷◌}
 use Rattle.inf_machine.specs.Grammar.{Row}
 use Rattle.inf_syntax.specs.declared.actions.Action.{Action}
 use Rattle.inf_syntax.specs.Rows.{row}
-use Rattle.inf_syntax.specs.Parts.{ !begin, !bracketed, !comma, !default, !end_case, !name, !negate, !outer, !outer_maybe, !outer_sure, !outer_word, !print_rule, !print_text, !print_value, !rule, !text, !to, 'colon', 'comma', 'default', 'do', 'else', 'for', 'give', 'if', 'jump', 'minus', 'move', 'objectloop', 'print', 'print_ret', 'remove', 'return', 'spaces', 'string', 'style', 'switch', 'to', 'while', CASENAME, NOTDEFAULT, NOTTO, OPERAND, TEXT, after_prim, after_unary, assign, bracketed, case_end, case_value, case_value_1, do_rest, end, entry, expression_tail, first_case_1, first_case_2, first_case_3, first_case_4, for_rest, give_rest, if_rest, inner_operator, jump_rest, mark_statement, minus_more, minus_more_1, move_rest, neg, objectloop_rest, of_expression, operator, other_assign, other_operator, other_prim, outer_more, outer_operator, plain_prim, plain_word, prefixed, prim, print_rest, range, return_rest, ruled, statement_end, step_prefix, string_rest, switch_following, switch_item_1, switch_item_10, switch_item_11, switch_item_12, switch_item_13, switch_item_14, switch_item_15, switch_item_16, switch_item_17, switch_item_18, switch_item_19, switch_item_2, switch_item_20, switch_item_21, switch_item_22, switch_item_23, switch_item_24, switch_item_25, switch_item_26, switch_item_3, switch_item_4, switch_item_5, switch_item_6, switch_item_7, switch_item_8, switch_item_9, switch_more, switch_next, switch_next_1, switch_rest, switch_word, switch_word_1, text_statement, top_following, top_following_1, top_item_1, top_item_10, top_item_11, top_item_12, top_item_13, top_item_14, top_item_15, top_item_16, top_item_17, top_item_18, top_item_19, top_item_2, top_item_20, top_item_21, top_item_3, top_item_4, top_item_5, top_item_6, top_item_7, top_item_8, top_item_9, top_more, top_next, top_range, top_values, top_values_1, top_values_2, top_word, top_word_1, values, values_1, while_rest}
+use Rattle.inf_syntax.specs.Parts.{ !begin, !bracketed, !comma, !default, !end_case, !name, !negate, !outer, !outer_maybe, !outer_sure, !outer_word, !print_rule, !print_text, !print_value, !rule, !text, !to, 'colon', 'comma', 'default', 'do', 'else', 'for', 'give', 'if', 'jump', 'minus', 'move', 'objectloop', 'print', 'print_ret', 'remove', 'return', 'spaces', 'string', 'style', 'switch', 'to', 'while', CASENAME, NOTDEFAULT, NOTTO, OPERAND, TEXT, after_prim, after_unary, assign, bracketed, case_end, case_value, case_value_1, do_rest, end, entry, expression_tail, first_case_1, first_case_2, first_case_3, first_case_4, for_rest, give_rest, if_rest, inner_operator, jump_rest, mark_statement, minus_more, minus_more_1, move_rest, neg, objectloop_rest, of_expression, operator, other_assign, other_operator, other_prim, outer_more, outer_operator, plain_prim, plain_word, prefixed, prim, print_rest, range, return_rest, statement_end, step_prefix, string_rest, switch_following, switch_item_1, switch_item_10, switch_item_11, switch_item_12, switch_item_13, switch_item_14, switch_item_15, switch_item_16, switch_item_17, switch_item_18, switch_item_19, switch_item_2, switch_item_20, switch_item_21, switch_item_22, switch_item_23, switch_item_24, switch_item_25, switch_item_26, switch_item_3, switch_item_4, switch_item_5, switch_item_6, switch_item_7, switch_item_8, switch_item_9, switch_more, switch_next, switch_next_1, switch_rest, switch_word, switch_word_1, text_statement, top_following, top_following_1, top_item_1, top_item_11, top_item_12, top_item_13, top_item_14, top_item_2, top_item_3, top_item_4, top_item_5, top_more, top_next, top_range, top_values, top_values_1, top_values_2, top_word, top_word_1, values, values_1, while_rest}
 
 abbrev pub rules_3 : List (List (Row Action))
 rules_3 =
     -- bracket_name_1
-    (row (ruled ∷ [])
-    ∷ row (!outer_sure ∷ !bracketed ∷ other_operator ∷ !print_value ∷ [])
+    (row (!outer_sure ∷ !bracketed ∷ other_operator ∷ !print_value ∷ [])
     ∷ row (!outer_sure ∷ !bracketed ∷ !print_value ∷ [])
     ∷ [])
     -- bracket_name_2
@@ -27,29 +26,15 @@ rules_3 =
     ∷ row (!begin ∷ !outer ∷ top_item_3 ∷ after_prim ∷ statement_end ∷ [])
     ∷ row (!begin ∷ !outer ∷ top_item_4 ∷ statement_end ∷ [])
     ∷ row ('if' ∷ top_item_5 ∷ [])
-    ∷ row ('while' ∷ top_item_6 ∷ [])
-    ∷ row ('do' ∷ top_item_7 ∷ [])
-    ∷ row ('for' ∷ top_item_8 ∷ [])
-    ∷ row ('objectloop' ∷ top_item_9 ∷ [])
-    ∷ row ('switch' ∷ top_item_10 ∷ [])
     ∷ row (!begin ∷ top_item_11 ∷ top_item_12 ∷ [])
     ∷ row (!begin ∷ 'return' ∷ top_item_13 ∷ [])
     ∷ row (!begin ∷ plain_word ∷ top_item_14 ∷ [])
-    ∷ row (!begin ∷ 'jump' ∷ top_item_15 ∷ [])
-    ∷ row (!begin ∷ 'give' ∷ top_item_16 ∷ [])
-    ∷ row (!begin ∷ 'move' ∷ top_item_17 ∷ [])
-    ∷ row (!begin ∷ top_item_18 ∷ top_item_19 ∷ [])
-    ∷ row (!begin ∷ 'string' ∷ top_item_20 ∷ [])
-    ∷ row (!begin ∷ 'style' ∷ top_item_21 ∷ [])
-    ∷ row (!outer ∷ 'else' ∷ top_word ∷ [])
     ∷ [])
     -- top_item_1
-    ∷ (row (case_end ∷ [])
-    ∷ row (top_more ∷ [])
+    ∷ (row (top_more ∷ [])
     ∷ [])
     -- top_item_2
-    ∷ (row (!default ∷ case_end ∷ [])
-    ∷ row (!name ∷ top_more ∷ [])
+    ∷ (row (!name ∷ top_more ∷ [])
     ∷ [])
     -- top_item_3
     ∷ (row (plain_prim ∷ [])
@@ -61,7 +46,6 @@ rules_3 =
     ∷ [])
     -- top_item_5
     ∷ (row (if_rest ∷ [])
-    ∷ row (top_word ∷ [])
     ∷ [])
     -- top_item_6
     ∷ (row (while_rest ∷ [])
@@ -89,15 +73,12 @@ rules_3 =
     ∷ [])
     -- top_item_12
     ∷ (row (print_rest ∷ [])
-    ∷ row (top_word ∷ [])
     ∷ [])
     -- top_item_13
     ∷ (row (return_rest ∷ [])
-    ∷ row (top_word ∷ [])
     ∷ [])
     -- top_item_14
     ∷ (row (end ∷ [])
-    ∷ row (top_word ∷ [])
     ∷ [])
     -- top_item_15
     ∷ (row (jump_rest ∷ [])
@@ -153,7 +134,6 @@ rules_3 =
     ∷ [])
     -- top_more
     ∷ (row (operator ∷ statement_end ∷ [])
-    ∷ row (top_range ∷ [])
     ∷ row ('comma' ∷ top_next ∷ [])
     ∷ row (end ∷ [])
     ∷ [])
@@ -163,12 +143,10 @@ rules_3 =
     ∷ [])
     -- top_following
     ∷ (row (operator ∷ !comma ∷ statement_end ∷ [])
-    ∷ row ('to' ∷ OPERAND ∷ !name ∷ !to ∷ !comma ∷ top_values ∷ [])
     ∷ row (!comma ∷ top_following_1 ∷ [])
     ∷ [])
     -- top_following_1
-    ∷ (row (case_end ∷ [])
-    ∷ row ('comma' ∷ top_next ∷ [])
+    ∷ (row ('comma' ∷ top_next ∷ [])
     ∷ row (end ∷ [])
     ∷ [])
     -- first_case

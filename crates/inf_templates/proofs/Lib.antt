@@ -2,3 +2,4 @@ pub mod Cuts
 pub mod Groups
 pub mod Given
 pub mod Examples
+pub mod Keeping

@@ -1,3 +1,4 @@
+pub mod Limits
 pub mod Meaning
 pub mod Parts
 pub mod Tasks

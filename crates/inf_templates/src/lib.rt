@@ -16,6 +16,7 @@ mod tasks;
 mod templates;
 mod testing;
 
+pub use reading::simple_of;
 pub use tasks::{Argument, Few, Memory, Task, Tasks, Worked};
 pub use templates::{
     lay_alone, lay_branch, lay_call, lay_instruction, lay_routine_call, lay_value,

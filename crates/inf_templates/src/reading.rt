@@ -57,7 +57,7 @@ pub(crate) fn argument_of(nodes: &Nodes, argument: Argument) -> Simple
 }
 
 /// The operand that a tree is itself, where it is simple.
-pub(crate) fn simple_of(nodes: &Nodes, place: usize) -> Option<Simple>
+pub fn simple_of(nodes: &Nodes, place: usize) -> Option<Simple>
     ensures { result ≡ (at nodes.now place).operand }
 {
     match nodes.node(place) {

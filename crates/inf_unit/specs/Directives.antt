@@ -5,7 +5,6 @@ use Rattle.inf_scanner.specs.declared.tokens.Place.{Place}
 use Rattle.inf_report.specs.declared.messages.Kind.{Kind}
 use Rattle.inf_report.specs.declared.messages.Kind.TheVariants as weight
 use Rattle.inf_symbol.specs.Spellings.{Name}
-use Rattle.inf_unit.specs.Tokens.{Spelled, is_word}
 use Rattle.inf_unit.specs.declared.directives.Directive.{Directive}
 use Rattle.inf_unit.specs.declared.directives.Directive.TheVariants as directive
 use Rattle.inf_unit.specs.declared.directives.Asked.{Asked as CodeAsked}
@@ -29,14 +28,17 @@ asked code.Nothing = Nothing
 asked (code.Include text unit) = Include text.items unit
 asked code.End = End
 
--- what a directive is that begins with this token
-abbrev pub directive_of : Spelled → Directive
-directive_of t =
-    if is_word (codes "include") t then directive.Include else
-    if is_word (codes "message") t then directive.Message else
-    if is_word (codes "end") t then directive.End else
-    if is_word (codes "constant") t then directive.Constant else
-    if is_word (codes "replace") t then directive.Replace else directive.SystemFile
+-- what a directive is whose word this is, in any case
+abbrev pub is_directive : List ℕ → List ℕ → Bool
+is_directive word bytes = str_eq_ignore_ascii_case bytes word
+
+abbrev pub directive_of : List ℕ → Directive
+directive_of bytes =
+    if is_directive (codes "include") bytes then directive.Include else
+    if is_directive (codes "message") bytes then directive.Message else
+    if is_directive (codes "end") bytes then directive.End else
+    if is_directive (codes "constant") bytes then directive.Constant else
+    if is_directive (codes "replace") bytes then directive.Replace else directive.SystemFile
 
 -- the weight of a message, by the word behind `Message`
 abbrev pub weight_of_word : List ℕ → Kind

@@ -2,7 +2,10 @@ pub mod Tokens
 pub mod Messages
 pub mod Blames
 pub mod Names
-pub mod Keywords
-pub mod Directives
-pub mod Statements
+pub mod Kept
+pub mod Steps
+pub mod Texts
+pub mod Units
+pub mod NameTokens
 pub mod AtHand
+pub mod Directives

@@ -7,6 +7,7 @@ use Rattle.inf_scanner.specs.declared.tokens.TokenKind.{TokenKind}
 use Rattle.inf_scanner.specs.declared.tokens.TokenKind.TheVariants as kind
 use Rattle.inf_scanner.specs.declared.tokens.Place.{Place}
 use Rattle.inf_report.specs.Messages.{Told, Bytes, Quote, Text, End}
+use Rattle.inf_symbol.specs.Spellings.{Name}
 use Rattle.inf_unit.specs.declared.tokens.Spelled as code
 
 -- A token: what it is, its bytes (of a text or quote those between its quotes), and the place of its first byte.
@@ -50,3 +51,11 @@ told_kind _ bytes = Bytes bytes
 
 abbrev pub told : Spelled → Told
 told t = told_kind t.kind t.bytes
+
+-- the name that a token is, if it is one
+abbrev pub name_of_kind : TokenKind → List ℕ → Place → Option Name
+name_of_kind kind.Name bytes place = Some (record { bytes = bytes; place = place })
+name_of_kind _ bytes place = None
+
+abbrev pub name_of : Spelled → Option Name
+name_of t = name_of_kind t.kind t.bytes t.place

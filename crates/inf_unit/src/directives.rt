@@ -2,9 +2,7 @@
 ghost use Rattle.std.specs.Prelude.{◌≡◌, map};
 ghost use Rattle.inf_symbol.specs.Spellings.{as_name};
 ghost use Rattle.inf_unit.specs.Directives.{directive_of, weight_of, weight_of_word};
-ghost use Rattle.inf_unit.specs.Tokens.{spelled};
 
-use crate::tokens::{Spelled, is_word};
 use inf_report::messages::Kind;
 use inf_scanner::Place;
 use inf_symbol::spellings::Name;
@@ -30,19 +28,19 @@ pub enum Asked {
     End,
 }
 
-/// What a directive is that begins with a token.
-pub(crate) fn directive_of(token: &Spelled<'_>) -> Directive
-    ensures { result ≡ directive_of (spelled token.now) }
+/// What a directive is whose word this is, in any case.
+pub fn directive_of(word: &[u8]) -> Directive
+    ensures { result ≡ directive_of word.now }
 {
-    if is_word(token, b"include") {
+    if word.eq_ignore_ascii_case(b"include") {
         Directive::Include
-    } else if is_word(token, b"message") {
+    } else if word.eq_ignore_ascii_case(b"message") {
         Directive::Message
-    } else if is_word(token, b"end") {
+    } else if word.eq_ignore_ascii_case(b"end") {
         Directive::End
-    } else if is_word(token, b"constant") {
+    } else if word.eq_ignore_ascii_case(b"constant") {
         Directive::Constant
-    } else if is_word(token, b"replace") {
+    } else if word.eq_ignore_ascii_case(b"replace") {
         Directive::Replace
     } else {
         Directive::SystemFile

@@ -2,8 +2,10 @@
 #![tactic(auto)]
 
 pub mod directives;
-pub mod keywords;
 pub mod messages;
 pub mod names;
+pub mod steps;
+pub mod texts;
 pub mod tokens;
 pub mod unit;
+pub mod unit_tokens;

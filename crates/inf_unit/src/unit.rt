@@ -1,185 +1,231 @@
-//! The unit at hand, how it begins, and what a statement is.
-ghost use Rattle.std.specs.Prelude.{◌≡◌, ◌≤◌, OnOk, IsSome, length, option_map};
-ghost use Rattle.inf_unit.specs.Statements.{begun, head_of, name_of, next_unit, no_unit, unit_behind, statement_of, with_name};
-ghost use Rattle.inf_unit.specs.Tokens.{spelled};
+//! The unit at hand: its tokens, and what the grammar's actions gather of them.
+ghost use Rattle.std.specs.Prelude.{◌≡◌, ◌≤◌, ◌++◌, ◌∷◌, [], None, OnOk, Some, length};
 ghost use Rattle.inf_unit.specs.AtHand.{unit};
-ghost use Rattle.inf_symbol.specs.Spellings.{as_name};
+ghost use Rattle.inf_unit.specs.Steps.{step_of};
+ghost use Rattle.inf_unit.specs.Tokens.{spelled};
+ghost use Rattle.inf_unit.specs.Units.{acted, begun, depth_behind, first_place, last_leaf, leaf_of, long_at, no_unit, order, over, stepped, taken};
 
-use crate::directives::{Directive, directive_of};
-use crate::tokens::{Spelled, is_mark, is_word, number_of};
+use crate::steps::{Step, step_of};
+use crate::tokens::Spelled;
+use crate::unit_tokens::UnitTokens;
+use inf_gathering::gathering::{Gathering, Leaf};
 use inf_scanner::{Mark, Place, TokenKind};
-use inf_symbol::spellings::Name;
+use inf_syntax::Action;
 use std::alloc::{AllocError, Global};
 
-/// What a statement is, told by its first token.
+/// What a `print` prints.
 #[derive(Clone, Copy, Debug, PartialEq, Eq)]
-pub enum Statement {
-    Print,
-    Return,
-    NewLine,
-    Quit,
-    ReturnTrue,
-    ReturnFalse,
-    /// A call of a routine: the first token is no keyword.
-    Call,
+pub enum Item {
+    /// The text that is the token at this place of the unit.
+    Text(usize),
+    /// The next expression of the unit.
+    Value,
 }
 
-/// How a unit begins.
-#[derive(Clone, Copy, Debug, PartialEq, Eq)]
-pub enum Head {
-    /// As the header of a routine, at this place.
-    Header(Place),
-    /// As this directive, at this place.
-    Directive(Directive, Place),
-    /// As this statement, at this place.
-    Statement(Statement, Place),
-}
-
-/// What is known of the unit at hand.
+/// The unit at hand.
 #[derive(Drop)]
 pub struct Unit {
-    /// Whether it stands at the front of a piece: it is a header or a directive there, and else a statement.
-    pub is_outer: bool,
-    /// Where a `#` stands before it.
-    pub sign: Option<Place>,
-    /// How it begins, once its first token was taken. Where a `#` stands before it, it begins there.
-    pub head: Option<Head>,
-    /// The names behind the bracket of a header, or the word of a directive.
-    pub names: Vec<Name>,
-    /// Whether it has more than one token so far.
-    pub has_more: bool,
-    /// Whether the last of them closes a parenthesis.
-    pub is_closed: bool,
-    /// Whether the last of them is a number.
-    pub is_numbered: bool,
+    pub tokens: UnitTokens,
+    pub gathering: Gathering,
+    /// What it prints, in order.
+    pub items: Vec<Item>,
+    /// Where its outermost expression begins among its tokens, if one is open.
+    pub outer: Option<usize>,
+    /// Whether that surely is an expression.
+    pub is_sure: bool,
+    /// Whether it has ended, but for its last token.
+    pub is_over: bool,
+    /// How many brackets and braces of its piece are open.
+    pub depth: u32,
 }
 
-/// What a statement is that begins with a token.
-fn statement_of(token: &Spelled<'_>) -> Statement
-    ensures { result ≡ statement_of (spelled token.now) }
+/// The leaf that a token at a place of its unit is.
+fn leaf_of(at: usize, kind: TokenKind) -> Leaf
+    ensures { result ≡ leaf_of at kind }
 {
-    if is_word(token, b"print") {
-        Statement::Print
-    } else if is_word(token, b"return") {
-        Statement::Return
-    } else if is_word(token, b"new_line") {
-        Statement::NewLine
-    } else if is_word(token, b"quit") {
-        Statement::Quit
-    } else if is_word(token, b"rtrue") {
-        Statement::ReturnTrue
-    } else if is_word(token, b"rfalse") {
-        Statement::ReturnFalse
-    } else {
-        Statement::Call
+    match kind {
+        TokenKind::Number(number) => Leaf::Number(number),
+        TokenKind::Char(character) => Leaf::Char(character),
+        TokenKind::Word(word) => Leaf::Word(word),
+        TokenKind::Text => Leaf::Text(at),
+        _ => Leaf::Name(at),
     }
 }
 
-/// The name that a token is, if it is one. A name has at most 32 bytes.
-pub fn name_of(token: &Spelled<'_>) -> Option<Name>
-    requires { IsSome (name_of (spelled token.now)) → length token.now.bytes.now ≤ 32 }
-    ensures { option_map as_name result ≡ name_of (spelled token.now) }
+/// The order of a token at a place of its unit. No unit has so many tokens that two have one order.
+#[tactic(auto, unfolding(crate::specs::Units::order))]
+fn order(at: usize) -> u32
+    ensures { result ≡ order at }
 {
-    match token.kind {
-        TokenKind::Name => Some(Name::new(token.bytes, token.place)),
-        _ => None,
+    at.min(4294967295) as u32
+}
+
+/// How many brackets and braces are open behind a token.
+fn depth_behind(kind: TokenKind, depth: u32) -> u32
+    ensures { result ≡ depth_behind kind depth }
+{
+    match kind {
+        TokenKind::Mark(Mark::OpenParenthesis | Mark::OpenBrace) => depth.saturating_add(1),
+        TokenKind::Mark(Mark::CloseParenthesis | Mark::CloseBrace) => depth.saturating_sub(1),
+        _ => depth,
     }
 }
 
 impl Unit {
-    /// No tokens. It takes no memory until `add`.
+    /// At the front of a piece. It takes no memory until a token comes.
     pub fn new(alloc: Global) -> Unit
         ensures { unit result ≡ no_unit }
     {
         Unit {
-            is_outer: true,
-            sign: None,
-            head: None,
-            names: Vec::new(alloc),
-            has_more: false,
-            is_closed: false,
-            is_numbered: false,
+            tokens: UnitTokens::new(alloc),
+            gathering: Gathering::new(alloc),
+            items: Vec::new(alloc),
+            outer: None,
+            is_sure: false,
+            is_over: false,
+            depth: 0,
         }
     }
 
-    /// Forgets its tokens: the next one is the first of a piece.
+    /// Another piece begins.
     pub fn clear(&mut self)
         ensures { unit self.new ≡ no_unit }
     {
-        self.end();
-        self.is_outer = true;
+        self.begin();
+        self.depth = 0;
     }
 
-    /// Forgets its tokens: the next one is the first of another unit of the same piece.
-    fn end(&mut self)
-        ensures { unit self.new ≡ next_unit }
+    /// The next token is the first of a unit of the same piece.
+    fn begin(&mut self)
+        ensures { unit self.new ≡ begun (unit self.old) }
     {
-        self.is_outer = false;
-        self.sign = None;
-        self.head = None;
-        self.names.clear();
-        self.has_more = false;
-        self.is_closed = false;
-        self.is_numbered = false;
+        self.tokens.clear();
+        self.gathering.clear();
+        self.items.clear();
+        self.outer = None;
+        self.is_sure = false;
+        self.is_over = false;
     }
 
-    /// How it begins where a token is its first, or the first behind its `#`.
-    fn head_of(&self, token: &Spelled<'_>) -> Head
-        ensures { result ≡ head_of (spelled token.now) (unit self.now) }
+    /// It has ended, but for its last token, if it has one still.
+    pub fn end(&mut self, has_last: bool)
+        ensures { unit self.new ≡ over has_last (unit self.old) }
     {
-        if !self.is_outer {
-            return Head::Statement(statement_of(token), token.place);
-        }
-        let place = self.sign.unwrap_or(token.place);
-        if is_mark(token.kind, Mark::OpenBracket) {
-            Head::Header(place)
-        } else {
-            Head::Directive(directive_of(token), place)
-        }
+        self.begin();
+        self.is_over = has_last;
     }
 
-    /// Its first token, or a `#` before it.
-    fn begin(&mut self, token: &Spelled<'_>)
-        ensures { unit self.new ≡ begun (spelled token.now) (unit self.old) }
+    /// A token is taken.
+    pub fn take(&mut self, token: &Spelled<'_>) -> Result<(), AllocError>
+        ensures { OnOk result (unit self.new ≡ taken (spelled token.now) (unit self.old)) }
     {
-        if is_mark(token.kind, Mark::Hash) {
-            self.sign = Some(token.place);
-        } else {
-            self.head = Some(self.head_of(token));
-        }
-    }
-
-    /// A token is taken: one more, or the one that ends the unit. A name has at most 32 bytes.
-    pub fn add(&mut self, token: &Spelled<'_>) -> Result<(), AllocError>
-        requires { IsSome (name_of (spelled token.now)) → length token.now.bytes.now ≤ 32 }
-        ensures { OnOk result (unit self.new ≡ unit_behind (spelled token.now) (unit self.old)) }
-    {
-        if is_mark(token.kind, Mark::Semicolon) || is_mark(token.kind, Mark::CloseBracket) {
-            self.end();
+        if self.is_over {
+            self.is_over = false;
             return Ok(());
         }
-        let Some(head) = self.head else {
-            self.begin(token);
+        self.depth = depth_behind(token.kind, self.depth);
+        self.tokens.add(token)
+    }
+
+    /// What an action of the grammar gathers. One that ends a unit gathers nothing.
+    pub fn act(&mut self, action: Action) -> Result<(), AllocError>
+        ensures { OnOk result (unit self.new ≡ acted action (unit self.old)) }
+    {
+        let last = self.last();
+        match action {
+            Action::Begin => self.begin(),
+            Action::Outer => self.open_outer(true),
+            Action::OuterMaybe => self.open_outer(false),
+            Action::OuterWord => {
+                self.outer = Some(last);
+                self.is_sure = true;
+            }
+            Action::OuterSure => self.is_sure = true,
+            Action::OuterEnd => self.outer = None,
+            Action::PrintText => return self.print(Item::Text(last)),
+            Action::PrintValue => return self.print(Item::Value),
+            _ => return self.step(step_of(action)),
+        }
+        Ok(())
+    }
+
+    /// An outermost expression begins with the next token.
+    fn open_outer(&mut self, is_sure: bool)
+        ensures { let before = unit self.old in unit self.new ≡ record before { outer = Some (length before.tokens); is_sure = is_sure } }
+    {
+        self.outer = Some(self.tokens.len());
+        self.is_sure = is_sure;
+    }
+
+    /// The place of the last token among them.
+    fn last(&self) -> usize
+        ensures { result ≡ last_leaf (unit self.now) }
+    {
+        self.tokens.len().saturating_sub(1)
+    }
+
+    /// One thing more is printed.
+    fn print(&mut self, item: Item) -> Result<(), AllocError>
+        ensures { let before = unit self.old in
+            OnOk result (unit self.new ≡ record before { items = before.items ++ item ∷ []; outer = None }) }
+    {
+        self.items.push(item)?;
+        self.outer = None;
+        Ok(())
+    }
+
+    /// What is gathered of an expression.
+    fn step(&mut self, step: Option<Step>) -> Result<(), AllocError>
+        ensures { OnOk result (unit self.new ≡ stepped step (unit self.old)) }
+    {
+        let Some(step) = step else {
             return Ok(());
         };
-        if let Head::Header(_) | Head::Directive(..) = head {
-            self.add_name(token)?;
+        let last = order(self.last());
+        match step {
+            Step::Leaf => self.leaf(),
+            Step::Prefix(op) => self.gathering.prefix(op),
+            Step::Suffix(op) => self.gathering.suffix(op),
+            Step::Two(op) => self.gathering.two(op),
+            Step::Comma => self.gathering.comma(),
+            Step::List => self.gathering.open_list(),
+            Step::Part => {
+                self.gathering.part();
+                Ok(())
+            }
+            Step::Call => self.gathering.call(),
+            Step::Test(op) => self.gathering.test(op),
+            Step::Bracket => self.gathering.open_bracket(last),
+            Step::Bracketed => self.gathering.close_bracket(),
         }
-        self.has_more = true;
-        self.is_closed = is_mark(token.kind, Mark::CloseParenthesis);
-        self.is_numbered = number_of(token.kind).is_some();
-        Ok(())
     }
 
-    /// One name more, if the token is one.
-    fn add_name(&mut self, token: &Spelled<'_>) -> Result<(), AllocError>
-        requires { IsSome (name_of (spelled token.now)) → length token.now.bytes.now ≤ 32 }
-        ensures { let before = unit self.old in
-            OnOk result (unit self.new ≡ record before { names = with_name (name_of (spelled token.now)) before.names }) }
+    /// The last token is a leaf.
+    fn leaf(&mut self) -> Result<(), AllocError>
+        ensures { OnOk result (unit self.new ≡ stepped (Some Step.Leaf) (unit self.old)) }
     {
-        if let Some(name) = name_of(token) {
-            self.names.push(name)?;
+        let at = self.last();
+        match self.tokens.kind(at) {
+            Some(kind) => self.gathering.leaf(order(at), order(at), leaf_of(at, kind)),
+            None => Ok(()),
         }
-        Ok(())
+    }
+
+    /// The place of its first token; where it has none yet, that of the next.
+    pub fn first_place(&self, next: Place) -> Place
+        ensures { result ≡ first_place (unit self.now).tokens next }
+    {
+        self.tokens.place(0).unwrap_or(next)
+    }
+
+    /// Where the first token stands by which its outermost expression is too long, if it may have so many and surely is one.
+    pub fn long_at(&self, most: usize) -> Option<Place>
+        ensures { result ≡ long_at most (unit self.now) }
+    {
+        let outer = self.outer?;
+        if !self.is_sure || self.tokens.len().saturating_sub(outer) <= most {
+            return None;
+        }
+        self.tokens.place(outer.saturating_add(most))
     }
 }

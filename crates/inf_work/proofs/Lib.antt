@@ -1,5 +1,1 @@
 pub mod Limits
-pub mod TextWords
-pub mod Emitting
-pub mod Growing
-pub mod OperandSteps

@@ -1,81 +1,78 @@
--- What the actions of the grammar do. While a unit is read they gather its parts, and at its end it acts, as a whole.
-use Rattle.std.specs.Prelude.{ℕ, List, [], ◌∷◌, ◌++◌, length, Bool, true, false, ◌&&◌, if◌then◌else◌, Option, Some, None, is_some, option_map, unwrap_or}
+-- What the actions of the grammar do. While a unit is read they gather what it has, and at its end it acts, as a whole.
+use Rattle.std.specs.Prelude.{ℕ, ◌+◌, ◌==◌, List, [], ◌∷◌, ◌++◌, length, map, drop, nat_lt, slice_get, Bool, true, false, ◌&&◌, if◌then◌else◌, Option, Some, None, is_some, unwrap_or}
 use Rattle.inf_characters.specs.declared.characters.CharSet.{CharSet}
-use Rattle.inf_characters.specs.declared.texts.TextItem.{TextItem}
+use Rattle.inf_scanner.specs.declared.tokens.Mark.{Mark}
+use Rattle.inf_scanner.specs.declared.tokens.Mark.TheVariants as mark
 use Rattle.inf_scanner.specs.declared.tokens.Place.{Place}
-use Rattle.inf_opcode.specs.declared.opcodes.Opcode.TheVariants as opcode
-use Rattle.inf_opcode.specs.declared.instructions.Operand.{Operand}
-use Rattle.inf_opcode.specs.Instructions.{Parts, bare}
+use Rattle.inf_scanner.specs.declared.tokens.TokenKind.{TokenKind}
+use Rattle.inf_scanner.specs.declared.tokens.TokenKind.TheVariants as kind
+use Rattle.inf_opcode.specs.declared.instructions.Label.{Label}
 use Rattle.inf_assembler.specs.declared.routines.RoutineKind.TheVariants as routine_kind
 use Rattle.inf_assembler.specs.declared.routines.CloseFault.{CloseFault}
 use Rattle.inf_assembler.specs.declared.routines.CloseFault.TheVariants as close_fault
-use Rattle.inf_assembler.specs.declared.routines.Setting.{Setting as CodeSetting}
-use Rattle.inf_settings.specs.Settings.{number_of}
-use Rattle.inf_settings.specs.declared.setting.Setting.{Setting}
+use Rattle.inf_settings.specs.Settings.{number_of as setting_number}
 use Rattle.inf_settings.specs.declared.setting.Setting.TheVariants as setting
 use Rattle.inf_settings.specs.declared.settings.Settings.{Settings}
+use Rattle.inf_expressions.specs.declared.findings.Finding.{Finding}
+use Rattle.inf_expressions.specs.declared.operators.Operand.{Operand}
+use Rattle.inf_expressions.specs.declared.operators.Operand.TheVariants as operand
+use Rattle.inf_expressions.specs.declared.units.Wanted.{Wanted}
+use Rattle.inf_expressions.specs.declared.units.Wanted.TheVariants as wanted
+use Rattle.inf_expressions.specs.Findings.{least_of_both, no_constant}
+use Rattle.inf_expressions.specs.Trees.{Tree, Leaf}
+use Rattle.inf_expressions.specs.Units.{judged, trees_of}
+use Rattle.inf_gathering.specs.declared.gathering.Leaf.{Leaf as UnitLeaf}
+use Rattle.inf_gathering.specs.declared.gathering.Leaf.TheVariants as leaf
+use Rattle.inf_code.specs.declared.code.CodeLimits.{CodeLimits}
+use Rattle.inf_code.specs.Code.{fault_closed, no_routines, size}
 use Rattle.inf_names.specs.Symbols.{Table, declare_fault, found_in, refer_fault, with_used}
+use Rattle.inf_names.specs.declared.symbols.DeclareFault.{DeclareFault}
+use Rattle.inf_names.specs.declared.symbols.DeclareFault.TheVariants as declaring
 use Rattle.inf_names.specs.declared.symbols.Found.{Found}
 use Rattle.inf_names.specs.declared.symbols.Found.TheVariants as found
+use Rattle.inf_names.specs.declared.meanings.Meaning.{Meaning}
 use Rattle.inf_names.specs.declared.meanings.Meaning.TheVariants as meaning
-use Rattle.inf_report.specs.Messages.{BranchTooFar, UnusedLocal}
+use Rattle.inf_report.specs.Messages.{BranchTooFar, DeepNesting, Exceeded, UnusedLocal}
 use Rattle.inf_report.specs.OwnWords.{Words}
 use Rattle.inf_symbol.specs.Spellings.{Name}
-use Rattle.inf_symbol.specs.Locals.{Local, Headed, with_all_named, with_locals, no_locals}
-use Rattle.inf_code.specs.declared.code.CodeLimits.{CodeLimits}
-use Rattle.inf_code.specs.Code.{Routines, begun as code_begun, full_begun, no_routines, size, with_item, with_closed, with_none_open, with_opened, full_opened, full_with, fault_closed}
+use Rattle.inf_symbol.specs.Locals.{Local, Headed, with_locals, no_locals}
 use Rattle.inf_syntax.specs.declared.actions.Action.{Action}
 use Rattle.inf_syntax.specs.declared.actions.Action.TheVariants as action
-use Rattle.inf_unit.specs.Directives.{Asked, Nothing, Include, End, weight_of}
+use Rattle.inf_unit.specs.Directives.{Asked, Nothing, Include, End, directive_of, weight_of}
 use Rattle.inf_unit.specs.declared.directives.Directive.{Directive}
 use Rattle.inf_unit.specs.declared.directives.Directive.TheVariants as directive
-use Rattle.inf_unit.specs.Messages.{FileNames, Blame, Reported, location, nothing_reported, setting_of, with_error, with_fault, with_full, with_warning, with_words}
+use Rattle.inf_unit.specs.Messages.{FileNames, Blame, Reported, location, nothing_reported, with_error, with_fatal, with_fault, with_full, with_warning, with_words}
 use Rattle.inf_unit.specs.Names.{no_symbols}
-use Rattle.inf_unit.specs.Statements.{Unit}
-use Rattle.inf_work.specs.Units.{name_fault, name_full, with_name, header_fault, operand_fault, call_fault, with_operands, printing, calling, returning}
-use Rattle.inf_unit.specs.declared.unit.Head.{Head}
-use Rattle.inf_unit.specs.declared.unit.Head.TheVariants as head
-use Rattle.inf_unit.specs.declared.unit.Statement.{Statement}
-use Rattle.inf_unit.specs.declared.unit.Statement.TheVariants as statement
-
--- What the unit at hand gathered: its operands, its texts, and its last token: the name, if it is one, the characters, if it is a
--- text, and the number, if it is one; of a text of a directive the bytes between its quotes.
-pub record Gathered : Type 0 where
-  pub operands : List Name
-  pub texts : List (List TextItem)
-  pub named : Option Name
-  pub read : Option (List TextItem)
-  pub number : Option ℕ
-  pub quoted : List ℕ
-
-abbrev pub nothing_gathered : Gathered
-nothing_gathered = record { operands = []; texts = []; named = None; read = None; number = None; quoted = [] }
-
--- The finished routines and the open one, if any.
-pub record Output : Type 0 where
-  pub code : Routines
+use Rattle.inf_unit.specs.Tokens.{Spelled, is_mark}
+use Rattle.inf_unit.specs.Units.{Unit, acted as unit_acted, first_place, last_place, long_at, name_at, name_order, names_in, no_unit, over, quoted_in, taken as unit_taken}
+use Rattle.inf_output.specs.Output.{Code, Out, begun, closed, declared, full, marked, behind as label_behind, next_label, opened, referred}
+use Rattle.inf_work.specs.Findings.{blame_of, header_fault, name_fault}
+use Rattle.inf_work.specs.Words.{nowhere}
+use Rattle.inf_work.specs.Operands.{Settled, all_looked, bytes_of, leaves_named, settled}
+use Rattle.inf_work.specs.Statements.{statement_code, statement_in, tree_in, turned, unless}
 
 -- what code may hold, as the settings say: the labels, branches and jumps of a routine, bytes, and references
 abbrev pub limits_of : Settings → CodeLimits
 limits_of settings = record {
-  labels = number_of setting.Labels settings;
-  code = number_of setting.Code settings;
-  refs = number_of setting.References settings;
+  labels = setting_number setting.Labels settings;
+  code = setting_number setting.Code settings;
+  refs = setting_number setting.References settings;
 }
 
-abbrev pub no_output : Settings → Output
-no_output settings = record { code = no_routines (limits_of settings) }
+abbrev pub no_output : Settings → Out
+no_output settings = record { code = no_routines (limits_of settings); names = no_symbols settings; first = nowhere; next = 0; past = None; kept = None }
 
--- What was compiled so far: the character set of the sources, the parts of the unit at hand, the locals of the open routine, the
--- names of the source, the code, the messages, and what a directive asks of the reading; the names of routines that are to be
--- replaced, whether those of the file at hand may be, and those of the files that wait, the inner files first; and whether the
+-- What was compiled so far: the character set of the sources; how many tokens an expression may have; the unit at hand; the labels behind the open `if`s, the
+-- innermost first; the locals of the open routine; the code and the names of the source; the messages; what a directive asks of the reading; the names of
+-- routines that are to be replaced, whether those of the file at hand may be, and those of the files that wait, the inner files first; and whether the
 -- routine at hand is passed over for that.
 pub record Work : Type 0 where
   pub set : CharSet
-  pub gathered : Gathered
+  pub longest : ℕ
+  pub unit : Unit
+  pub constructs : List Label
   pub locals : List Local
-  pub names : Table Place
-  pub output : Output
+  pub output : Out
   pub report : Reported
   pub asked : Asked
   pub replaced : Table Place
@@ -87,9 +84,10 @@ pub record Work : Type 0 where
 abbrev pub no_work : CharSet → Settings → Work
 no_work set settings = record {
   set = set;
-  gathered = nothing_gathered;
+  longest = setting_number setting.ExpressionNodes settings;
+  unit = no_unit;
+  constructs = [];
   locals = [];
-  names = no_symbols settings;
   output = no_output settings;
   report = nothing_reported;
   asked = Nothing;
@@ -99,103 +97,161 @@ no_work set settings = record {
   is_passed_over = false;
 }
 
--- The parts of a unit
+-- Units
 
--- the last token is an operand
-abbrev pub with_operand : Option Name → Gathered → Gathered
-with_operand (Some n) g = record g { operands = g.operands ++ n ∷ []; named = None }
-with_operand None g = g
+-- a piece begins
+abbrev pub piece_begun : Work → Work
+piece_begun w = record w { unit = no_unit; constructs = [] }
 
--- it is a text
-abbrev pub with_text : Option (List TextItem) → Gathered → Gathered
-with_text (Some text) g = record g { texts = g.texts ++ text ∷ []; read = None }
-with_text None g = g
+-- The end of a unit, which begins at a place: its error is told, if it has one, and then the first limit that was passed.
+abbrev pub unit_ended : FileNames → Place → Bool → Option Blame → Work → Work
+unit_ended files first has_last blame w = record w {
+  unit = over has_last w.unit;
+  report = with_full files first (full w.output) (with_fault files first blame w.report);
+}
 
--- The code
+-- Something is laid for a unit that begins at a place.
+abbrev pub laid : Place → Code → Work → Work
+laid first code w = record w { output = code (record w.output { first = first }) }
 
--- What comes of a growth: the output, and the setting that is full, if it does not grow for that.
-pub record Grown : Type 0 where
-  pub output : Output
-  pub full : Option CodeSetting
-
--- it becomes the first where no setting is full, else the second
-abbrev pub grown : Option CodeSetting → Output → Output → Grown
-grown full new kept = record { output = if is_some full then kept else new; full = full }
-
--- one growth behind another, if that comes to something
-abbrev pub behind_by : Option CodeSetting → (Output → Grown) → Grown → Grown
-behind_by None next g = next g.output
-behind_by (Some setting) next g = g
-
-abbrev pub behind : (Output → Grown) → Grown → Grown
-behind next g = behind_by g.full next g
-
--- one instruction more in the open routine
-abbrev pub emitted : Parts → Output → Grown
-emitted item o = grown (full_with item o.code) (record o { code = record o.code { opened = with_item item o.code.opened } }) o
-
--- code begins, with the first routine of the story
-abbrev pub begun : Output → Grown
-begun o = record { output = record o { code = code_begun o.code }; full = full_begun o.code }
-
--- A routine is opened with so many locals. One whose header had an error is lost.
-abbrev pub opened : ℕ → Bool → Output → Grown
-opened locals is_lost o =
-    grown (full_opened is_lost o.code) (record o { code = with_opened locals is_lost o.code }) (record o { code = with_none_open o.code })
-
--- the setting that is full where a routine can't be closed, if it is for that
-abbrev pub full_of : Option CloseFault → Option CodeSetting
-full_of (Some (close_fault.Full setting)) = Some setting
-full_of _ = None
-
--- whether it can't be closed for its labels or offsets
-abbrev pub is_far : Option CloseFault → Bool
-is_far (Some (close_fault.LabelMissing label)) = true
-is_far (Some (close_fault.LabelTwice label)) = true
-is_far (Some close_fault.TooFar) = true
-is_far _ = false
-
--- the open routine, if there is one, is finished, unless something is wrong with it: then it is given up
-abbrev pub closed : Output → Output
-closed o = record o { code = if is_some (fault_closed routine_kind.Plain o.code) then with_none_open o.code else with_closed routine_kind.Plain o.code }
-
--- some texts are printed one after the other
-abbrev pub printed : List (List TextItem) → Output → Grown
-printed [] o = record { output = o; full = None }
-printed (text ∷ texts) o = behind (printed texts) (emitted (printing text) o)
-
--- what comes of a growth for a unit that begins at a place: a setting that it would pass is told
-abbrev pub checked : FileNames → Place → Grown → Work → Work
-checked files unit g w = record w { output = g.output; report = with_full files unit (option_map setting_of g.full) w.report }
-
--- Code begins with the first unit that is finished, which begins at a place.
+-- Code begins with the first unit that is finished.
 abbrev pub begun_at : FileNames → Place → Work → Work
-begun_at files unit w = checked files unit (begun w.output) w
+begun_at files first w =
+    let o = begun w.output in record w { output = o; report = with_full files first (full o) w.report }
+
+-- a message at a place ends the compilation, if there is a place
+abbrev pub stopped : FileNames → Option Place → Work → Work
+stopped files None w = w
+stopped files (Some place) w = record w { report = with_fatal (location files place) (Exceeded setting.ExpressionNodes) w.report }
+
+-- An expression of more tokens than it may have ends the compilation, at the first token too many.
+abbrev pub sized : FileNames → Work → Work
+sized files w = stopped files (long_at w.longest w.unit) w
+
+-- Brackets, braces and compound statements that stand in one another are at most so many.
+abbrev pub most_nested : ℕ
+most_nested = 64
+
+abbrev pub is_deep : Work → ℕ → Bool
+is_deep w more = nat_lt most_nested (w.unit.depth + length w.constructs + more)
+
+abbrev pub nested : FileNames → Place → Bool → Work → Work
+nested files place is_deep w = if is_deep then record w { report = with_fatal (location files place) DeepNesting w.report } else w
+
+abbrev pub opens : TokenKind → Bool
+opens (kind.Mark mark.OpenParenthesis) = true
+opens (kind.Mark mark.OpenBrace) = true
+opens _ = false
+
+-- a token is taken
+abbrev pub token_checked : FileNames → Spelled → Work → Work
+token_checked files t w = nested files t.place (opens t.kind && is_deep w 0) w
+
+abbrev pub took : FileNames → Spelled → Work → Work
+took files t w = token_checked files t (sized files (record w { unit = unit_taken t w.unit }))
+
+-- a bad token cuts the unit at hand, which surely was an expression
+abbrev pub cut : FileNames → Work → Work
+cut files w = sized files (record w { unit = record w.unit { is_sure = true } })
+
+-- Expressions of the unit at hand
+
+abbrev pub operands_of : Work → List Operand
+operands_of w = all_looked w.locals w.output.names w.unit.tokens w.unit.gathering.leaves
+
+-- the least of what is wrong with them
+abbrev pub finding_of : Wanted → Work → Option Finding
+finding_of wanted w = judged wanted 0 (operands_of w) w.unit.gathering.symbols
+
+abbrev pub named : Work → Work
+named w = record w { locals = leaves_named w.unit.tokens w.unit.gathering.leaves w.locals }
+
+-- their trees, when their names were used
+abbrev pub settled_of : Work → Settled
+settled_of w = settled w.locals w.unit.tokens w.unit.gathering.leaves (record { out = w.output; operands = [] })
+
+abbrev pub trees_in : Wanted → List Operand → Work → List Tree
+trees_in wanted operands w = map tree_in (trees_of wanted 0 operands w.unit.gathering.symbols)
+
+-- A unit of expressions ends, which begins at a place. With an error it has no effect but that its locals are named.
+abbrev pub refused_by : FileNames → Place → Bool → Option Finding → Work → Work
+refused_by files first has_last None w = w
+refused_by files first has_last (Some f) w = unit_ended files first has_last (Some (blame_of w.unit.tokens f)) w
+
+abbrev pub understood_by : FileNames → Place → Bool → (List Tree → Code) → Option Finding → Work → Work
+understood_by files first has_last code (Some f) w = refused_by files first has_last (Some f) w
+understood_by files first has_last code None w =
+    let s = settled_of w in unit_ended files first has_last None (laid first (code (trees_in wanted.Value s.operands w)) (record w { output = s.out }))
+
+abbrev pub understood : FileNames → Place → Bool → (List Tree → Code) → Work → Work
+understood files first has_last code w = understood_by files first has_last code (finding_of wanted.Value w) (named w)
+
+-- Statements
+
+abbrev pub finish : FileNames → Place → Work → Work
+finish files first w =
+    understood files first true
+    (λ trees. statement_code w.set w.unit.tokens w.unit.items trees (statement_in w.unit.tokens w.unit.items)) w
+
+-- in a routine that is passed over nothing has an effect
+abbrev pub passed : Bool → Work → Work
+passed has_last w = record w { unit = over has_last w.unit }
+
+-- where the next token stands at a place
+abbrev pub statement_end : FileNames → Place → Work → Work
+statement_end files place w = if w.is_passed_over then passed true w else finish files (first_place w.unit.tokens place) w
+
+-- An `if`
+
+-- the word before is told, where it stands too deep, and the label behind the first side is handed out
+abbrev pub if_opened_in : Work → Work
+if_opened_in w = record w {
+  constructs = next_label w.output ∷ w.constructs;
+  output = record w.output { next = label_behind w.output.next };
+}
+
+abbrev pub if_opened : FileNames → Place → Work → Work
+if_opened files place w = if_opened_in (nested files (last_place w.unit.tokens place) (is_deep w 1) w)
+
+abbrev pub innermost : List Label → Label
+innermost [] = record { number = 0 }
+innermost (label ∷ constructs) = label
+
+abbrev pub condition : FileNames → Place → Work → Work
+condition files first w = understood files first false (λ trees. unless trees (innermost w.constructs)) w
+
+abbrev pub if_end : FileNames → Place → Work → Work
+if_end files place w = if w.is_passed_over then passed false w else condition files (first_place w.unit.tokens place) w
+
+-- its other side: what stands before it goes behind that
+abbrev pub other_side : List Label → Work → Work
+other_side [] w = w
+other_side (first ∷ constructs) w =
+    let second = next_label w.output in
+    record w { constructs = second ∷ constructs; output = turned first second (record w.output { next = label_behind w.output.next }) }
+
+abbrev pub closed_with : List Label → Work → Work
+closed_with [] w = w
+closed_with (label ∷ constructs) w = record w { constructs = constructs; output = marked label w.output }
 
 -- A routine
 
--- the first setting that is full, of two
-abbrev pub first_full : Option Setting → Option Setting → Option Setting
-first_full (Some s) later = Some s
-first_full None later = later
-
--- A routine of so many locals is opened by a header that begins at a place, and had an error or not; this setting is full, if any.
-abbrev pub opened_by : FileNames → Place → ℕ → Bool → Option Setting → Work → Work
-opened_by files unit locals is_lost full w =
-    let g = opened locals is_lost w.output in
-    record w { output = g.output; report = with_full files unit (first_full full (option_map setting_of g.full)) w.report }
-
 -- A header, which begins at a place, opens a routine with its locals. With an error it still declares its name, where that
 -- is free, and its locals. Z-Machine Standard 1.1, section 5.2.
+abbrev pub opened_with : FileNames → Place → Headed → Bool → Work → Work
+opened_with files first h is_lost w =
+    unit_ended files first true None (record w { output = opened (length h.locals) is_lost w.output; locals = h.locals; constructs = [] })
+
+abbrev pub routine_declared : Name → Work → Work
+routine_declared name w = record w { output = declared name.bytes name.place (meaning.Routine (size w.output.code.finished)) w.output }
+
+abbrev pub told : FileNames → Place → Option Blame → Work → Work
+told files first blame w = record w { report = with_fault files first blame w.report }
+
 abbrev pub header_with : FileNames → Place → Name → Headed → Work → Work
-header_with files unit name h w =
-    let refused = declare_fault name.bytes w.names in
-    let fault = header_fault files unit (name_fault files name refused) h in
-    opened_by files unit (length h.locals) (is_some fault) (name_full refused) (record w {
-      names = with_name name (meaning.Routine (size w.output.code.finished)) refused w.names;
-      locals = h.locals;
-      report = with_fault files unit fault w.report;
-    })
+header_with files first name h w =
+    let blame = header_fault files first (name_fault files name (declare_fault name.bytes w.output.names)) h in
+    opened_with files first h (is_some blame) (told files first blame (routine_declared name w))
 
 -- a name that is kept among those of routines that are to be replaced
 abbrev pub is_kept : Found Place → Bool
@@ -207,12 +263,14 @@ abbrev pub is_replaced : Name → Work → Bool
 is_replaced n w = w.is_system && is_kept (found_in n.bytes w.replaced)
 
 -- behind its bracket a header has the name of its routine and the locals
-abbrev pub header : FileNames → Option Head → List Name → Work → Work
-header files (Some (head.Header unit)) (name ∷ locals) w =
-    let is_passed_over = is_replaced name w in
-    if is_passed_over then record w { is_passed_over = true }
-    else header_with files unit name (with_locals locals no_locals) (record w { is_passed_over = false })
-header files _ names w = w
+abbrev pub header_of : FileNames → Place → List Name → Work → Work
+header_of files first [] w = passed true w
+header_of files first (name ∷ locals) w =
+    if is_replaced name w then passed true (record w { is_passed_over = true; constructs = [] })
+    else header_with files first name (with_locals locals no_locals) (record w { is_passed_over = false })
+
+abbrev pub header_end : FileNames → Place → Work → Work
+header_end files place w = header_of files (first_place w.unit.tokens place) (names_in w.unit.tokens) w
 
 -- a warning, at a place, for each local that no statement named
 abbrev pub with_unused : FileNames → Place → Local → Reported → Reported
@@ -222,122 +280,128 @@ abbrev pub with_all_unused : FileNames → Place → List Local → Reported →
 with_all_unused files place [] r = r
 with_all_unused files place (l ∷ locals) r = with_all_unused files place locals (with_unused files place l r)
 
+-- whether a routine can't be closed for its labels or offsets
+abbrev pub is_far : Option CloseFault → Bool
+is_far (Some (close_fault.LabelMissing label)) = true
+is_far (Some (close_fault.LabelTwice label)) = true
+is_far (Some close_fault.TooFar) = true
+is_far _ = false
+
 -- that a branch goes too far, where it does
 abbrev pub with_far : FileNames → Place → Option CloseFault → Reported → Reported
 with_far files place fault r = if is_far fault then with_error (location files place) (location files place) BranchTooFar r else r
 
 -- The end of a routine, at a place: what is wrong with it is told, and its unused locals. Of one that is passed over nothing is.
-abbrev pub close_by : FileNames → Place → Option CloseFault → Work → Work
-close_by files place fault w = record w {
-  output = closed w.output;
-  report = with_full files place (option_map setting_of (full_of fault)) (with_all_unused files place w.locals (with_far files place fault w.report));
-}
-
 abbrev pub close_open : FileNames → Place → Work → Work
-close_open files place w = close_by files place (fault_closed routine_kind.Plain w.output.code) w
+close_open files place w =
+    let fault = fault_closed routine_kind.Plain w.output.code in
+    unit_ended files place true None (record w {
+      output = closed routine_kind.Plain w.output;
+      report = with_all_unused files place w.locals (with_far files place fault w.report);
+    })
 
 abbrev pub close : FileNames → Place → Work → Work
-close files place w = if w.is_passed_over then w else close_open files place w
-
--- Statements, which begin at a place
-
-abbrev pub with_instruction : FileNames → Place → Parts → Work → Work
-with_instruction files unit item w = checked files unit (emitted item w.output) w
-
--- the operands make an instruction, unless the names would pass a setting
-abbrev pub with_operands_by : FileNames → Place → Parts → Option Setting → Work → Work
-with_operands_by files unit item (Some s) w = record w { report = with_full files unit (Some s) w.report }
-with_operands_by files unit item None w = with_instruction files unit item w
-
--- A unit names some names: a local is named then, also where the unit has an error. Without one the names are used, and the
--- operands make an instruction.
-abbrev pub instructed : FileNames → Place → (List Operand → Parts) → List Name → Option Blame → Work → Work
-instructed files unit instruction names (Some b) w = record w {
-  locals = with_all_named names w.locals;
-  report = with_error (location files b.place) (location files unit) b.message w.report;
-}
-instructed files unit instruction names None w =
-    let o = with_operands w.locals names (record { names = w.names; operands = []; full = None }) in
-    with_operands_by files unit (instruction o.operands) o.full
-    (record w { locals = with_all_named names w.locals; names = o.names })
-
--- the operands of a call are what is called and its arguments
-abbrev pub call : FileNames → Place → List Name → Work → Work
-call files unit [] w = w
-call files unit (called ∷ arguments) w = instructed files unit calling (called ∷ arguments) (call_fault unit w.locals called arguments) w
-
-abbrev pub return_of : FileNames → Place → List Name → Work → Work
-return_of files unit [] w = with_instruction files unit (bare opcode.Rtrue) w
-return_of files unit (name ∷ more) w = instructed files unit returning (name ∷ []) (operand_fault w.locals name) w
-
-abbrev pub finish : Statement → FileNames → Place → Work → Work
-finish statement.Print files unit w = checked files unit (printed w.gathered.texts w.output) w
-finish statement.Return files unit w = return_of files unit w.gathered.operands w
-finish statement.NewLine files unit w = with_instruction files unit (bare opcode.NewLine) w
-finish statement.Quit files unit w = with_instruction files unit (bare opcode.Quit) w
-finish statement.ReturnTrue files unit w = with_instruction files unit (bare opcode.Rtrue) w
-finish statement.ReturnFalse files unit w = with_instruction files unit (bare opcode.Rfalse) w
-finish statement.Call files unit w = call files unit w.gathered.operands w
-
--- a statement that began so ends, of a routine that is not passed over
-abbrev pub statement_end : FileNames → Option Head → Work → Work
-statement_end files (Some (head.Statement s unit)) w = if w.is_passed_over then w else finish s files unit w
-statement_end files _ w = w
+close files place w = if w.is_passed_over then passed true w else close_open files place w
 
 -- Directives, which begin at a place
 
 -- the text of the unit, in the character set of the sources
-abbrev pub words_of : CharSet → Gathered → Words
-words_of set g = record { bytes = g.quoted; set = set }
+abbrev pub words_of : CharSet → Unit → Words
+words_of set u = record { bytes = quoted_in u.tokens; set = set }
 
--- a constant gets the known number that is the last token of its unit, or 0 where that is none
+-- What a constant stands for, by its expression: a known number, or what a name stands for that was declared before.
+abbrev pub declared_meaning : Found Place → Option Meaning
+declared_meaning (found.Declared m place) = Some m
+declared_meaning (found.System m) = None
+declared_meaning found.Used = None
+declared_meaning found.Unknown = None
+
+abbrev pub named_leaf : List Spelled → List UnitLeaf → List ℕ
+named_leaf tokens ((leaf.Name at) ∷ leaves) = bytes_of (name_at tokens at)
+named_leaf tokens _ = []
+
+abbrev pub constant_of : List Tree → Work → Option Meaning
+constant_of [] w = Some (meaning.Number 0)
+constant_of ((Leaf (operand.Known number)) ∷ trees) w = Some (meaning.Number number)
+constant_of ((Leaf (operand.Later target)) ∷ trees) w = declared_meaning (found_in (named_leaf w.unit.tokens w.unit.gathering.leaves) w.output.names)
+constant_of (_ ∷ trees) w = None
+
+-- what is wrong with its expression, and what it stands for
+abbrev pub constant_finding : Option Meaning → Option Finding → Option Finding
+constant_finding None None = Some (no_constant 0)
+constant_finding _ found = found
+
+abbrev pub constant_meaning : Option Meaning → Option Finding → Meaning
+constant_meaning (Some m) None = m
+constant_meaning _ found = meaning.Number 0
+
+-- the name's own error, of which the number is that of a name that stands already, at the order of its token
+abbrev pub name_finding : ℕ → Option Blame → Option Finding
+name_finding order None = None
+name_finding order (Some blame) = Some (record { order = order; number = 8 })
+
+abbrev pub constant_blame : List Spelled → Option Blame → Option Finding → Option Blame
+constant_blame tokens of_name None = None
+constant_blame tokens of_name (Some f) = if f.number == 8 then of_name else Some (blame_of tokens f)
+
+abbrev pub constant_with : FileNames → Place → Name → Option Meaning → Option Finding → Work → Work
+constant_with files first name m found w =
+    let of_name = name_fault files name (declare_fault name.bytes w.output.names) in
+    let finding = constant_finding m found in
+    let least = least_of_both (name_finding (name_order w.unit.tokens) of_name) finding in
+    unit_ended files first true (constant_blame w.unit.tokens of_name least)
+    (record w { output = declared name.bytes name.place (constant_meaning m (least_of_both finding (name_finding 0 of_name))) w.output })
+
 abbrev pub constant : FileNames → Place → List Name → Work → Work
-constant files unit [] w = w
-constant files unit (name ∷ names) w =
-    let refused = declare_fault name.bytes w.names in
-    record w {
-      names = with_name name (meaning.Number (unwrap_or w.gathered.number 0)) refused w.names;
-      report = with_full files unit (name_full refused) (with_fault files unit (name_fault files name refused) w.report);
-    }
-
--- the names behind one more use, unless that would be one too many
-abbrev pub referred : Name → Table Place → Table Place
-referred n names = if is_some (refer_fault n.bytes names) then names else with_used n.bytes n.place names
+constant files first [] w = passed true w
+constant files first (name ∷ names) w =
+    constant_with files first name (constant_of (trees_in wanted.Constant (operands_of w) w) w) (finding_of wanted.Constant w) w
 
 -- The routine of a name is to be replaced where it stands in a file that is marked. That is a use of the name.
+abbrev pub used_name : Name → Table Place → Table Place
+used_name n names = if is_some (refer_fault n.bytes names) then names else with_used n.bytes n.place names
+
 abbrev pub replace : FileNames → Place → List Name → Work → Work
-replace files unit [] w = w
-replace files unit (name ∷ names) w =
-    if is_some (refer_fault name.bytes w.names) then record w { report = with_full files unit (Some setting.Symbols) w.report }
-    else record w { names = referred name w.names; replaced = referred name w.replaced }
+replace files first [] w = passed true w
+replace files first (name ∷ names) w =
+    unit_ended files first true None (record w { output = referred name.bytes name.place w.output; replaced = used_name name w.replaced })
 
 abbrev pub carried_out : Directive → FileNames → Place → List Name → Work → Work
-carried_out directive.Include files unit names w = record w { gathered = record w.gathered { quoted = [] }; asked = Include w.gathered.quoted unit }
-carried_out directive.Message files unit names w = record w { report = with_words (location files unit) (weight_of names) (words_of w.set w.gathered) w.report }
-carried_out directive.End files unit names w = record w { asked = End }
-carried_out directive.Constant files unit names w = constant files unit names w
-carried_out directive.Replace files unit names w = replace files unit names w
-carried_out directive.SystemFile files unit names w = record w { is_system = true }
+carried_out directive.Include files first names w = passed true (record w { asked = Include (quoted_in w.unit.tokens) first })
+carried_out directive.Message files first names w =
+    passed true (record w { report = with_words (location files first) (weight_of names) (words_of w.set w.unit) w.report })
+carried_out directive.End files first names w = passed true (record w { asked = End })
+carried_out directive.Constant files first names w = constant files first names w
+carried_out directive.Replace files first names w = replace files first names w
+carried_out directive.SystemFile files first names w = passed true (record w { is_system = true })
 
--- a directive ends that began so, with these names
-abbrev pub directive_end : FileNames → Option Head → List Name → Work → Work
-directive_end files (Some (head.Directive d unit)) names w = begun_at files unit (carried_out d files unit names w)
-directive_end files _ names w = w
+-- a directive ends, which begins with the name of its word; code begins with it, unless it has begun
+abbrev pub directive_of_names : FileNames → Place → List Name → Work → Work
+directive_of_names files first [] w = passed true w
+directive_of_names files first (word ∷ names) w = begun_at files first (carried_out (directive_of word.bytes) files first names w)
 
--- What an action does, where this is the unit at hand and the next token stands at a place.
-abbrev pub act : FileNames → Unit → Place → Action → Work → Work
-act files unit place action.Begin w = record w { gathered = nothing_gathered }
-act files unit place action.Name w = record w { gathered = with_operand w.gathered.named w.gathered }
-act files unit place action.PrintText w = record w { gathered = with_text w.gathered.read w.gathered }
-act files unit place action.EndLocals w = header files unit.head unit.names w
-act files unit place action.EndDirective w = directive_end files unit.head unit.names w
-act files unit place action.EndStatement w = statement_end files unit.head w
-act files unit place action.EndRoutine w = close files place w
-act files unit place _ w = w
+abbrev pub directive_end : FileNames → Place → Work → Work
+directive_end files place w = directive_of_names files (first_place w.unit.tokens place) (names_in w.unit.tokens) w
 
-abbrev pub acted : FileNames → Unit → Place → List Action → Work → Work
-acted files unit place [] w = w
-acted files unit place (a ∷ actions) w = acted files unit place actions (act files unit place a w)
+-- Actions
+
+-- what an action does before a token at a place
+abbrev pub act : FileNames → Place → Action → Work → Work
+act files place action.EndLocals w = header_end files place w
+act files place action.EndDirective w = directive_end files place w
+act files place action.EndStatement w = statement_end files place w
+act files place action.EndRoutine w = close files place w
+act files place action.Deeper w = nested files place (is_deep w 1) w
+act files place action.OpenIf w = if_opened files place w
+act files place action.EndIf w = if_end files place w
+act files place action.Else w = other_side w.constructs w
+act files place action.Close w = closed_with w.constructs w
+act files place action.OuterSure w = sized files (record w { unit = unit_acted action.OuterSure w.unit })
+act files place a w = record w { unit = unit_acted a w.unit }
+
+abbrev pub acted : FileNames → Place → List Action → Work → Work
+acted files place [] w = w
+acted files place (a ∷ actions) w = acted files place actions (act files place a w)
 
 -- Files
 

@@ -1,15 +1,15 @@
 -- What a source may have of names and of code stays as the settings say.
-use Rattle.std.specs.Prelude.{◌≡◌, List}
+use Rattle.std.specs.Prelude.{List}
 use Rattle.inf_scanner.specs.declared.tokens.Place.{Place}
 use Rattle.inf_syntax.specs.declared.actions.Action.{Action}
 use Rattle.inf_unit.specs.Messages.{FileNames}
-use Rattle.inf_unit.specs.Statements.{Unit}
+use Rattle.inf_output.specs.Limits.{SameLimits as SameOutLimits}
 use Rattle.inf_work.specs.Actions.{Work, acted}
 
 -- as much as before
 abbrev pub SameLimits : Work → Work → Type 0
-SameLimits before after = (after.names.limit ≡ before.names.limit) × (after.output.code.limits ≡ before.output.code.limits)
+SameLimits before after = SameOutLimits before.output after.output
 
 -- No action changes it.
 abbrev pub LimitsStay : Type 0
-LimitsStay = (files : FileNames) (unit : Unit) (place : Place) (actions : List Action) (w : Work) → SameLimits w (acted files unit place actions w)
+LimitsStay = (files : FileNames) (place : Place) (actions : List Action) (w : Work) → SameLimits w (acted files place actions w)

@@ -1,8 +1,8 @@
-//! What the units of a source do: the actions of the grammar gather the parts of a unit, which at its end makes code and messages.
+//! What the units of a source do: the actions of the grammar gather what a unit has, and at its end it makes code and messages.
 #![tactic(auto)]
 
-mod instructions;
+mod findings;
 pub mod laws;
 mod operands;
-pub mod output;
+mod statements;
 pub mod work;

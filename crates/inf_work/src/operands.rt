@@ -1,142 +1,206 @@
-ghost use Rattle.std.specs.Prelude.{◌≡◌, ◌≤◌, List, ◌∷◌, ◌++◌, [], IfOk, IsTrue, MatchResult, None, Some, length, map, option_map};
-ghost use Rattle.inf_opcode.specs.declared.instructions.Operand.{Operand as AsmOperand};
-ghost use Rattle.inf_opcode.specs.Instructions.{has_no_offset};
+//! What the leaves of a unit stand for.
+ghost use Rattle.std.specs.Prelude.{◌≡◌, ◌≤◌, [], ◌∷◌, ◌++◌, List, IfOk, IfSome, length, option_map};
 ghost use Rattle.inf_symbol.specs.LocalList.{listed};
-ghost use Rattle.inf_symbol.specs.Spellings.{as_name};
-ghost use Rattle.inf_unit.specs.Blames.{blamed};
-ghost use Rattle.inf_work.specs.Units.{Operands, call_fault, is_system_name, known_number, operand_fault, operands_fault, with_operand, with_operands};
+ghost use Rattle.inf_unit.specs.NameTokens.{named};
+ghost use Rattle.inf_work.specs.Operands.{Settled, all_looked, bytes_of, found_operand, function_of, leaves_named, looked, looked_name, operand_by, referring, settled, settled_as, settled_leaf, settled_name, standing};
 
-use arrayvec::ArrayVec;
 use inf_area::Target;
-use inf_lexer::Place;
-use inf_names::meanings::Meaning;
-use inf_names::symbols::{Found, ReferFault, Symbols};
-use inf_names::system_names::system_meaning;
-use inf_opcode::{MOST_OPERANDS, Operand};
-use inf_report::messages::{Message, Told};
-use inf_settings::setting::Setting;
+use inf_expressions::{Function, Operand};
+use inf_gathering::gathering::Leaf;
+use inf_names::meanings::{Function as NamedFunction, Meaning};
+use inf_names::symbols::{Found, Symbols};
+use inf_output::Output;
+use inf_scanner::Place;
 use inf_symbol::locals::Locals;
-use inf_symbol::spellings::Name;
-use inf_unit::messages::Blame;
-use std::alloc::AllocError;
+use inf_unit::unit_tokens::{NameToken, UnitTokens};
+use std::alloc::{AllocError, Global};
 
-/// The most arguments of a call.
-const MOST_ARGUMENTS: usize = 7;
-
-/// Whether the language has a name from the start.
-fn is_system_name(name: &[u8]) -> bool
-    ensures { result ≡ is_system_name name.now }
+fn function_of(function: NamedFunction) -> Function
+    ensures { result ≡ function_of function }
 {
-    system_meaning(name, false).is_some()
-}
-
-/// What is wrong with a name as an operand: it is a system name, and no local hides it.
-pub fn operand_fault<'t>(locals: &Locals, name: &'t Name) -> Option<Blame<'t>>
-    ensures { option_map blamed result ≡ operand_fault (listed locals.now) (as_name name.now) }
-{
-    if locals.number(name.bytes()).is_none() && is_system_name(name.bytes()) {
-        Some(Blame {
-            place: name.place,
-            message: Message::WrongKind(Told::Bytes(name.bytes())),
-        })
-    } else {
-        None
+    match function {
+        NamedFunction::Child => Function::Child,
+        NamedFunction::Parent => Function::Parent,
+        NamedFunction::Sibling => Function::Sibling,
+        NamedFunction::Children => Function::Children,
+        NamedFunction::Random => Function::Random,
+        NamedFunction::Indirect => Function::Indirect,
     }
 }
 
-/// The first of some names that is wrong as an operand.
-fn operands_fault<'t>(locals: &Locals, names: &'t [Name]) -> Option<Blame<'t>>
-    ensures { option_map blamed result ≡ operands_fault (listed locals.now) (map as_name names.now) }
+/// What a name stands for whose value is known, or that is a variable or a function.
+fn standing(meaning: Meaning) -> Option<Operand>
+    ensures { result ≡ standing meaning }
 {
-    for name in names {
-        if let Some(blame) = operand_fault(locals, name) {
-            return Some(blame);
+    match meaning {
+        Meaning::Variable(number) => Some(Operand::Variable(number)),
+        Meaning::Attribute(number) | Meaning::Property { number, .. } => {
+            Some(Operand::Known(number as u16))
         }
+        Meaning::Number(number)
+        | Meaning::IndividualProperty(number)
+        | Meaning::Object(number)
+        | Meaning::Class(number)
+        | Meaning::FakeAction(number) => Some(Operand::Known(number)),
+        Meaning::Function(function) => Some(Operand::Function(function_of(function))),
+        Meaning::Text(_)
+        | Meaning::Word(_)
+        | Meaning::LowString(_)
+        | Meaning::Array(_)
+        | Meaning::Routine(_) => None,
     }
-    None
 }
 
-/// The first error of a call, in a unit that begins at a place, by its place: what is called, too
-/// many arguments, which stands there too, and an argument.
-pub fn call_fault<'t>(
-    unit: Place,
-    locals: &Locals,
-    called: &'t Name,
-    arguments: &'t [Name],
-) -> Option<Blame<'t>>
-    ensures { option_map blamed result
-        ≡ call_fault unit (listed locals.now) (as_name called.now) (map as_name arguments.now) }
+/// A reference by a name's number among the names.
+fn referring(number: Option<usize>) -> Operand
+    ensures { result ≡ referring number }
 {
-    if let Some(blame) = operand_fault(locals, called) {
-        return Some(blame);
-    }
-    if arguments.len() > MOST_ARGUMENTS {
-        return Some(Blame {
-            place: unit,
-            message: Message::TooManyArguments,
-        });
-    }
-    operands_fault(locals, arguments)
+    Operand::Later(Target::Name(number.unwrap_or(0)))
 }
 
-/// Puts the operands that at most eight names are behind none: a local is a variable, a constant its number, and every other
-/// name is used and is a reference to what it stands for. None is an offset to a label. It ends before a name that is one too many, and answers the
-/// setting that this would pass.
-pub fn add_operands(
-    locals: &Locals,
-    known: &mut Symbols<Place>,
-    names: &[Name],
-    operands: &mut ArrayVec<Operand, MOST_OPERANDS>,
-) -> Result<Option<Setting>, AllocError>
-    requires few { length names.now ≤ 8 }
-    requires none { operands.old.items ≡ [] }
-    ensures value { let before : Operands = record { names = known.old; operands = []; full = None } in
-        IfOk result (λ full. record { names = known.new; operands = operands.new.items; full = full }
-        ≡ with_operands (listed locals.now) (map as_name names.now) before) }
-    ensures count { IfOk result (λ full. full ≡ None → length operands.new.items ≡ length names.now) }
-    ensures plain { IfOk result (λ _. IsTrue (has_no_offset operands.new.items)) }
+fn operand_by(known: Option<Operand>, number: Option<usize>) -> Operand
+    ensures { result ≡ operand_by known number }
 {
-    for name in names {
-        match operand_of(locals, known, name) {
-            Ok(operand) => operands.push(operand),
-            Err(ReferFault::Full) => return Ok(Some(Setting::Symbols)),
-            Err(ReferFault::Memory) => return Err(AllocError),
+    match known {
+        Some(operand) => operand,
+        None => referring(number),
+    }
+}
+
+/// What a name stands for, by what looking for it finds, and its number among the names.
+fn found_operand(found: Found<Place>, number: Option<usize>) -> Operand
+    ensures { result ≡ found_operand found number }
+{
+    match found {
+        Found::System(meaning) | Found::Declared(meaning, _) => {
+            operand_by(standing(meaning), number)
         }
+        Found::Used | Found::Unknown => referring(number),
     }
-    Ok(None)
 }
 
-/// A known number as an operand, in one byte where it fits.
-fn known_number(number: u16) -> Operand
-    ensures value { result ≡ known_number number }
-    ensures plain { IsTrue (has_no_offset (result ∷ [])) }
+/// What a name stands for, which is only looked up. A local hides it.
+fn looked_name(locals: &Locals, names: &Symbols<Place>, name: &[u8]) -> Operand
+    requires { length name.now ≤ 35 }
+    ensures { result ≡ looked_name (listed locals.now) names.now name.now }
 {
-    if number <= u8::MAX as u16 {
-        Operand::Small(number as u8)
-    } else {
-        Operand::Large(number)
+    match locals.number(name) {
+        Some(local) => Operand::Variable(local),
+        None => found_operand(names.look(name), None),
     }
 }
 
-/// The operand that a name is, unless it is one too many.
-fn operand_of(
+/// The bytes of a name, if there is one.
+pub(crate) fn name_bytes<'t>(name: Option<NameToken<'t>>) -> &'t [u8]
+    requires { IfSome name (λ n. length n.bytes.now ≤ 32) }
+    ensures value { result.now ≡ bytes_of (option_map named name.entry) }
+    ensures few { length result.now ≤ 32 }
+{
+    match name {
+        Some(name) => name.bytes,
+        None => b"",
+    }
+}
+
+/// What a leaf of a unit with these tokens stands for, where its name is only looked up.
+fn looked(locals: &Locals, names: &Symbols<Place>, tokens: &UnitTokens, leaf: Leaf) -> Operand
+    ensures { result ≡ looked (listed locals.now) names.now tokens.now leaf }
+{
+    match leaf {
+        Leaf::Name(at) => looked_name(locals, names, name_bytes(tokens.name_at(at))),
+        Leaf::Number(number) => Operand::Known(number),
+        Leaf::Char(zscii) => Operand::Known(u16::from(zscii.code())),
+        Leaf::Word(_) | Leaf::Text(_) | Leaf::Action(_) | Leaf::System(_) => Operand::Unknown,
+    }
+}
+
+/// What the leaves of a unit with these tokens stand for, where their names are only looked up.
+pub(crate) fn all_looked(
+    alloc: Global,
     locals: &Locals,
-    known: &mut Symbols<Place>,
-    name: &Name,
-) -> Result<Operand, ReferFault>
-    ensures value { (before : List AsmOperand) →
-        let o : Operands = record { names = known.old; operands = before; full = None } in MatchResult result
-        (λ operand. with_operand (listed locals.now) (as_name name.now) o
-        ≡ record { names = known.new; operands = before ++ operand ∷ []; full = None })
-        (λ fault. fault ≡ ReferFault.Full → with_operand (listed locals.now) (as_name name.now) o
-        ≡ record { names = known.new; operands = before; full = Some Setting.Symbols }) }
-    ensures plain { IfOk result (λ operand. IsTrue (has_no_offset (operand ∷ []))) }
+    names: &Symbols<Place>,
+    tokens: &UnitTokens,
+    leaves: &[Leaf],
+) -> Result<Vec<Operand>, AllocError>
+    ensures { IfOk result (λ operands. operands.items ≡ all_looked (listed locals.now) names.now tokens.now leaves.now) }
 {
-    if let Some(number) = locals.number(name.bytes()) {
-        return Ok(Operand::Variable(number));
+    let mut operands = Vec::with_capacity(alloc, leaves.len())?;
+    for leaf in leaves {
+        operands.push(looked(locals, names, tokens, *leaf))?;
     }
-    match known.find_and_refer(name.bytes(), name.place)? {
-        (Found::Declared(Meaning::Number(number), _), _) => Ok(known_number(number)),
-        (_, number) => Ok(Operand::Later(Target::Name(number.unwrap_or(0)))),
+    Ok(operands)
+}
+
+/// What a name that was used stands for; nothing, where it is one too many.
+fn settled_as(found: Option<(Found<Place>, Option<usize>)>) -> Operand
+    ensures { result ≡ settled_as found }
+{
+    match found {
+        Some((found, number)) => found_operand(found, number),
+        None => Operand::Known(0),
+    }
+}
+
+/// What a name stands for, which is used, where it is no local.
+fn settled_name(
+    locals: &Locals,
+    name: Option<NameToken<'_>>,
+    out: &mut Output,
+) -> Result<Operand, AllocError>
+    requires { IfSome name (λ n. length n.bytes.now ≤ 32) }
+    ensures { IfOk result (λ operand. (out.new, operand) ≡ settled_name (listed locals.now) (option_map named name.entry) out.old) }
+{
+    let Some(name) = name else {
+        return Ok(Operand::Known(0));
+    };
+    match locals.number(name.bytes) {
+        Some(local) => Ok(Operand::Variable(local)),
+        None => Ok(settled_as(out.refer(name.bytes, name.place)?)),
+    }
+}
+
+/// What a leaf of a unit with these tokens stands for, whose name is used.
+fn settled_leaf(
+    locals: &Locals,
+    tokens: &UnitTokens,
+    leaf: Leaf,
+    out: &mut Output,
+) -> Result<Operand, AllocError>
+    ensures { IfOk result (λ operand. (out.new, operand) ≡ settled_leaf (listed locals.now) tokens.now leaf out.old) }
+{
+    match leaf {
+        Leaf::Name(at) => settled_name(locals, tokens.name_at(at), out),
+        Leaf::Number(number) => Ok(Operand::Known(number)),
+        Leaf::Char(zscii) => Ok(Operand::Known(u16::from(zscii.code()))),
+        Leaf::Word(_) | Leaf::Text(_) | Leaf::Action(_) | Leaf::System(_) => Ok(Operand::Unknown),
+    }
+}
+
+/// What the leaves of a unit with these tokens stand for, from left to right, whose names are used.
+pub(crate) fn settled(
+    alloc: Global,
+    locals: &Locals,
+    tokens: &UnitTokens,
+    leaves: &[Leaf],
+    out: &mut Output,
+) -> Result<Vec<Operand>, AllocError>
+    ensures { let before : Settled = record { out = out.old; operands = [] } in
+        IfOk result (λ operands. record { out = out.new; operands = operands.items } ≡ settled (listed locals.now) tokens.now leaves.now before) }
+{
+    let mut operands = Vec::with_capacity(alloc, leaves.len())?;
+    for leaf in leaves {
+        operands.push(settled_leaf(locals, tokens, *leaf, out)?)?;
+    }
+    Ok(operands)
+}
+
+/// A unit with these tokens and leaves names its locals.
+pub(crate) fn name_locals(locals: &mut Locals, tokens: &UnitTokens, leaves: &[Leaf])
+    ensures { listed locals.new ≡ leaves_named tokens.now leaves.now (listed locals.old) }
+{
+    for leaf in leaves {
+        if let Leaf::Name(at) = leaf {
+            locals.name(name_bytes(tokens.name_at(*at)));
+        }
     }
 }

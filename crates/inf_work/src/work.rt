@@ -1,111 +1,53 @@
-//! What the actions of the grammar do: they gather the parts of a unit, which acts at its end.
-ghost use Rattle.std.specs.Prelude.{◌≡◌, ◌≤◌, [], IfOk, IsTrue, OnOk, None, is_some, length, map, option_map};
+//! What the actions of the grammar do: they gather what a unit has, which acts at its end.
+ghost use Rattle.std.specs.Prelude.{◌≡◌, ◌≤◌, IfOk, None, OnOk, is_some, length, map, option_map, reverse};
 ghost use Rattle.inf_symbol.specs.Spellings.{as_name};
-ghost use Rattle.inf_symbol.specs.LocalList.{headed as as_headed, listed, repeated as repeated_of};
-ghost use Rattle.inf_symbol.specs.Locals.{no_locals, with_all_named, with_locals};
-ghost use Rattle.inf_opcode.specs.Instructions.{IsProper, bare, has_no_offset};
-ghost use Rattle.inf_opcode.specs.PartsOf.{parts_of};
-ghost use Rattle.inf_names.specs.Symbols.{declare_fault, refer_fault};
-ghost use Rattle.inf_work.specs.Actions.{first_full, full_of, is_far, referred, with_all_unused};
+ghost use Rattle.inf_symbol.specs.LocalList.{headed as as_headed, listed};
+ghost use Rattle.inf_symbol.specs.Locals.{no_locals, with_locals};
+ghost use Rattle.inf_expressions.specs.Forests.{trees_in as rooted_in};
+ghost use Rattle.inf_expressions.specs.Units.{trees_of};
+ghost use Rattle.inf_names.specs.Symbols.{declare_fault, found_in};
 ghost use Rattle.inf_unit.specs.Blames.{blamed};
-ghost use Rattle.inf_unit.specs.Messages.{location, setting_of, with_full, with_words};
-ghost use Rattle.inf_work.specs.Units.{Operands, again, header_fault, local_fault, name_fault, name_full, returning, with_name, with_operands};
+ghost use Rattle.inf_unit.specs.Messages.{location, with_words};
+ghost use Rattle.inf_unit.specs.Tokens.{spelled};
+ghost use Rattle.inf_unit.specs.Units.{quoted_in};
+ghost use Rattle.inf_work.specs.Actions.{constant_blame, constant_finding, constant_meaning, declared_meaning, innermost, is_far, name_finding, named_leaf, no_output, refused_by, used_name, with_all_unused, with_far};
+ghost use Rattle.inf_work.specs.Findings.{header_fault, name_fault};
+ghost use Rattle.inf_work.specs.Statements.{tree_in};
 
-use crate::instructions::{calling, returning};
-use crate::operands::{add_operands, call_fault, operand_fault};
-use crate::output::Output;
-use arrayvec::ArrayVec;
-use inf_assembler::{CloseFault, Setting as CodeSetting};
+use crate::findings::{NOWHERE, blame_of, header_fault, name_fault};
+use crate::operands::{all_looked, name_bytes, name_locals, settled};
+use crate::statements::{lay_statement, lay_unless};
+use inf_area::Value;
+use inf_assembler::{CloseFault, RoutineKind};
+use inf_code::code::{Code, CodeLimits};
+use inf_expressions::{Finding, Forest, Operand, Wanted, build, constant, judge, least_of_both};
+use inf_gathering::gathering::Leaf;
 use inf_lexer::{Place, Stack};
 use inf_names::meanings::Meaning;
 use inf_names::symbols::{DeclareFault, Found, ReferFault, Symbols};
-use inf_opcode::{Instruction, MOST_OPERANDS, Opcode, Operand};
-use inf_report::messages::{Countable, Message};
+use inf_opcode::Label;
+use inf_output::Output;
+use inf_report::messages::Message;
 use inf_report::own_words::OwnWords;
+use inf_scanner::{Mark, TokenKind};
 use inf_settings::setting::Setting;
 use inf_settings::settings::Settings;
-use inf_symbol::locals::{Headed, Locals, Repeated};
+use inf_symbol::locals::{Headed, Locals};
 use inf_symbol::spellings::Name;
 use inf_syntax::Action;
-use inf_text::{CharSet, Text};
-use inf_unit::directives::{Asked, Directive, weight_of};
-use inf_unit::messages::{Blame, Messages, location, setting_of};
+use inf_templates::Tasks;
+use inf_text::CharSet;
+use inf_unit::directives::{Asked, Directive, directive_of, weight_of};
+use inf_unit::messages::{Blame, Messages, location};
 use inf_unit::names::no_symbols;
-use inf_unit::unit::{Head, Statement, Unit};
+use inf_unit::tokens::Spelled;
+use inf_unit::unit::Unit;
+use inf_unit::unit_tokens::UnitTokens;
 use std::alloc::{AllocError, Global};
 use std::mem;
 
-/// A token that was taken, as far as units look at it.
-#[derive(Drop)]
-pub enum Taken {
-    Name(Name),
-    /// The characters of a text.
-    Text(Text),
-    Number(u16),
-    Other,
-}
-
-/// The parts of the unit at hand.
-#[derive(Drop)]
-pub struct Gathered {
-    operands: Vec<Name>,
-    texts: Vec<Text>,
-    /// The last token, until it is made a part.
-    last: Taken,
-    /// The bytes between the quotes of the last text, where it is one of a directive.
-    quoted: Vec<u8>,
-}
-
-impl Gathered {
-    ghost use Rattle.inf_work.specs.Actions.{nothing_gathered, with_operand, with_text};
-    ghost use Rattle.inf_work.specs.Works.{gathered};
-
-    /// Nothing. It takes no memory until something is gathered.
-    fn new(alloc: Global) -> Gathered
-        ensures { gathered result ≡ nothing_gathered }
-    {
-        Gathered {
-            operands: Vec::new(alloc),
-            texts: Vec::new(alloc),
-            last: Taken::Other,
-            quoted: Vec::new(alloc),
-        }
-    }
-
-    /// A unit begins.
-    fn clear(&mut self)
-        ensures { gathered self.new ≡ nothing_gathered }
-    {
-        self.operands.clear();
-        self.texts.clear();
-        self.last = Taken::Other;
-        self.quoted.clear();
-    }
-
-    /// The last token is an operand.
-    fn add_operand(&mut self) -> Result<(), AllocError>
-        ensures { let before = gathered self.old in
-            OnOk result (gathered self.new ≡ with_operand before.named before) }
-    {
-        match mem::replace(&mut self.last, Taken::Other) {
-            Taken::Name(name) => self.operands.push(name)?,
-            other => self.last = other,
-        }
-        Ok(())
-    }
-
-    /// The last token is a text.
-    fn add_text(&mut self) -> Result<(), AllocError>
-        ensures { let before = gathered self.old in
-            OnOk result (gathered self.new ≡ with_text before.read before) }
-    {
-        match mem::replace(&mut self.last, Taken::Other) {
-            Taken::Text(text) => self.texts.push(text)?,
-            other => self.last = other,
-        }
-        Ok(())
-    }
-}
+/// How deep brackets, braces and compound statements may stand in one another.
+const MOST_NESTED: usize = 64;
 
 /// What was compiled so far.
 #[derive(Drop)]
@@ -113,11 +55,16 @@ pub struct Work {
     alloc: Global,
     /// The character set of the sources.
     set: CharSet,
-    gathered: Gathered,
+    /// The most tokens of an expression.
+    longest: usize,
+    unit: Unit,
+    /// The labels behind the open `if`s, the innermost last.
+    constructs: Vec<Label>,
     /// The locals of the routine that was opened last.
     locals: Locals,
-    pub names: Symbols<Place>,
     pub output: Output,
+    /// What is left to be laid of a tree: nothing, between the calls that lay.
+    tasks: Tasks,
     pub report: Messages,
     /// What the directive that was finished last asks of the reading.
     asked: Asked,
@@ -131,11 +78,26 @@ pub struct Work {
     is_passed_over: bool,
 }
 
+/// No code and no names, of which there may be as many as the settings say.
+fn no_output(alloc: Global, settings: &Settings) -> Output
+    ensures { result ≡ no_output settings.now }
+{
+    let limits = CodeLimits {
+        labels: settings.of(Setting::Labels) as usize,
+        code: settings.of(Setting::Code) as usize,
+        refs: settings.of(Setting::References) as usize,
+    };
+    Output::new(
+        Code::new(alloc, limits),
+        no_symbols(alloc, settings),
+        NOWHERE,
+    )
+}
+
 impl Work {
-    ghost use Rattle.inf_work.specs.Actions.{begun_at, carried_out, opened_by, no_work, directive_end, constant, entered, is_replaced, left, replace, words_of, header, header_with, close, statement_end, call, return_of, with_instruction, checked, printed, act, acted};
-    ghost use Rattle.inf_unit.specs.Directives.{Nothing, Include, asked, asks, weight_of};
-    ghost use Rattle.inf_unit.specs.AtHand.{unit};
-    ghost use Rattle.inf_work.specs.Works.{gathered, named_of, number_of, read_of, work};
+    ghost use Rattle.inf_work.specs.Actions.{act, acted, begun_at, carried_out, close, closed_with, constant, constant_of, constant_with, cut, directive_end, entered, finding_of, header_end, header_with, if_end, if_opened, is_deep, is_replaced, left, named, nested, no_work, opened_with, operands_of, other_side, passed, piece_begun, replace, routine_declared, settled_of, sized, statement_end, token_checked, took, unit_ended, words_of};
+    ghost use Rattle.inf_unit.specs.Directives.{Include, Nothing, asked, asks, weight_of};
+    ghost use Rattle.inf_work.specs.Works.{work};
 
     /// Before the first unit of sources in a character set. It takes no memory until something is read.
     pub fn new(alloc: Global, set: CharSet, settings: &Settings) -> Work
@@ -144,10 +106,12 @@ impl Work {
         Work {
             alloc,
             set,
-            gathered: Gathered::new(alloc),
+            longest: settings.of(Setting::ExpressionNodes) as usize,
+            unit: Unit::new(alloc),
+            constructs: Vec::new(alloc),
             locals: Locals::new(),
-            names: no_symbols(alloc, settings),
-            output: Output::new(alloc, settings),
+            output: no_output(alloc, settings),
+            tasks: Tasks::new(alloc),
             report: Messages::new(alloc, true),
             asked: Asked::Nothing,
             replaced: no_symbols(alloc, settings),
@@ -155,32 +119,6 @@ impl Work {
             waiting: Vec::new(alloc),
             is_passed_over: false,
         }
-    }
-
-    /// The character set of the sources.
-    pub fn set(&self) -> CharSet
-        ensures { result ≡ (work self.now).set }
-    {
-        self.set
-    }
-
-    /// A token was taken.
-    pub fn gather(&mut self, token: Taken)
-        ensures { let before = work self.old in work self.new ≡ record before {
-          gathered = record before.gathered { named = named_of token; read = read_of token; number = number_of token };
-        } }
-    {
-        self.gathered.last = token;
-    }
-
-    /// A text of a directive was taken, which has these bytes between its quotes.
-    pub fn gather_quoted(&mut self, bytes: &[u8]) -> Result<(), AllocError>
-        ensures { let before = work self.old in OnOk result (work self.new
-            ≡ record before { gathered = record before.gathered { named = None; read = None; number = None; quoted = bytes.now } }) }
-    {
-        self.gather(Taken::Other);
-        self.gathered.quoted.clear();
-        self.gathered.quoted.extend_from_slice(bytes)
     }
 
     /// Whether a directive asks something of the reading.
@@ -216,83 +154,317 @@ impl Work {
         }
     }
 
+    /// A piece begins.
+    pub fn begin_piece(&mut self)
+        ensures { work self.new ≡ piece_begun (work self.old) }
+    {
+        self.unit.clear();
+        self.constructs.clear();
+    }
+
     /// A unit that begins at a place is finished, with which code begins, unless it has begun. Where that would pass a setting, it
     /// ends the compilation.
-    pub fn begin(&mut self, files: &Stack, unit: Place) -> Result<(), AllocError>
-        ensures { OnOk result (work self.new ≡ begun_at files.now.names unit (work self.old)) }
+    pub fn begin(&mut self, files: &Stack, first: Place) -> Result<(), AllocError>
+        ensures { OnOk result (work self.new ≡ begun_at files.now.names first (work self.old)) }
     {
-        let full = self.output.begin();
-        self.check(files, unit, full)
+        self.output.begin();
+        self.report.full(files, first, self.output.full())
+    }
+
+    /// A token is taken.
+    pub fn take(&mut self, files: &Stack, token: &Spelled<'_>) -> Result<(), AllocError>
+        ensures { OnOk result (work self.new ≡ took files.now.names (spelled token.now) (work self.old)) }
+    {
+        self.unit.take(token)?;
+        self.size(files)?;
+        self.check_token(files, token)
+    }
+
+    /// A bad token cuts the unit at hand, of which the outermost expression surely was one.
+    pub fn cut(&mut self, files: &Stack) -> Result<(), AllocError>
+        ensures { OnOk result (work self.new ≡ cut files.now.names (work self.old)) }
+    {
+        self.unit.is_sure = true;
+        self.size(files)
     }
 
     /// Carries out some actions, before a token at a place.
     pub fn act_all(
         &mut self,
         files: &Stack,
-        at_hand: &Unit,
         place: Place,
         actions: &[Action],
     ) -> Result<(), AllocError>
-        ensures { OnOk result (work self.new
-            ≡ acted files.now.names (unit at_hand.now) place actions.now (work self.old)) }
+        ensures { OnOk result (work self.new ≡ acted files.now.names place actions.now (work self.old)) }
     {
         for action in actions {
-            self.act(files, at_hand, place, *action)?;
+            self.act(files, place, *action)?;
         }
         Ok(())
     }
 
-    /// Carries out an action.
-    fn act(
-        &mut self,
-        files: &Stack,
-        at_hand: &Unit,
-        place: Place,
-        action: Action,
-    ) -> Result<(), AllocError>
-        ensures { OnOk result (work self.new ≡ act files.now.names (unit at_hand.now) place action (work self.old)) }
+    /// Carries out an action, before a token at a place.
+    fn act(&mut self, files: &Stack, place: Place, action: Action) -> Result<(), AllocError>
+        ensures { OnOk result (work self.new ≡ act files.now.names place action (work self.old)) }
     {
         match action {
-            Action::Begin => {
-                self.gathered.clear();
-                Ok(())
-            }
-            Action::Name => self.gathered.add_operand(),
-            Action::PrintText => self.gathered.add_text(),
-            Action::EndLocals => self.header(files, at_hand.head, at_hand.names.as_slice()),
-            Action::EndDirective => self.end_directive(
-                files,
-                at_hand.head,
-                at_hand.names.as_slice(),
-            ),
-            Action::EndStatement => self.end_statement(files, at_hand.head),
+            Action::EndLocals => self.end_header(files, place),
+            Action::EndDirective => self.end_directive(files, place),
+            Action::EndStatement => self.end_statement(files, place),
             Action::EndRoutine => self.close(files, place),
-            _ => Ok(()),
+            Action::Deeper => {
+                let is_deep = self.is_deep(1);
+                self.nest(files, place, is_deep)
+            }
+            Action::OpenIf => self.open_if(files, place),
+            Action::EndIf => self.end_if(files, place),
+            Action::Else => self.turn_if(),
+            Action::Close => self.close_if(),
+            Action::OuterSure => {
+                self.unit.act(action)?;
+                self.size(files)
+            }
+            _ => self.unit.act(action),
         }
     }
 
-    /// The header of a routine, which ends here.
-    #[inline(never)]
-    fn header(
-        &mut self,
-        files: &Stack,
-        head: Option<Head>,
-        names: &[Name],
-    ) -> Result<(), AllocError>
-        ensures { OnOk result (work self.new ≡ header files.now.names head (map as_name names.now) (work self.old)) }
+    /// An expression of more tokens than it may have ends the compilation, at the first token too many.
+    fn size(&mut self, files: &Stack) -> Result<(), AllocError>
+        ensures { OnOk result (work self.new ≡ sized files.now.names (work self.old)) }
     {
-        let Some(Head::Header(unit)) = head else {
+        match self.unit.long_at(self.longest) {
+            Some(place) => self.report.fatal(
+                location(files, place),
+                &Message::Exceeded(Setting::ExpressionNodes),
+            ),
+            None => Ok(()),
+        }
+    }
+
+    /// Whether brackets, braces and compound statements, with so many more, stand too deep in one another.
+    fn is_deep(&self, more: usize) -> bool
+        requires { more ≤ 1 }
+        ensures { result ≡ is_deep (work self.now) more }
+    {
+        let constructs = self.constructs.len();
+        let room = MOST_NESTED.saturating_sub(self.unit.depth as usize);
+        constructs > room || constructs + more > room || self.unit.depth as usize > MOST_NESTED
+    }
+
+    /// What stands too deep ends the compilation at a place.
+    fn nest(&mut self, files: &Stack, place: Place, is_deep: bool) -> Result<(), AllocError>
+        ensures { OnOk result (work self.new ≡ nested files.now.names place is_deep (work self.old)) }
+    {
+        if !is_deep {
+            return Ok(());
+        }
+        self.report
+            .fatal(location(files, place), &Message::DeepNesting)
+    }
+
+    /// A bracket or brace that was taken may stand too deep.
+    fn check_token(&mut self, files: &Stack, token: &Spelled<'_>) -> Result<(), AllocError>
+        ensures { OnOk result (work self.new ≡ token_checked files.now.names (spelled token.now) (work self.old)) }
+    {
+        let opens = matches!(
+            token.kind,
+            TokenKind::Mark(Mark::OpenParenthesis | Mark::OpenBrace)
+        );
+        let is_deep = opens && self.is_deep(0);
+        self.nest(files, token.place, is_deep)
+    }
+
+    /// The end of a unit that begins at a place: its error is told, if it has one, and then the first limit that was passed.
+    fn end_unit(&mut self, files: &Stack, first: Place, has_last: bool) -> Result<(), AllocError>
+        ensures { OnOk result (work self.new ≡ unit_ended files.now.names first has_last None (work self.old)) }
+    {
+        self.unit.end(has_last);
+        self.report.full(files, first, self.output.full())
+    }
+
+    /// Nothing comes of a unit.
+    fn pass(&mut self, has_last: bool)
+        ensures { work self.new ≡ passed has_last (work self.old) }
+    {
+        self.unit.end(has_last);
+    }
+
+    /// What the leaves of the unit's expressions stand for, where their names are only looked up.
+    fn operands(&self) -> Result<Vec<Operand>, AllocError>
+        ensures { IfOk result (λ operands. operands.items ≡ operands_of (work self.now)) }
+    {
+        all_looked(
+            self.alloc,
+            &self.locals,
+            &self.output.names,
+            &self.unit.tokens,
+            self.unit.gathering.leaves(),
+        )
+    }
+
+    /// The least of what is wrong with the unit's expressions.
+    fn finding(&self, wanted: Wanted, operands: &[Operand]) -> Result<Option<Finding>, AllocError>
+        requires { operands.now ≡ operands_of (work self.now) }
+        ensures { IfOk result (λ finding. finding ≡ finding_of wanted (work self.now)) }
+    {
+        judge(
+            self.alloc,
+            wanted,
+            0,
+            self.unit.gathering.symbols(),
+            operands,
+        )
+    }
+
+    /// The unit's expressions name its locals.
+    fn name(&mut self)
+        ensures { work self.new ≡ named (work self.old) }
+    {
+        name_locals(
+            &mut self.locals,
+            &self.unit.tokens,
+            self.unit.gathering.leaves(),
+        );
+    }
+
+    /// The error of a unit of expressions is told, if they have one; it has no other effect then, but that its locals are named.
+    fn refuse(&mut self, files: &Stack, first: Place, has_last: bool) -> Result<bool, AllocError>
+        ensures found { IfOk result (λ is_refused. is_refused ≡ is_some (finding_of Wanted.Value (work self.old))) }
+        ensures told { OnOk result (work self.new ≡ refused_by files.now.names first has_last (finding_of Wanted.Value (work self.old)) (named (work self.old))) }
+    {
+        let operands = self.operands()?;
+        let finding = self.finding(Wanted::Value, operands.as_slice())?;
+        self.name();
+        let Some(finding) = finding else {
+            return Ok(false);
+        };
+        let blame = blame_of(&self.unit.tokens, finding);
+        self.report.fault(files, first, Some(blame))?;
+        self.end_unit(files, first, has_last)?;
+        Ok(true)
+    }
+
+    /// The names of the unit's expressions are used. Answers their trees.
+    fn settle(&mut self, first: Place) -> Result<Forest, AllocError>
+        ensures { IfOk result (λ forest. let s = settled_of (work self.old) in
+            (rooted_in forest ≡ trees_of Wanted.Value 0 s.operands (work self.old).unit.gathering.symbols)
+            × (work self.new ≡ record (work self.old) { output = record s.out { first = first } })) }
+    {
+        let operands = settled(
+            self.alloc,
+            &self.locals,
+            &self.unit.tokens,
+            self.unit.gathering.leaves(),
+            &mut self.output,
+        )?;
+        self.output.first = first;
+        build(
+            self.alloc,
+            Wanted::Value,
+            0,
+            self.unit.gathering.symbols(),
+            operands.as_slice(),
+        )
+    }
+
+    /// A statement ends, before a token at a place.
+    #[inline(never)]
+    fn end_statement(&mut self, files: &Stack, place: Place) -> Result<(), AllocError>
+        ensures { OnOk result (work self.new ≡ statement_end files.now.names place (work self.old)) }
+    {
+        if self.is_passed_over {
+            self.pass(true);
+            return Ok(());
+        }
+        let first = self.unit.first_place(place);
+        if self.refuse(files, first, true)? {
+            return Ok(());
+        }
+        let forest = self.settle(first)?;
+        lay_statement(
+            self.alloc,
+            self.set,
+            &self.unit.tokens,
+            self.unit.items.as_slice(),
+            &forest,
+            &mut self.tasks,
+            &mut self.output,
+        )?;
+        self.end_unit(files, first, true)
+    }
+
+    /// An `if` begins, before a token at a place.
+    fn open_if(&mut self, files: &Stack, place: Place) -> Result<(), AllocError>
+        ensures { OnOk result (work self.new ≡ if_opened files.now.names place (work self.old)) }
+    {
+        let word = self.unit.tokens.last_place(place);
+        let is_deep = self.is_deep(1);
+        self.nest(files, word, is_deep)?;
+        let label = self.output.label();
+        self.constructs.push(label)?;
+        Ok(())
+    }
+
+    /// The condition of an `if` ends, before a token at a place.
+    fn end_if(&mut self, files: &Stack, place: Place) -> Result<(), AllocError>
+        ensures { OnOk result (work self.new ≡ if_end files.now.names place (work self.old)) }
+    {
+        if self.is_passed_over {
+            self.pass(false);
+            return Ok(());
+        }
+        let first = self.unit.first_place(place);
+        if self.refuse(files, first, false)? {
+            return Ok(());
+        }
+        let forest = self.settle(first)?;
+        let label = innermost(&self.constructs);
+        lay_unless(&forest, label, &mut self.tasks, &mut self.output)?;
+        self.end_unit(files, first, false)
+    }
+
+    /// The other side of the innermost `if` begins: what stands before goes behind it.
+    fn turn_if(&mut self) -> Result<(), AllocError>
+        ensures { OnOk result (work self.new ≡ other_side (work self.old).constructs (work self.old)) }
+    {
+        let Some(first) = self.constructs.pop() else {
             return Ok(());
         };
+        let second = self.output.label();
+        self.constructs.push(second)?;
+        self.output.jump(second)?;
+        self.output.mark(first)
+    }
+
+    /// The innermost `if` ends.
+    fn close_if(&mut self) -> Result<(), AllocError>
+        ensures { OnOk result (work self.new ≡ closed_with (work self.old).constructs (work self.old)) }
+    {
+        match self.constructs.pop() {
+            Some(label) => self.output.mark(label),
+            None => Ok(()),
+        }
+    }
+
+    /// The header of a routine ends, before a token at a place.
+    #[inline(never)]
+    fn end_header(&mut self, files: &Stack, place: Place) -> Result<(), AllocError>
+        ensures { OnOk result (work self.new ≡ header_end files.now.names place (work self.old)) }
+    {
+        let names = self.unit.tokens.names(self.alloc)?;
         let Some((name, locals)) = names.split_first() else {
+            self.pass(true);
             return Ok(());
         };
         self.is_passed_over = self.is_replaced(name);
         if self.is_passed_over {
+            self.constructs.clear();
+            self.pass(true);
             return Ok(());
         }
         let headed = headed_of(locals);
-        self.open(files, unit, name, headed)
+        let first = self.unit.first_place(place);
+        self.open(files, first, name, headed)
     }
 
     /// Whether the routine of a name is to be replaced, which it may be in a file that is marked.
@@ -307,42 +479,44 @@ impl Work {
     fn open(
         &mut self,
         files: &Stack,
-        unit: Place,
+        first: Place,
         name: &Name,
         headed: Headed<'_>,
     ) -> Result<(), AllocError>
         ensures { OnOk result (work self.new
-            ≡ header_with files.now.names unit (as_name name.now) (as_headed headed.entry) (work self.old)) }
+            ≡ header_with files.now.names first (as_name name.now) (as_headed headed.entry) (work self.old)) }
     {
-        let refused = declare(
-            &mut self.names,
-            name,
-            Meaning::Routine(self.output.code.len()),
-        )?;
-        let of_name = name_fault(files, name, refused);
-        let fault = header_fault(files, unit, of_name, &headed);
-        let is_lost = fault.is_some();
-        let locals = headed.locals.count();
-        self.locals = headed.locals;
-        self.report.fault(files, unit, fault)?;
-        self.open_code(files, unit, locals, is_lost, name_full(refused))
+        let refused = self.declare_routine(name)?;
+        let blame = header_blame(files, first, name, refused, &headed);
+        let is_lost = is_told(&blame);
+        self.report.fault(files, first, blame)?;
+        self.open_code(files, first, headed, is_lost)
     }
 
-    /// Opens the code of a routine of so many locals, at most 15, for a header that begins at a place, and had an error or not. A setting
-    /// that is full already is told first.
+    /// A routine of this name begins behind those that are finished. Answers what is wrong with the name, if anything is.
+    fn declare_routine(&mut self, name: &Name) -> Result<Option<DeclareFault<Place>>, AllocError>
+        ensures value { OnOk result (work self.new ≡ routine_declared (as_name name.now) (work self.old)) }
+        ensures fault { IfOk result (λ refused. refused ≡ declare_fault (as_name name.now).bytes (work self.old).output.names) }
+    {
+        let routine = Meaning::Routine(self.output.code.len());
+        self.output.declare(name.bytes(), name.place, routine)
+    }
+
+    /// Opens the code of a routine with the locals of a header that begins at a place, and had an error or not.
     fn open_code(
         &mut self,
         files: &Stack,
-        unit: Place,
-        locals: u8,
+        first: Place,
+        headed: Headed<'_>,
         is_lost: bool,
-        full: Option<Setting>,
     ) -> Result<(), AllocError>
-        requires { locals ≤ 15 }
-        ensures { OnOk result (work self.new ≡ opened_by files.now.names unit locals is_lost full (work self.old)) }
+        ensures { OnOk result (work self.new ≡ opened_with files.now.names first (as_headed headed.entry) is_lost (work self.old)) }
     {
-        let code = self.output.open(self.alloc, locals, is_lost)?;
-        self.report.full(files, unit, first_full(full, code))
+        let locals = headed.locals.count();
+        self.output.open(self.alloc, locals, is_lost)?;
+        self.locals = headed.locals;
+        self.constructs.clear();
+        self.end_unit(files, first, true)
     }
 
     /// Ends the open routine at a place: tells its unused locals, and finishes its code.
@@ -351,258 +525,170 @@ impl Work {
         ensures { OnOk result (work self.new ≡ close files.now.names place (work self.old)) }
     {
         if self.is_passed_over {
+            self.pass(true);
             return Ok(());
         }
-        let fault = self.output.close()?;
-        if is_far(fault) {
-            let at = location(files, place);
-            self.report.error(at, at, &Message::BranchTooFar)?;
-        }
+        let fault = self.output.close(RoutineKind::Plain)?;
+        tell_far(fault, files, place, &mut self.report)?;
         tell_unused(&self.locals, files, place, &mut self.report)?;
-        self.check(files, place, full_of(fault))
+        self.end_unit(files, place, true)
     }
 
-    /// A statement ends that began so.
+    /// A directive ends, before a token at a place.
     #[inline(never)]
-    fn end_statement(&mut self, files: &Stack, head: Option<Head>) -> Result<(), AllocError>
-        ensures { OnOk result (work self.new ≡ statement_end files.now.names head (work self.old)) }
+    fn end_directive(&mut self, files: &Stack, place: Place) -> Result<(), AllocError>
+        ensures { OnOk result (work self.new ≡ directive_end files.now.names place (work self.old)) }
     {
-        let Some(Head::Statement(statement, unit)) = head else {
+        let names = self.unit.tokens.names(self.alloc)?;
+        let Some((word, names)) = names.split_first() else {
+            self.pass(true);
             return Ok(());
         };
-        if self.is_passed_over {
-            return Ok(());
-        }
-        match statement {
-            Statement::Print => self.print(files, unit),
-            Statement::Return => self.end_return(files, unit),
-            Statement::NewLine => self.emit_bare(files, unit, Opcode::NewLine),
-            Statement::Quit => self.emit_bare(files, unit, Opcode::Quit),
-            Statement::ReturnTrue => self.emit_bare(files, unit, Opcode::Rtrue),
-            Statement::ReturnFalse => self.emit_bare(files, unit, Opcode::Rfalse),
-            Statement::Call => self.call(files, unit),
-        }
+        let first = self.unit.first_place(place);
+        self.carry_out(directive_of(word.bytes()), files, first, names)?;
+        self.begin(files, first)
     }
 
-    /// A directive ends that began so, with these names.
-    #[inline(never)]
-    fn end_directive(
-        &mut self,
-        files: &Stack,
-        head: Option<Head>,
-        names: &[Name],
-    ) -> Result<(), AllocError>
-        ensures { OnOk result (work self.new
-            ≡ directive_end files.now.names head (map as_name names.now) (work self.old)) }
-    {
-        let Some(Head::Directive(directive, unit)) = head else {
-            return Ok(());
-        };
-        self.carry_out(directive, files, unit, names)?;
-        self.begin(files, unit)
-    }
-
-    /// Carries out a directive that begins at a place, with these names.
+    /// Carries out a directive that begins at a place, with these names behind its word.
     fn carry_out(
         &mut self,
         directive: Directive,
         files: &Stack,
-        unit: Place,
+        first: Place,
         names: &[Name],
     ) -> Result<(), AllocError>
         ensures { OnOk result (work self.new
-            ≡ carried_out directive files.now.names unit (map as_name names.now) (work self.old)) }
+            ≡ carried_out directive files.now.names first (map as_name names.now) (work self.old)) }
     {
         match directive {
-            Directive::Include => self.asked = self.inclusion(unit),
-            Directive::Message => return self.message(files, unit, names),
+            Directive::Include => self.asked = self.inclusion(first)?,
+            Directive::Message => self.message(files, first, names)?,
             Directive::End => self.asked = Asked::End,
-            Directive::Constant => return self.constant(files, unit, names),
-            Directive::Replace => return self.replace(files, unit, names),
+            Directive::Constant => return self.constant(files, first, names),
+            Directive::Replace => return self.replace(files, first, names),
             Directive::SystemFile => self.is_system = true,
         }
+        self.pass(true);
         Ok(())
     }
 
     /// Keeps the first of these names as that of a routine that is to be replaced, and uses it.
-    fn replace(&mut self, files: &Stack, unit: Place, names: &[Name]) -> Result<(), AllocError>
+    fn replace(&mut self, files: &Stack, first: Place, names: &[Name]) -> Result<(), AllocError>
         ensures { OnOk result (work self.new
-            ≡ replace files.now.names unit (map as_name names.now) (work self.old)) }
+            ≡ replace files.now.names first (map as_name names.now) (work self.old)) }
     {
         let Some(name) = names.first() else {
+            self.pass(true);
             return Ok(());
         };
-        if refer(&mut self.names, name)? {
-            return self.report.full(files, unit, Some(Setting::Symbols));
-        }
-        refer(&mut self.replaced, name)?;
-        Ok(())
+        self.output.refer(name.bytes(), name.place)?;
+        use_name(&mut self.replaced, name)?;
+        self.end_unit(files, first, true)
     }
 
-    /// Declares the first of these names as a constant, with the number that is the last token of the unit, or 0.
-    fn constant(&mut self, files: &Stack, unit: Place, names: &[Name]) -> Result<(), AllocError>
+    /// Declares the first of these names as a constant, with what its expression is, or 0.
+    fn constant(&mut self, files: &Stack, first: Place, names: &[Name]) -> Result<(), AllocError>
         ensures { OnOk result (work self.new
-            ≡ constant files.now.names unit (map as_name names.now) (work self.old)) }
+            ≡ constant files.now.names first (map as_name names.now) (work self.old)) }
     {
         let Some(name) = names.first() else {
+            self.pass(true);
             return Ok(());
         };
-        let number = match self.gathered.last {
-            Taken::Number(number) => number,
-            Taken::Name(_) | Taken::Text(_) | Taken::Other => 0,
-        };
-        let refused = declare(&mut self.names, name, Meaning::Number(number))?;
-        self.report
-            .fault(files, unit, name_fault(files, name, refused))?;
-        self.report.full(files, unit, name_full(refused))
+        let operands = self.operands()?;
+        let found = self.finding(Wanted::Constant, operands.as_slice())?;
+        let forest = build(
+            self.alloc,
+            Wanted::Constant,
+            0,
+            self.unit.gathering.symbols(),
+            operands.as_slice(),
+        )?;
+        let meaning = self.constant_of(&forest);
+        self.declare_constant(files, first, name, meaning, found)
     }
 
-    /// That the file is read whose name is the text of the unit, which is given away.
-    fn inclusion(&mut self, unit: Place) -> Asked
-        ensures asked { asked result ≡ Include (gathered self.old.gathered).quoted unit }
-        ensures work { let before = work self.old in
-            work self.new ≡ record before { gathered = record before.gathered { quoted = [] } } }
+    /// That the file is read whose name is the text of the unit.
+    fn inclusion(&self, unit: Place) -> Result<Asked, AllocError>
+        ensures { IfOk result (λ a. asked a ≡ Include (quoted_in (work self.now).unit.tokens) unit) }
     {
-        let text = mem::replace(&mut self.gathered.quoted, Vec::new(self.alloc));
-        Asked::Include { text, unit }
+        let mut text = Vec::new(self.alloc);
+        text.extend_from_slice(self.unit.tokens.quoted())?;
+        Ok(Asked::Include { text, unit })
     }
 
     /// Tells the text of the unit, by the weight that its names say.
-    fn message(&mut self, files: &Stack, unit: Place, names: &[Name]) -> Result<(), AllocError>
+    fn message(&mut self, files: &Stack, first: Place, names: &[Name]) -> Result<(), AllocError>
         ensures { let before = work self.old in OnOk result (work self.new ≡ record before {
-          report = with_words (location files.now.names unit) (weight_of (map as_name names.now)) (words_of before.set before.gathered) before.report;
+          report = with_words (location files.now.names first) (weight_of (map as_name names.now)) (words_of before.set before.unit) before.report;
         }) }
     {
         let words = OwnWords {
-            bytes: self.gathered.quoted.as_slice(),
+            bytes: self.unit.tokens.quoted(),
             set: self.set,
         };
         self.report
-            .words(location(files, unit), weight_of(names), words)
+            .words(location(files, first), weight_of(names), words)
     }
 
-    /// Ends the compilation where a unit that begins at a place would pass a setting of the code.
-    fn check(
-        &mut self,
-        files: &Stack,
-        unit: Place,
-        full: Option<CodeSetting>,
-    ) -> Result<(), AllocError>
-        ensures { let before = work self.old in OnOk result (work self.new
-            ≡ record before { report = with_full files.now.names unit (option_map setting_of full) before.report }) }
+    /// What a constant stands for, by the tree of its expression: a known number, 0 where it has none, or what a name stands for that was declared
+    /// before.
+    fn constant_of(&self, forest: &Forest) -> Option<Meaning>
+        ensures { result ≡ constant_of (map tree_in (rooted_in forest.now)) (work self.now) }
     {
-        self.report.full(files, unit, full.map(setting_of))
-    }
-
-    /// The instruction of an opcode alone.
-    fn emit_bare(&mut self, files: &Stack, unit: Place, opcode: Opcode) -> Result<(), AllocError>
-        requires { IsProper (bare opcode) }
-        ensures { OnOk result (work self.new ≡ with_instruction files.now.names unit (bare opcode) (work self.old)) }
-    {
-        let full = self.output.emit_bare(opcode)?;
-        self.check(files, unit, full)
-    }
-
-    /// An instruction.
-    fn emit(
-        &mut self,
-        files: &Stack,
-        unit: Place,
-        instruction: &Instruction<'_>,
-    ) -> Result<(), AllocError>
-        requires { IsProper (parts_of instruction.now) }
-        ensures { OnOk result (work self.new ≡ with_instruction files.now.names unit (parts_of instruction.now) (work self.old)) }
-    {
-        let full = self.output.emit(instruction)?;
-        self.check(files, unit, full)
-    }
-
-    /// Prints the texts of the unit.
-    fn print(&mut self, files: &Stack, unit: Place) -> Result<(), AllocError>
-        ensures { let before = work self.old in OnOk result (work self.new
-            ≡ checked files.now.names unit (printed before.gathered.texts before.output) before) }
-    {
-        let texts = self.gathered.texts.as_slice();
-        let full = self.output.print_all(self.alloc, texts)?;
-        self.check(files, unit, full)
-    }
-
-    /// Calls the first operand of the unit with the others.
-    fn call(&mut self, files: &Stack, unit: Place) -> Result<(), AllocError>
-        ensures { let names = (gathered self.old.gathered).operands in
-            OnOk result (work self.new ≡ call files.now.names unit names (work self.old)) }
-    {
-        let names = self.gathered.operands.as_slice();
-        let Some((called, arguments)) = names.split_first() else {
-            return Ok(());
+        let Some(root) = forest.roots.first() else {
+            return Some(Meaning::Number(0));
         };
-        if let Some(blame) = call_fault(unit, &self.locals, called, arguments) {
-            name_all(&mut self.locals, names);
-            return self.report.fault(files, unit, Some(blame));
+        match constant(&forest.nodes, root.place)? {
+            Value::Known(number) => Some(Meaning::Number(number)),
+            Value::Later(_) => self.named_constant(),
         }
-        let mut operands = ArrayVec::new();
-        let full = take_operands(&mut self.locals, &mut self.names, names, &mut operands)?;
-        if full.is_some() {
-            return self.report.full(files, unit, full);
-        }
-        self.emit(files, unit, &calling(operands.as_slice()))
     }
 
-    /// Returns true, or the operand of the unit.
-    fn end_return(&mut self, files: &Stack, unit: Place) -> Result<(), AllocError>
-        ensures { let names = (gathered self.old.gathered).operands in
-            OnOk result (work self.new ≡ return_of files.now.names unit names (work self.old)) }
+    /// What the name stands for that a constant's expression is, where it was declared before.
+    fn named_constant(&self) -> Option<Meaning>
+        ensures { let w = work self.now in
+            result ≡ declared_meaning (found_in (named_leaf w.unit.tokens w.unit.gathering.leaves) w.output.names) }
     {
-        let operands = self.gathered.operands.as_slice();
-        let Some((name, _)) = operands.split_first() else {
-            return self.emit_bare(files, unit, Opcode::Rtrue);
-        };
-        let names = &operands[..1];
-        if let Some(blame) = operand_fault(&self.locals, name) {
-            name_all(&mut self.locals, names);
-            return self.report.fault(files, unit, Some(blame));
+        let name = named_leaf(&self.unit.tokens, self.unit.gathering.leaves());
+        match self.output.names.look(name) {
+            Found::Declared(meaning, _) => Some(meaning),
+            Found::System(_) | Found::Used | Found::Unknown => None,
         }
-        let mut operands = ArrayVec::new();
-        let full = take_operands(&mut self.locals, &mut self.names, names, &mut operands)?;
-        if full.is_some() {
-            return self.report.full(files, unit, full);
-        }
-        self.emit_return(files, unit, operands.as_slice())
     }
 
-    /// Returns an operand, which is the only one.
-    fn emit_return(
+    /// Declares a name as a constant with what it stands for, if that is known, and tells the first error of its directive.
+    fn declare_constant(
         &mut self,
         files: &Stack,
-        unit: Place,
-        operands: &[Operand],
+        first: Place,
+        name: &Name,
+        meaning: Option<Meaning>,
+        found: Option<Finding>,
     ) -> Result<(), AllocError>
-        requires one { length operands.now ≡ 1 }
-        requires plain { IsTrue (has_no_offset operands.now) }
-        ensures { OnOk result (work self.new ≡ with_instruction files.now.names unit (returning operands.now) (work self.old)) }
+        ensures { OnOk result (work self.new
+            ≡ constant_with files.now.names first (as_name name.now) meaning found (work self.old)) }
     {
-        self.emit(files, unit, &returning(operands))
+        let finding = constant_finding(meaning, found);
+        let stands = constant_meaning(meaning, finding);
+        let refused = self.output.declare(name.bytes(), name.place, stands)?;
+        let of_name = name_fault(files, name, refused);
+        let order = self.unit.tokens.name_order();
+        let least = least_of_both(name_finding(order, &of_name), finding);
+        let blame = constant_blame(&self.unit.tokens, of_name, least);
+        self.report.fault(files, first, blame)?;
+        self.end_unit(files, first, true)
     }
 }
 
-/// The setting that is full where a routine can't be closed, if it is for that.
-fn full_of(fault: Option<CloseFault>) -> Option<CodeSetting>
-    ensures { result ≡ full_of fault }
+/// The label behind the innermost of the open `if`s.
+fn innermost(constructs: &[Label]) -> Label
+    ensures { result ≡ innermost (reverse constructs.now) }
 {
-    match fault {
-        Some(CloseFault::Full(setting)) => Some(setting),
-        _ => None,
+    match constructs.last() {
+        Some(label) => *label,
+        None => Label { number: 0 },
     }
-}
-
-/// Whether a routine can't be closed for its labels or offsets.
-fn is_far(fault: Option<CloseFault>) -> bool
-    ensures { result ≡ is_far fault }
-{
-    matches!(
-        fault,
-        Some(CloseFault::LabelMissing(_) | CloseFault::LabelTwice(_) | CloseFault::TooFar)
-    )
 }
 
 /// The locals that the names behind a routine's name declare.
@@ -616,35 +702,55 @@ fn headed_of(names: &[Name]) -> Headed<'_>
     headed
 }
 
-/// Puts the operands that at most eight names are behind none: a local is named, and every other name used that is no constant. It
-/// ends before a name that is one too many, and answers the setting that this would pass.
-fn take_operands(
-    locals: &mut Locals,
-    known: &mut Symbols<Place>,
-    names: &[Name],
-    operands: &mut ArrayVec<Operand, MOST_OPERANDS>,
-) -> Result<Option<Setting>, AllocError>
-    requires few { length names.now ≤ 8 }
-    requires none { operands.old.items ≡ [] }
-    ensures value { let before : Operands = record { names = known.old; operands = []; full = None } in
-        IfOk result (λ full. record { names = known.new; operands = operands.new.items; full = full }
-        ≡ with_operands (listed locals.old) (map as_name names.now) before) }
-    ensures named { OnOk result (listed locals.new ≡ with_all_named (map as_name names.now) (listed locals.old)) }
-    ensures count { IfOk result (λ full. full ≡ None → length operands.new.items ≡ length names.now) }
-    ensures plain { IfOk result (λ _. IsTrue (has_no_offset operands.new.items)) }
+/// The first error of a header, by what the names refuse.
+fn header_blame<'a>(
+    files: &'a Stack,
+    first: Place,
+    name: &'a Name,
+    refused: Option<DeclareFault<Place>>,
+    headed: &Headed<'a>,
+) -> Option<Blame<'a>>
+    ensures { option_map blamed result
+        ≡ header_fault files.now.names first (name_fault files.now.names (as_name name.now) refused) (as_headed headed.entry.now) }
 {
-    let full = add_operands(locals, known, names, operands)?;
-    name_all(locals, names);
-    Ok(full)
+    let of_name = name_fault(files, name, refused);
+    header_fault(files, first, of_name, headed)
 }
 
-/// A statement names these, of which some may be locals.
-fn name_all(locals: &mut Locals, names: &[Name])
-    ensures { listed locals.new ≡ with_all_named (map as_name names.now) (listed locals.old) }
+/// Whether there is anything to tell.
+fn is_told(blame: &Option<Blame<'_>>) -> bool
+    ensures { result ≡ is_some (option_map blamed blame.now) }
 {
-    for name in names {
-        locals.name(name.bytes());
+    match blame {
+        Some(_) => true,
+        None => false,
     }
+}
+
+/// Whether a routine can't be closed for its labels or offsets.
+fn is_far(fault: Option<CloseFault>) -> bool
+    ensures { result ≡ is_far fault }
+{
+    matches!(
+        fault,
+        Some(CloseFault::LabelMissing(_) | CloseFault::LabelTwice(_) | CloseFault::TooFar)
+    )
+}
+
+/// Tells, at a place, that a branch goes too far, where it does.
+fn tell_far(
+    fault: Option<CloseFault>,
+    files: &Stack,
+    place: Place,
+    report: &mut Messages,
+) -> Result<(), AllocError>
+    ensures { OnOk result (report.new ≡ with_far files.now.names place fault report.old) }
+{
+    if !is_far(fault) {
+        return Ok(());
+    }
+    let at = location(files, place);
+    report.error(at, at, &Message::BranchTooFar)
 }
 
 /// Warns, at a place, of each local that no statement named.
@@ -667,103 +773,69 @@ fn tell_unused(
     Ok(())
 }
 
-/// Declares a name with what it stands for, unless something is wrong with it, which is answered.
-fn declare(
-    names: &mut Symbols<Place>,
-    name: &Name,
-    meaning: Meaning,
-) -> Result<Option<DeclareFault<Place>>, AllocError>
-    ensures { let fault = declare_fault (as_name name.now).bytes names.old in IfOk result (λ refused.
-        (refused ≡ fault) × (names.new ≡ with_name (as_name name.now) meaning fault names.old)) }
-{
-    match names.declare(name.bytes(), name.place, meaning) {
-        Ok(_) => Ok(None),
-        Err(DeclareFault::Memory) => Err(AllocError),
-        Err(fault) => Ok(Some(fault)),
-    }
-}
-
-/// Uses a name, unless it would be one too many, which is answered.
-fn refer(names: &mut Symbols<Place>, name: &Name) -> Result<bool, AllocError>
-    ensures full { IfOk result (λ is_full. is_full ≡ is_some (refer_fault (as_name name.now).bytes names.old)) }
-    ensures names { OnOk result (names.new ≡ referred (as_name name.now) names.old) }
+/// Uses a name, unless it would be one too many.
+fn use_name(names: &mut Symbols<Place>, name: &Name) -> Result<(), AllocError>
+    ensures { OnOk result (names.new ≡ used_name (as_name name.now) names.old) }
 {
     match names.refer(name.bytes(), name.place) {
-        Ok(_) => Ok(false),
-        Err(ReferFault::Full) => Ok(true),
+        Ok(_) | Err(ReferFault::Full) => Ok(()),
         Err(ReferFault::Memory) => Err(AllocError),
     }
 }
 
-/// A name that was declared at a place before.
-fn again<'a>(files: &'a Stack, name: &'a Name, first: Place) -> Blame<'a>
-    ensures { blamed result ≡ again files.now.names (as_name name.now) first }
+/// The name that is the first leaf of a unit with these tokens; an empty one where it is none.
+fn named_leaf<'t>(tokens: &'t UnitTokens, leaves: &[Leaf]) -> &'t [u8]
+    ensures value { result.now ≡ named_leaf tokens.now leaves.now }
+    ensures few { length result.now ≤ 32 }
 {
-    Blame {
-        place: name.place,
-        message: Message::Declared(name.bytes(), location(files, first)),
+    match leaves.first() {
+        Some(Leaf::Name(at)) => name_bytes(tokens.name_at(*at)),
+        _ => b"",
     }
 }
 
-/// What is wrong with declaring a name, by what the names refuse. That there are too many is no error of the unit.
-fn name_fault<'a>(
-    files: &'a Stack,
-    name: &'a Name,
-    refused: Option<DeclareFault<Place>>,
-) -> Option<Blame<'a>>
-    ensures { option_map blamed result ≡ name_fault files.now.names (as_name name.now) refused }
+/// What is wrong with a constant's expression: also that it stands for nothing.
+fn constant_finding(meaning: Option<Meaning>, found: Option<Finding>) -> Option<Finding>
+    ensures { result ≡ constant_finding meaning found }
 {
-    match refused? {
-        DeclareFault::Present(None) => Some(Blame {
-            place: name.place,
-            message: Message::SystemName(name.bytes()),
-        }),
-        DeclareFault::Present(Some(first)) => Some(again(files, name, first)),
-        DeclareFault::Full | DeclareFault::Memory => None,
+    match (meaning, found) {
+        (None, None) => Some(Finding::no_constant(0)),
+        _ => found,
     }
 }
 
-/// The first setting that is full, of two.
-fn first_full(full: Option<Setting>, code: Option<CodeSetting>) -> Option<Setting>
-    ensures { result ≡ first_full full (option_map setting_of code) }
+/// What a constant stands for: 0, where something is wrong with it.
+fn constant_meaning(meaning: Option<Meaning>, found: Option<Finding>) -> Meaning
+    ensures { result ≡ constant_meaning meaning found }
 {
-    full.or(code.map(setting_of))
-}
-
-/// The setting that another name would pass.
-fn name_full(refused: Option<DeclareFault<Place>>) -> Option<Setting>
-    ensures { result ≡ name_full refused }
-{
-    match refused {
-        Some(DeclareFault::Full) => Some(Setting::Symbols),
-        _ => None,
+    match (meaning, found) {
+        (Some(meaning), None) => meaning,
+        _ => Meaning::Number(0),
     }
 }
 
-/// A local that is named again.
-fn local_fault<'a>(files: &'a Stack, repeated: Option<Repeated<'a>>) -> Option<Blame<'a>>
-    ensures { option_map blamed result ≡ local_fault files.now.names (option_map repeated_of repeated.entry) }
+/// What is wrong with a name that has this order, as a finding. Its number is that of a name that stands already.
+fn name_finding(order: u32, of_name: &Option<Blame<'_>>) -> Option<Finding>
+    ensures { result ≡ name_finding order (option_map blamed of_name.now) }
 {
-    let repeated = repeated?;
-    Some(again(files, repeated.name, repeated.first))
+    match of_name {
+        Some(_) => Some(Finding { order, number: 8 }),
+        None => None,
+    }
 }
 
-/// The first error of a header by its place: too many locals, which stands at its bracket, its
-/// name, a local named again.
-fn header_fault<'a>(
-    files: &'a Stack,
-    unit: Place,
-    of_name: Option<Blame<'a>>,
-    headed: &Headed<'a>,
-) -> Option<Blame<'a>>
-    ensures { option_map blamed result
-        ≡ header_fault files.now.names unit (option_map blamed of_name.entry) (as_headed headed.entry.now) }
+/// What is told of a constant, by the least that was found.
+fn constant_blame<'t>(
+    tokens: &'t UnitTokens,
+    of_name: Option<Blame<'t>>,
+    found: Option<Finding>,
+) -> Option<Blame<'t>>
+    ensures { option_map blamed result ≡ constant_blame tokens.now (option_map blamed of_name.entry) found }
 {
-    if headed.are_too_many {
-        return Some(Blame {
-            place: unit,
-            message: Message::TooMany(Countable::Locals),
-        });
+    let finding = found?;
+    if finding.number == 8 {
+        of_name
+    } else {
+        Some(blame_of(tokens, finding))
     }
-    of_name.or(local_fault(files, headed.repeated))
 }

@@ -182,13 +182,13 @@ fn words_of_statements_begin_no_calls(rt: HostRuntime) -> Result<(), Fail> {
 
 /// Sources whose bad token the grammar has, with what is told of it.
 static ROWS: [(&[u8], &str); 7] = [
-    (b"[ Main; F; ];", "\";\""),
-    (b"[ Main; (F)(); ];", "\"(\""),
-    (b"[ Main; F(G()); ];", "\"(\""),
-    (b"[ Main; F()(); ];", "\"(\""),
-    (b"[ Main; return F(); ];", "\"(\""),
-    (b"[ Main; \"text\"; ];", "text"),
-    (b"[ Main; print , \"a\"; ];", "\",\""),
+    (b"[ Main; while (F) ; ];", "\"while\""),
+    (b"[ Main; print (char) 5; ];", "\"5\""),
+    (b"[ Main; F('word'); ];", "\"'word'\""),
+    (b"[ Main; F(\"text\"); ];", "text"),
+    (b"[ Main; return ##F; ];", "\"##\""),
+    (b"[ Main; F, G: ; ];", "\":\""),
+    (b"Array a --> 5;", "\"Array\""),
 ];
 
 /// Compiles `t.inf` of these files, and asserts the beginning of its messages.

@@ -8,7 +8,13 @@ use Rattle.inf_session.proofs.Bounds.{quoted_within}
 use Rattle.inf_session.proofs.Standings.{read_always}
 use Rattle.inf_reader.specs.Reading.{Stand, is_mode_ended}
 use Rattle.inf_reader.specs.Standing.{standing}
+use Rattle.inf_lexer.specs.Names.{Nest}
+use Rattle.inf_conditionals.specs.Judging.{judged}
+use Rattle.inf_reader.specs.Handing.{judged_taken}
+use Rattle.inf_session.specs.Session.{State, quoted_behind, stand_of}
+use Rattle.inf_session.specs.Standing.{state}
 use Rattle.inf_session.proofs.Stepping.{end_ends, spelled_as}
+use Rattle.inf_session.proofs.Taking.{step_is, token_is}
 use Rattle.inf_session.proofs.Weighing.{room_less}
 use Rattle.inf_session.proofs.session.Session.take_token.Goals as goal
 
@@ -19,7 +25,7 @@ returns-clause-moves g c =
     let took = c.in-Ok.ensures.took in
     elim took.one [
       | inl end ↦ inl (ap (λ (s : Stand). is_mode_ended s.reading.mode) c.in_ok-take_judged.ensures
-          ∙ end_ends c.names.result.now.names token.kind c.spelling.result.now token.place before.progress.work.names before.conditionals (standing before.progress) c.site-site.result _ _ c.in_ok-judged.ensures end)
+          ∙ end_ends c.names.result.now.names token.kind c.spelling.result.now token.place before.progress.work.output.names before.conditionals (standing before.progress) c.site-site.result _ _ c.in_ok-judged.ensures end)
       | inr less ↦ inr (room_less c.args.self.now.open_files.lexer c.next.new.self.lexer less c.in-Ok.ensures.few)
     ]
 
@@ -36,7 +42,7 @@ returns-clause-limits g c =
     let token = c.in-Ok.token in
     let same = judged_taken_same c.names.result.now.names (spelled_as token.kind c.spelling.result.now token.place) c.in_ok-judged.judged (standing c.args.self.now.progress) in
     let is = c.in_ok-take_judged.ensures in
-    (ap (λ (s : Stand). s.work.names.limit) is ∙ same.0, ap (λ (s : Stand). s.work.output.code.limits) is ∙ same.1)
+    (ap (λ (s : Stand). s.work.output.names.limit) is ∙ same.0, ap (λ (s : Stand). s.work.output.code.limits) is ∙ same.1)
 
 pub returns-clause-longest : goal.returns-clause-longest
 returns-clause-longest g c = λ before.
@@ -45,3 +51,22 @@ returns-clause-longest g c = λ before.
     let few = λ (is : is_quoted_kind token.kind ≡ true). subst (λ (bytes : List ℕ). length bytes ≤ most) (sym c.spelling.ensures) (c.in-Ok.ensures.quoted is) in
     subst (λ n. n ≤ most) (sym c.quoted_behind-self.ensures)
     (quoted_within c.site-site.result c.in_ok-judged.judged (spelled_as token.kind c.spelling.result.now token.place) c.args.self.now.quoted most few before)
+
+pub returns-clause-stepped : goal.returns-clause-stepped
+returns-clause-stepped g c = λ honest start nested told.
+    let files = g.F.Files in
+    let token = c.in-Ok.token in
+    let before : State = state (files.sources c.args.files.now) start (files.openings c.args.files.now) c.args.self.now told in
+    let now = nesting (files.sources c.args.files.now) start (files.openings c.next.new.files) c.next.new.self in
+    let reads = c.in-Ok.ensures.token honest start nested in
+    let bytes = c.spelling.result.now in
+    let names = c.names.result.now.names in
+    let same : names ≡ before.nesting.names = ap (λ (s : Nest). s.names) (c.names.ensures ∙ c.in-Ok.ensures.same.0) in
+    let spelled = spelled_as token.kind bytes token.place in
+    let is = token_is before token.kind bytes token.place reads.kind reads.place (c.spelling.ensures ∙ reads.bytes) in
+    let site = c.site-site.ensures in
+    let behind_it = c.in_ok-judged.ensures ∙ ap (λ site. judged site before.work.output.names spelled before.conditions) site in
+    let taken = c.in_ok-take_judged.ensures ∙ ap (λ names. judged_taken names spelled c.in_ok-judged.judged (stand_of before)) same in
+    let longest = c.quoted_behind-self.ensures ∙ ap (λ site. quoted_behind site c.in_ok-judged.judged spelled before.quoted) site in
+    step_is before now (record { now = c.take.new.self; judged = c.in_ok-judged.judged }) (standing c.take_judged.new.self) c.quoted_behind-self.result spelled
+    reads.goes_on is behind_it taken longest

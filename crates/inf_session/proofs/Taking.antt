@@ -1,0 +1,53 @@
+-- What a token does, by what each call of its turn says.
+use Rattle.std.proofs.Common.{◌≡◌, ℕ, List, ap, sym, ◌∙◌}
+use Rattle.inf_scanner.specs.declared.tokens.Place.{Place}
+use Rattle.inf_scanner.specs.declared.tokens.TokenKind.{TokenKind}
+use Rattle.inf_sources.specs.Cursors.{behind, read}
+use Rattle.inf_sources.specs.Inclusions.{Nesting}
+use Rattle.inf_unit.specs.Tokens.{Spelled}
+use Rattle.inf_conditionals.specs.Judging.{Behind, judged}
+use Rattle.inf_reader.specs.Handing.{judged_taken, site_of}
+use Rattle.inf_reader.specs.Reading.{Stand}
+use Rattle.inf_session.specs.Session.{State, quoted_behind, stand_of, stepped, token_of}
+use Rattle.inf_session.proofs.Stepping.{spelled_as}
+
+-- the state behind a token
+abbrev pub with_all : State → Nesting → Behind → Stand → ℕ → State
+with_all s n b x quoted = record {
+  nesting = n;
+  conditions = b.now;
+  reading = x.reading;
+  work = x.work;
+  told = s.told;
+  is_over = s.is_over;
+  quoted = quoted;
+}
+
+abbrev pub moved : State → Nesting
+moved s = record s.nesting { cursor = behind s.nesting.cursor (read s.nesting.cursor) }
+
+-- what it is by what becomes of the token among conditionals
+abbrev by_behind : State → Spelled → Behind → State
+by_behind s t b = with_all s (moved s) b (judged_taken s.nesting.names t b.judged (stand_of s)) (quoted_behind (site_of s.reading) b.judged t s.quoted)
+
+abbrev by_token : State → Spelled → State
+by_token s t = by_behind s t (judged (site_of s.reading) s.work.output.names t s.conditions)
+
+pub step_is : (s : State) (n : Nesting) (b : Behind) (x : Stand) (quoted : ℕ) (t : Spelled)
+    → n ≡ moved s → t ≡ token_of s.nesting.cursor → b ≡ judged (site_of s.reading) s.work.output.names t s.conditions
+    → x ≡ judged_taken s.nesting.names t b.judged (stand_of s) → quoted ≡ quoted_behind (site_of s.reading) b.judged t s.quoted
+    → with_all s n b x quoted ≡ stepped s
+step_is s n b x quoted t goes is behind_it taken longest =
+    ap (λ n. with_all s n b x quoted) goes
+    ∙ ap (λ x. with_all s (moved s) b x quoted) taken
+    ∙ ap (λ q. with_all s (moved s) b (judged_taken s.nesting.names t b.judged (stand_of s)) q) longest
+    ∙ ap (by_behind s t) behind_it
+    ∙ ap (by_token s) is
+
+pub token_is : (s : State) (k : TokenKind) (bytes : List ℕ) (place : Place) → k ≡ (read s.nesting.cursor).kind
+    → place ≡ record { file = s.nesting.cursor.file; line = (read s.nesting.cursor).line } → bytes ≡ (read s.nesting.cursor).kept.bytes
+    → spelled_as k bytes place ≡ token_of s.nesting.cursor
+token_is s k bytes place kind_is place_is bytes_are =
+    let r = read s.nesting.cursor in
+    ap (λ k. spelled_as k bytes place) kind_is ∙ ap (λ p. spelled_as r.kind bytes p) place_is
+    ∙ ap (λ bytes. spelled_as r.kind bytes (record { file = s.nesting.cursor.file; line = r.line })) bytes_are

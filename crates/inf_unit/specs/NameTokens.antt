@@ -1,0 +1,6 @@
+-- What the code's name tokens stand for.
+use Rattle.inf_symbol.specs.Spellings.{Name}
+use Rattle.inf_unit.specs.declared.unit_tokens.NameToken.{NameToken}
+
+abbrev pub named : NameToken → Name
+named n = record { bytes = n.bytes.now; place = n.place }

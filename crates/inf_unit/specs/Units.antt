@@ -1,0 +1,185 @@
+-- The unit at hand: its tokens, and what the grammar's actions gather of them.
+use Rattle.std.specs.Prelude.{ℕ, ◌+◌, ◌-◌, List, [], ◌∷◌, ◌++◌, length, min, slice_get, nat_le, nat_lt, Bool, true, false, ◌&&◌, if◌then◌else◌, Option, Some, None, option_map, unwrap_or}
+use Rattle.inf_scanner.specs.declared.tokens.Mark.{Mark}
+use Rattle.inf_scanner.specs.declared.tokens.Mark.TheVariants as mark
+use Rattle.inf_scanner.specs.declared.tokens.Place.{Place}
+use Rattle.inf_scanner.specs.declared.tokens.TokenKind.{TokenKind}
+use Rattle.inf_scanner.specs.declared.tokens.TokenKind.TheVariants as kind
+use Rattle.inf_gathering.specs.declared.gathering.Leaf.{Leaf}
+use Rattle.inf_gathering.specs.declared.gathering.Leaf.TheVariants as leaf
+use Rattle.inf_gathering.specs.Gatherings.{Gathering, nothing_gathered, with_bracket, with_call, with_closed_bracket, with_comma, with_leaf, with_list, with_part, with_prefix, with_suffix, with_test, with_two}
+use Rattle.inf_symbol.specs.Spellings.{Name}
+use Rattle.inf_syntax.specs.declared.actions.Action.{Action}
+use Rattle.inf_syntax.specs.declared.actions.Action.TheVariants as action
+use Rattle.inf_unit.specs.Tokens.{Spelled, is_mark, name_of}
+use Rattle.inf_unit.specs.Steps.{step_of}
+use Rattle.inf_unit.specs.declared.steps.Step.{Step}
+use Rattle.inf_unit.specs.declared.steps.Step.TheVariants as step
+use Rattle.inf_unit.specs.declared.unit.Item.{Item}
+use Rattle.inf_unit.specs.declared.unit.Item.TheVariants as item
+
+-- Its tokens so far; what is gathered of its expressions; what it prints, in order; where among its tokens its outermost expression begins, if one is
+-- open, and whether that surely is one; whether the unit has ended, but for its last token; and how many brackets and braces of its piece are open.
+pub record Unit : Type 0 where
+  pub tokens : List Spelled
+  pub gathering : Gathering
+  pub items : List Item
+  pub outer : Option ℕ
+  pub is_sure : Bool
+  pub is_over : Bool
+  pub depth : ℕ
+
+-- at the front of a piece
+abbrev pub no_unit : Unit
+no_unit = record { tokens = []; gathering = nothing_gathered; items = []; outer = None; is_sure = false; is_over = false; depth = 0 }
+
+-- the next token is the first of a unit
+abbrev pub begun : Unit → Unit
+begun u = record no_unit { depth = u.depth }
+
+-- the unit has ended, and its last token is still to come, or not
+abbrev pub over : Bool → Unit → Unit
+over has_last u = record no_unit { is_over = has_last; depth = u.depth }
+
+-- Tokens
+
+abbrev pub opened_more : Mark → ℕ → ℕ
+opened_more mark.OpenParenthesis depth = min (depth + 1) 4294967295
+opened_more mark.OpenBrace depth = min (depth + 1) 4294967295
+opened_more mark.CloseParenthesis depth = depth - 1
+opened_more mark.CloseBrace depth = depth - 1
+opened_more _ depth = depth
+
+abbrev pub depth_behind : TokenKind → ℕ → ℕ
+depth_behind (kind.Mark m) depth = opened_more m depth
+depth_behind _ depth = depth
+
+-- a token is taken
+abbrev pub taken : Spelled → Unit → Unit
+taken t u =
+    if u.is_over then record u { is_over = false }
+    else record u { tokens = u.tokens ++ t ∷ []; depth = depth_behind t.kind u.depth }
+
+-- the kind and the place of the token at a place of the unit, where there is one
+abbrev pub kind_at : List Spelled → ℕ → Option TokenKind
+kind_at tokens at = option_map (λ (t : Spelled). t.kind) (slice_get tokens at)
+
+abbrev pub place_at : List Spelled → ℕ → Option Place
+place_at tokens at = option_map (λ (t : Spelled). t.place) (slice_get tokens at)
+
+-- the name that a token is, if it is one; no name has more than 32 bytes
+abbrev pub short_name_of : Spelled → Option Name
+short_name_of t = if nat_le (length t.bytes) 32 then name_of t else None
+
+-- the name at a place of the unit, if the token there is one
+abbrev pub name_by : Option Spelled → Option Name
+name_by None = None
+name_by (Some t) = short_name_of t
+
+abbrev pub name_at : List Spelled → ℕ → Option Name
+name_at tokens at = name_by (slice_get tokens at)
+
+-- the place of the first token; where there is none yet, that of the next
+abbrev pub first_place : List Spelled → Place → Place
+first_place tokens next = unwrap_or (place_at tokens 0) next
+
+-- the place of the last token, where there is one
+abbrev pub last_place : List Spelled → Place → Place
+last_place tokens other = unwrap_or (place_at tokens (length tokens - 1)) other
+
+-- the bytes of the first text among them
+abbrev pub quoted_by : TokenKind → List ℕ → List ℕ → List ℕ
+quoted_by kind.Text bytes others = bytes
+quoted_by _ bytes others = others
+
+abbrev pub quoted_in : List Spelled → List ℕ
+quoted_in [] = []
+quoted_in (t ∷ tokens) = quoted_by t.kind t.bytes (quoted_in tokens)
+
+-- whether they begin with a `#`
+abbrev pub begins_with_sign : Option TokenKind → Bool
+begins_with_sign None = false
+begins_with_sign (Some k) = is_mark mark.Hash k
+
+-- the order of the name that a directive declares: behind its word, before which a `#` may stand
+abbrev pub name_order : List Spelled → ℕ
+name_order tokens = if begins_with_sign (kind_at tokens 0) then 2 else 1
+
+-- the names among the tokens, in order
+abbrev pub with_name : Option Name → List Name → List Name
+with_name None names = names
+with_name (Some n) names = names ++ n ∷ []
+
+abbrev pub names_from : List Spelled → List Name → List Name
+names_from [] names = names
+names_from (t ∷ tokens) names = names_from tokens (with_name (short_name_of t) names)
+
+abbrev pub names_in : List Spelled → List Name
+names_in tokens = names_from tokens []
+
+-- Where the first token stands by which the outermost expression is too long, if it may have so many and surely is one.
+abbrev pub long_from : List Spelled → ℕ → ℕ → Bool → Option Place
+long_from tokens most outer is_sure = if is_sure && nat_lt most (length tokens - outer) then place_at tokens (outer + most) else None
+
+abbrev pub long_by : List Spelled → ℕ → Bool → Option ℕ → Option Place
+long_by tokens most is_sure None = None
+long_by tokens most is_sure (Some outer) = long_from tokens most outer is_sure
+
+abbrev pub long_at : ℕ → Unit → Option Place
+long_at most u = long_by u.tokens most u.is_sure u.outer
+
+-- Actions
+
+-- the place of the last token among them
+abbrev pub last_leaf : Unit → ℕ
+last_leaf u = length u.tokens - 1
+
+-- The order of a token at a place of its unit. No unit has so many tokens that two have one order.
+unfoldable pub order : ℕ → ℕ
+order at = min at 4294967295
+
+-- the leaf that a token at a place of its unit is
+abbrev pub leaf_of : ℕ → TokenKind → Leaf
+leaf_of at (kind.Number n) = leaf.Number n
+leaf_of at (kind.Char c) = leaf.Char c
+leaf_of at (kind.Word w) = leaf.Word w
+leaf_of at kind.Text = leaf.Text at
+leaf_of at _ = leaf.Name at
+
+abbrev pub with_last : ℕ → Option TokenKind → Gathering → Gathering
+with_last at None g = g
+with_last at (Some k) g = with_leaf (order at) (order at) (leaf_of at k) g
+
+-- what is gathered of an expression behind some tokens
+abbrev pub gathered : Step → List Spelled → Gathering → Gathering
+gathered step.Leaf tokens g = with_last (length tokens - 1) (kind_at tokens (length tokens - 1)) g
+gathered (step.Prefix op) tokens g = with_prefix op g
+gathered (step.Suffix op) tokens g = with_suffix op g
+gathered (step.Two op) tokens g = with_two op g
+gathered step.Comma tokens g = with_comma g
+gathered step.List tokens g = with_list g
+gathered step.Part tokens g = with_part g
+gathered step.Call tokens g = with_call g
+gathered (step.Test op) tokens g = with_test op g
+gathered step.Bracket tokens g = with_bracket (order (length tokens - 1)) g
+gathered step.Bracketed tokens g = with_closed_bracket g
+
+abbrev pub stepped : Option Step → Unit → Unit
+stepped None u = u
+stepped (Some s) u = record u { gathering = gathered s u.tokens u.gathering }
+
+-- one thing more is printed, where an outermost expression has ended
+abbrev pub printed : Item → Unit → Unit
+printed i u = record u { items = u.items ++ i ∷ []; outer = None }
+
+-- what an action gathers; one that ends a unit gathers nothing
+abbrev pub acted : Action → Unit → Unit
+acted action.Begin u = begun u
+acted action.Outer u = record u { outer = Some (length u.tokens); is_sure = true }
+acted action.OuterMaybe u = record u { outer = Some (length u.tokens); is_sure = false }
+acted action.OuterWord u = record u { outer = Some (last_leaf u); is_sure = true }
+acted action.OuterSure u = record u { is_sure = true }
+acted action.OuterEnd u = record u { outer = None }
+acted action.PrintText u = printed (item.Text (last_leaf u)) u
+acted action.PrintValue u = printed item.Value u
+acted a u = stepped (step_of a) u

@@ -1,0 +1,201 @@
+//! The tokens of a unit.
+ghost use Rattle.std.specs.Prelude.{◌≡◌, ◌≤◌, [], ◌∷◌, ◌++◌, IfOk, IfSome, OnOk, length, map, option_map, slice_get};
+ghost use Rattle.inf_symbol.specs.Spellings.{as_name};
+ghost use Rattle.inf_unit.specs.Kept.{as_spelled};
+ghost use Rattle.inf_unit.specs.NameTokens.{named};
+ghost use Rattle.inf_unit.specs.Tokens.{spelled};
+ghost use Rattle.inf_unit.specs.Units.{kind_at, last_place, name_at, name_order, names_in, place_at, quoted_in, short_name_of, with_name};
+
+use crate::tokens::{Spelled, is_mark};
+use inf_scanner::{Mark, Place, TokenKind};
+use inf_symbol::spellings::{MOST_NAME_BYTES, Name};
+use std::alloc::{AllocError, Global};
+use std::marker::Model;
+
+/// A token that is kept.
+#[derive(Drop)]
+pub struct Kept {
+    kind: TokenKind,
+    bytes: Vec<u8>,
+    place: Place,
+}
+
+/// A name among the tokens of a unit.
+#[derive(Clone, Copy, Debug)]
+pub struct NameToken<'t> {
+    /// At most 32.
+    pub bytes: &'t [u8],
+    pub place: Place,
+}
+
+/// The tokens of a unit, in order.
+#[derive(Drop)]
+pub struct UnitTokens {
+    alloc: Global,
+    kept: Vec<Kept>,
+}
+
+impl Model for UnitTokens {
+    ghost use Rattle.std.specs.Prelude.{List, map};
+    ghost use Rattle.inf_unit.specs.Tokens.{Spelled};
+    ghost use Rattle.inf_unit.specs.Kept.{as_spelled};
+
+    ghost Value = { List Spelled };
+
+    ghost view = { λ t. map as_spelled t.kept.items };
+}
+
+/// The name that a token is, if it is one. It has at most 32 bytes.
+fn name_of<'t>(token: &Spelled<'t>) -> Option<NameToken<'t>>
+    ensures value { option_map named result ≡ short_name_of (spelled token.now) }
+    ensures few { IfSome result (λ name. length name.bytes.now ≤ 32) }
+{
+    match token.kind {
+        TokenKind::Name if token.bytes.len() <= MOST_NAME_BYTES => Some(NameToken {
+            bytes: token.bytes,
+            place: token.place,
+        }),
+        _ => None,
+    }
+}
+
+impl Kept {
+    /// As units see it.
+    fn spelled(&self) -> Spelled<'_>
+        ensures { spelled result ≡ as_spelled self.now }
+    {
+        Spelled {
+            kind: self.kind,
+            bytes: self.bytes.as_slice(),
+            place: self.place,
+        }
+    }
+}
+
+impl UnitTokens {
+    /// None. It takes no memory until the first one comes.
+    pub fn new(alloc: Global) -> UnitTokens
+        ensures { result ≡ [] }
+    {
+        UnitTokens {
+            alloc,
+            kept: Vec::new(alloc),
+        }
+    }
+
+    /// Forgets all.
+    pub fn clear(&mut self)
+        ensures { self.new ≡ [] }
+    {
+        self.kept.clear();
+    }
+
+    /// How many there are.
+    pub fn len(&self) -> usize
+        ensures { result ≡ length self.now }
+    {
+        self.kept.len()
+    }
+
+    /// One more.
+    pub fn add(&mut self, token: &Spelled<'_>) -> Result<(), AllocError>
+        ensures { OnOk result (self.new ≡ self.old ++ spelled token.now ∷ []) }
+    {
+        let mut bytes = Vec::new(self.alloc);
+        bytes.extend_from_slice(token.bytes)?;
+        self.kept.push(Kept {
+            kind: token.kind,
+            bytes,
+            place: token.place,
+        })?;
+        Ok(())
+    }
+
+    /// The token at a place among them, counted from 0.
+    pub fn get(&self, at: usize) -> Option<Spelled<'_>>
+        ensures { option_map spelled result ≡ slice_get self.now at }
+    {
+        match self.kept.get(at) {
+            Some(token) => Some(token.spelled()),
+            None => None,
+        }
+    }
+
+    /// What the token at a place among them is.
+    pub fn kind(&self, at: usize) -> Option<TokenKind>
+        ensures { result ≡ kind_at self.now at }
+    {
+        let token = self.kept.get(at)?;
+        Some(token.kind)
+    }
+
+    /// Where the token at a place among them stands.
+    pub fn place(&self, at: usize) -> Option<Place>
+        ensures { result ≡ place_at self.now at }
+    {
+        let token = self.kept.get(at)?;
+        Some(token.place)
+    }
+
+    /// The name at a place among them, if the token there is one.
+    pub fn name_at(&self, at: usize) -> Option<NameToken<'_>>
+        ensures value { option_map named result ≡ name_at self.now at }
+        ensures few { IfSome result (λ name. length name.bytes.now ≤ 32) }
+    {
+        match self.get(at) {
+            Some(token) => name_of(&token),
+            None => None,
+        }
+    }
+
+    /// The place of the last one, where there is one.
+    pub fn last_place(&self, other: Place) -> Place
+        ensures { result ≡ last_place self.now other }
+    {
+        self.place(self.len().saturating_sub(1)).unwrap_or(other)
+    }
+
+    /// The bytes of the first text among them; none, where there is no text.
+    pub fn quoted(&self) -> &[u8]
+        ensures { result.now ≡ quoted_in self.now }
+    {
+        for token in &self.kept {
+            if let TokenKind::Text = token.kind {
+                return token.bytes.as_slice();
+            }
+        }
+        b""
+    }
+
+    /// The order of the name that a directive declares: behind its word, before which a `#` may stand.
+    pub fn name_order(&self) -> u32
+        ensures { result ≡ name_order self.now }
+    {
+        match self.kind(0) {
+            Some(kind) if is_mark(kind, Mark::Hash) => 2,
+            _ => 1,
+        }
+    }
+
+    /// The names among them, in order.
+    pub fn names(&self, alloc: Global) -> Result<Vec<Name>, AllocError>
+        ensures { IfOk result (λ names. map as_name names.items ≡ names_in self.now) }
+    {
+        let mut names = Vec::new(alloc);
+        for token in &self.kept {
+            add_name(name_of(&token.spelled()), &mut names)?;
+        }
+        Ok(names)
+    }
+}
+
+/// One name more, if there is one.
+fn add_name(name: Option<NameToken<'_>>, names: &mut Vec<Name>) -> Result<(), AllocError>
+    requires { IfSome name (λ n. length n.bytes.now ≤ 32) }
+    ensures { OnOk result (map as_name names.new.items ≡ with_name (option_map named name.entry) (map as_name names.old.items)) }
+{
+    if let Some(name) = name {
+        names.push(Name::new(name.bytes, name.place))?;
+    }
+    Ok(())
+}

@@ -1,1 +1,0 @@
--- The instruction has one operand, which is no offset, or none.

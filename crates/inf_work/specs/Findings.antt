@@ -1,0 +1,57 @@
+-- What is told of what is wrong with a unit.
+use Rattle.std.specs.Prelude.{ℕ, ◌==◌, List, slice_get, if◌then◌else◌, Option, Some, None}
+use Rattle.inf_scanner.specs.declared.tokens.Place.{Place}
+use Rattle.inf_expressions.specs.declared.findings.Finding.{Finding}
+use Rattle.inf_names.specs.declared.symbols.DeclareFault.{DeclareFault}
+use Rattle.inf_names.specs.declared.symbols.DeclareFault.TheVariants as declaring
+use Rattle.inf_report.specs.Messages.{ConstantOutOfRange, Declared, End, Message, NotConstant, SystemName, Told, TooMany, TooManyArguments, WrongKind}
+use Rattle.inf_report.specs.declared.messages.Countable.TheVariants as countable
+use Rattle.inf_symbol.specs.Spellings.{Name}
+use Rattle.inf_symbol.specs.Locals.{Headed, Repeated}
+use Rattle.inf_unit.specs.Messages.{FileNames, Blame, location}
+use Rattle.inf_unit.specs.Tokens.{Spelled, told}
+use Rattle.inf_work.specs.Words.{nowhere}
+
+-- Expressions
+
+-- the message of a finding at a token, by its number in the table of errors
+abbrev pub message_of : ℕ → Told → Message
+message_of number t =
+    if number == 9 then WrongKind t else if number == 12 then NotConstant else if number == 13 then ConstantOutOfRange else TooManyArguments
+
+abbrev pub blame_at : ℕ → Option Spelled → Blame
+blame_at number None = record { place = nowhere; message = message_of number End }
+blame_at number (Some t) = record { place = t.place; message = message_of number (told t) }
+
+abbrev pub blame_of : List Spelled → Finding → Blame
+blame_of tokens f = blame_at f.number (slice_get tokens f.order)
+
+-- Names
+
+-- a name that was declared at a place before
+abbrev pub again : FileNames → Name → Place → Blame
+again files n first = record { place = n.place; message = Declared n.bytes (location files first) }
+
+-- What is wrong with declaring a name, by what the names refuse: one that the language has, and the first declaration, stay as they
+-- are. That there are too many names is no error of the unit.
+abbrev pub name_fault : FileNames → Name → Option (DeclareFault Place) → Option Blame
+name_fault files n (Some (declaring.Present None)) = Some (record { place = n.place; message = SystemName n.bytes })
+name_fault files n (Some (declaring.Present (Some first))) = Some (again files n first)
+name_fault files n _ = None
+
+-- Headers
+
+abbrev pub first_fault : Option Blame → Option Blame → Option Blame
+first_fault (Some b) later = Some b
+first_fault None later = later
+
+-- a local that is named again
+abbrev pub local_fault : FileNames → Option Repeated → Option Blame
+local_fault files None = None
+local_fault files (Some r) = Some (again files r.name r.first)
+
+-- The first error of a header by its place: too many locals, which stands at its bracket, its name, a local named again.
+abbrev pub header_fault : FileNames → Place → Option Blame → Headed → Option Blame
+header_fault files unit of_name h =
+    if h.are_too_many then Some (record { place = unit; message = TooMany countable.Locals })
+    else first_fault of_name (local_fault files h.repeated)

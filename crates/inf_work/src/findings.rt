@@ -1,0 +1,104 @@
+//! What is told of what is wrong with a unit.
+ghost use Rattle.std.specs.Prelude.{◌≡◌, option_map};
+ghost use Rattle.inf_report.specs.Meant.{meant, named};
+ghost use Rattle.inf_symbol.specs.LocalList.{headed as as_headed, repeated as repeated_of};
+ghost use Rattle.inf_symbol.specs.Spellings.{as_name};
+ghost use Rattle.inf_unit.specs.Blames.{blamed};
+ghost use Rattle.inf_work.specs.Findings.{again, blame_of, header_fault, local_fault, message_of, name_fault};
+
+use inf_expressions::{Finding, NOT_CONSTANT, OUT_OF_RANGE, WRONG_KIND};
+use inf_lexer::{Place, Stack};
+use inf_names::symbols::DeclareFault;
+use inf_report::messages::{Countable, Message, Told};
+use inf_symbol::locals::{Headed, Repeated};
+use inf_symbol::spellings::Name;
+use inf_unit::messages::{Blame, location};
+use inf_unit::tokens::told;
+use inf_unit::unit_tokens::UnitTokens;
+
+/// Before the first unit nothing was laid.
+pub(crate) const NOWHERE: Place = Place { file: 0, line: 0 };
+
+/// The message of a finding at a token, by its number in the table of errors.
+fn message_of<'t>(number: u8, token: Told<'t>) -> Message<'t>
+    ensures { meant result ≡ message_of number (named token.entry) }
+{
+    match number {
+        WRONG_KIND => Message::WrongKind(token),
+        NOT_CONSTANT => Message::NotConstant,
+        OUT_OF_RANGE => Message::ConstantOutOfRange,
+        _ => Message::TooManyArguments,
+    }
+}
+
+/// What a finding of a unit with these tokens is told as.
+pub(crate) fn blame_of<'t>(tokens: &'t UnitTokens, finding: Finding) -> Blame<'t>
+    ensures { blamed result ≡ blame_of tokens.now finding }
+{
+    match tokens.get(finding.order as usize) {
+        Some(token) => Blame {
+            place: token.place,
+            message: message_of(finding.number, told(&token)),
+        },
+        None => Blame {
+            place: NOWHERE,
+            message: message_of(finding.number, Told::End),
+        },
+    }
+}
+
+/// A name that was declared at a place before.
+fn again<'a>(files: &'a Stack, name: &'a Name, first: Place) -> Blame<'a>
+    ensures { blamed result ≡ again files.now.names (as_name name.now) first }
+{
+    Blame {
+        place: name.place,
+        message: Message::Declared(name.bytes(), location(files, first)),
+    }
+}
+
+/// What is wrong with declaring a name, by what the names refuse. That there are too many is no error of the unit.
+pub(crate) fn name_fault<'a>(
+    files: &'a Stack,
+    name: &'a Name,
+    refused: Option<DeclareFault<Place>>,
+) -> Option<Blame<'a>>
+    ensures { option_map blamed result ≡ name_fault files.now.names (as_name name.now) refused }
+{
+    match refused? {
+        DeclareFault::Present(None) => Some(Blame {
+            place: name.place,
+            message: Message::SystemName(name.bytes()),
+        }),
+        DeclareFault::Present(Some(first)) => Some(again(files, name, first)),
+        DeclareFault::Full | DeclareFault::Memory => None,
+    }
+}
+
+/// A local that is named again.
+fn local_fault<'a>(files: &'a Stack, repeated: Option<Repeated<'a>>) -> Option<Blame<'a>>
+    ensures { option_map blamed result ≡ local_fault files.now.names (option_map repeated_of repeated.entry) }
+{
+    let repeated = repeated?;
+    Some(again(files, repeated.name, repeated.first))
+}
+
+/// The first error of a header by its place: too many locals, which stands at its bracket, its
+/// name, a local named again.
+pub(crate) fn header_fault<'a>(
+    files: &'a Stack,
+    unit: Place,
+    of_name: Option<Blame<'a>>,
+    headed: &Headed<'a>,
+) -> Option<Blame<'a>>
+    ensures { option_map blamed result
+        ≡ header_fault files.now.names unit (option_map blamed of_name.entry) (as_headed headed.entry.now) }
+{
+    if headed.are_too_many {
+        return Some(Blame {
+            place: unit,
+            message: Message::TooMany(Countable::Locals),
+        });
+    }
+    of_name.or(local_fault(files, headed.repeated))
+}
