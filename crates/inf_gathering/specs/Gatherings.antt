@@ -1,5 +1,5 @@
 -- What a unit gathers while it is read.
-use Rattle.std.specs.Prelude.{ℕ, ◌+◌, ◌-◌, ◌==◌, List, [], ◌∷◌, ◌++◌, length, drop, if◌then◌else◌}
+use Rattle.std.specs.Prelude.{ℕ, ◌+◌, ◌-◌, ◌==◌, List, [], ◌∷◌, ◌++◌, length, drop, take, Bool, if◌then◌else◌}
 use Rattle.inf_expressions.specs.declared.symbols.Symbol.{Symbol}
 use Rattle.inf_expressions.specs.declared.symbols.Symbol.TheVariants as symbol
 use Rattle.inf_expressions.specs.declared.operators.Unary.{Unary}
@@ -95,3 +95,12 @@ closed_by (order ∷ brackets) g = record g { symbols = g.symbols ++ symbol.Brac
 
 abbrev pub with_closed_bracket : Gathering → Gathering
 with_closed_bracket g = closed_by g.brackets g
+
+-- The bracket that was opened last, with the latest leaf in it, is a print rule. One of the language is no expression.
+abbrev pub without_leaf : Gathering → Gathering
+without_leaf g = record g { leaves = take (length g.leaves - 1) g.leaves; symbols = take (length g.symbols - 1) g.symbols; firsts = drop 1 g.firsts }
+
+abbrev pub with_rule : Bool → Gathering → Gathering
+with_rule is_own g =
+    let closed = record g { brackets = drop 1 g.brackets } in
+    if is_own then without_leaf closed else closed

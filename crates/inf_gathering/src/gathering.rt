@@ -1,6 +1,6 @@
 //! What a unit gathers of its expressions.
 ghost use Rattle.std.specs.Prelude.{◌≡◌, OnOk, [], drop, reverse};
-ghost use Rattle.inf_gathering.specs.Gatherings.{beginning, comma, counted, latest, nothing_gathered, one_more, with_bracket, with_call, with_closed_bracket, with_comma, with_leaf, with_list, with_part, with_prefix, with_suffix, with_test, with_two};
+ghost use Rattle.inf_gathering.specs.Gatherings.{beginning, comma, counted, latest, nothing_gathered, one_more, with_bracket, with_call, with_closed_bracket, with_comma, with_leaf, with_list, with_part, with_prefix, with_rule, with_suffix, with_test, with_two};
 
 use inf_expressions::{Binary, Symbol, Unary};
 use inf_scanner::DictionaryWord;
@@ -13,6 +13,8 @@ use std::marker::Model;
 #[derive(Clone, Copy, Debug, PartialEq, Eq)]
 pub enum Leaf {
     Name(usize),
+    /// A name that is an operand of an assembly line by itself: one of the stack is told apart there.
+    Alone(usize),
     Number(u16),
     Char(Zscii),
     Word(DictionaryWord),
@@ -187,6 +189,18 @@ impl Gathering {
     {
         self.brackets.push(order)?;
         Ok(())
+    }
+
+    /// The bracket that was opened last, with the latest leaf in it, is a print rule: one of the language is no expression.
+    pub fn rule(&mut self, is_own: bool)
+        ensures { self.new ≡ with_rule is_own self.old }
+    {
+        self.brackets.pop();
+        if is_own {
+            self.leaves.truncate(self.leaves.len().saturating_sub(1));
+            self.symbols.truncate(self.symbols.len().saturating_sub(1));
+            self.firsts.pop();
+        }
     }
 
     /// The latest expression stands in the bracket that was opened last.

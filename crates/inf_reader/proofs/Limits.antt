@@ -12,7 +12,8 @@ use Rattle.inf_conditionals.specs.declared.judged.Handed.{Handed}
 use Rattle.inf_conditionals.specs.declared.judged.Handed.TheVariants as handed
 use Rattle.inf_conditionals.specs.declared.judged.Judged.{Judged}
 use Rattle.inf_conditionals.specs.declared.judged.Sign.{Sign}
-use Rattle.inf_work.specs.Actions.{Work, acted, piece_begun as work_begun, took as work_took}
+use Rattle.inf_work.specs.Actions.{Work, piece_begun as work_begun, took as work_took}
+use Rattle.inf_work.specs.Acting.{acted}
 use Rattle.inf_work.specs.Limits.{SameLimits}
 use Rattle.inf_work.proofs.Limits.{acted_same, begun_at_same, cut_same, same_then, took_same as work_took_same}
 use Rattle.inf_reader.specs.Handing.{handed_as, hash, judged_taken, lone_told, sign_taken, token_taken, unfit_in, unit_ended}

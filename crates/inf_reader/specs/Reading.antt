@@ -21,7 +21,8 @@ use Rattle.inf_machine.specs.declared.symbols.Symbol.TheVariants.{Rule}
 use Rattle.inf_machine.specs.Machine.{fits, taken}
 use Rattle.inf_grammar.specs.Routines.{is_in_routine}
 use Rattle.inf_grammar.specs.Language.{grammar, known}
-use Rattle.inf_work.specs.Actions.{Work, acted, cut, no_work, piece_begun as work_begun, took as work_took}
+use Rattle.inf_work.specs.Actions.{Work, cut, no_work, piece_begun as work_begun, took as work_took}
+use Rattle.inf_work.specs.Acting.{acted}
 use Rattle.inf_sources.specs.Cursors.{Cursor, front}
 use Rattle.inf_reader.specs.Cursors.{next_token}
 use Rattle.inf_reader.specs.Tests.{atom_of, complaint_of}

@@ -3,7 +3,7 @@ use Rattle.std.specs.Prelude.{List, [], ◌∷◌}
 use Rattle.inf_machine.specs.Grammar.{Row}
 use Rattle.inf_syntax.specs.declared.actions.Action.{Action}
 use Rattle.inf_syntax.specs.Rows.{row, row_unless}
-use Rattle.inf_syntax.specs.Parts.{ !action, !asm_text, !assign, !begin, !bracket, !bracketed, !branch, !branch_not, !call, !char, !clear, !close, !comma, !count, !decrement_after, !decrement_before, !deeper, !else, !end_for_start, !end_for_step, !end_for_test, !end_if, !end_objectloop, !end_statement, !end_switch, !end_until, !end_while, !for_top, !increment_after, !increment_before, !loop, !member, !member_address, !member_length, !name, !negate, !number, !open_do, !open_for, !open_if, !open_objectloop, !open_switch, !open_while, !outer, !outer_end, !outer_maybe, !outer_sure, !part, !print_text, !print_value, !set, !store, !text, !until, 'arrow', 'assign', 'bit_not', 'close_brace', 'close_parenthesis', 'colon', 'comma', 'decrement', 'dot', 'dot_and', 'dot_hash', 'else', 'if', 'increment', 'minus', 'new_line', 'open_brace', 'open_parenthesis', 'print', 'print_ret', 'question', 'quit', 'remove', 'return', 'rfalse', 'rtrue', 'semicolon', 'spaces', 'to', 'until', BEGINNAME, CHAR, NAME, NUMBER, OPERAND, TEXT, act_1, act_2, act_3, address_operator, address_tail, after_prim, after_unary, array_operator, array_tail, assembly_1, assembly_2, assembly_3, assign, assign_tail, bracket_item, bracket_name, bracket_name_1, bracket_name_2, bracketed, branch, branch_1, call, call_1, call_2, else_part, end, entry, expression, expression_tail, first_case, for_rest_1, for_rest_2, for_rest_3, give_rest_1, if_rest, inc, item, item_1, item_2, logic_operator, logic_tail, mark_statement, mark_statement_1, member_operator, neg, operands, operands_1, operands_2, operator, other_assign, other_operator, other_prim, outer_operator, plain_prim, plain_word, post, post_tail, prefixed, prim, print_rest, print_rest_1, return_rest, return_rest_1, statement, statement_1, statement_2, statement_3, statement_4, statement_end, step_operator, step_prefix, step_tail, store_or_branch, store_or_branch_1, sum_operator, sum_tail, switch_item, switch_rest_1, switch_rest_2, term_operator, term_tail, test, test_tail, text_statement, text_statement_1}
+use Rattle.inf_syntax.specs.Parts.{ !action, !asm_text, !assign, !begin, !bracket, !bracketed, !branch, !branch_not, !call, !char, !clear, !close, !comma, !count, !decrement_after, !decrement_before, !deeper, !else, !end_for_start, !end_for_step, !end_for_test, !end_if, !end_objectloop, !end_statement, !end_switch, !end_until, !end_while, !for_top, !increment_after, !increment_before, !loop, !member, !member_address, !member_length, !name, !negate, !number, !open_do, !open_for, !open_if, !open_objectloop, !open_switch, !open_while, !outer, !outer_end, !outer_maybe, !outer_sure, !part, !print_text, !print_value, !set, !store, !until, 'arrow', 'assign', 'at', 'bit_not', 'break', 'close_brace', 'close_parenthesis', 'colon', 'comma', 'continue', 'decrement', 'do', 'dot', 'dot_and', 'dot_hash', 'else', 'for', 'give', 'if', 'increment', 'jump', 'minus', 'move', 'new_line', 'objectloop', 'open_brace', 'open_parenthesis', 'print', 'print_ret', 'question', 'quit', 'remove', 'return', 'rfalse', 'rtrue', 'semicolon', 'spaces', 'style', 'switch', 'to', 'until', 'while', BEGINNAME, CHAR, NAME, NUMBER, OPERAND, RESERVED, TEXT, act_1, act_2, act_3, address_operator, address_tail, after_prim, after_unary, array_operator, array_tail, assembly, assembly_1, assembly_3, assign, assign_tail, bracket_item, bracket_name, bracket_name_1, bracket_name_2, bracketed, branch, branch_1, call, call_1, call_2, do_rest, else_part, end, entry, expression, expression_tail, first_case, for_rest, for_rest_1, for_rest_2, for_rest_3, give_rest, give_rest_1, if_rest, inc, item, item_1, item_2, jump_rest, logic_operator, logic_tail, mark_statement, mark_statement_1, member_operator, move_rest, neg, objectloop_rest, of_expression, operands, operands_1, operands_2, operator, other_assign, other_operator, other_prim, outer_operator, plain_prim, plain_word, post, post_tail, prefixed, prim, print_rest, print_rest_1, return_rest, return_rest_1, ruled, statement, statement_1, statement_2, statement_3, statement_4, statement_5, statement_end, step_operator, step_prefix, step_tail, store_or_branch, store_or_branch_1, style_rest, sum_operator, sum_tail, switch_item, switch_rest, switch_rest_1, switch_rest_2, term_operator, term_tail, test, test_tail, text_statement, text_statement_1, while_rest}
 
 abbrev pub rules_2 : List (List (Row Action))
 rules_2 =
@@ -110,6 +110,11 @@ rules_2 =
     ∷ row (!begin ∷ statement_4 ∷ print_rest ∷ [])
     ∷ row (!begin ∷ 'return' ∷ return_rest ∷ [])
     ∷ row (!begin ∷ plain_word ∷ end ∷ [])
+    ∷ row (!begin ∷ 'jump' ∷ jump_rest ∷ [])
+    ∷ row (!begin ∷ 'give' ∷ give_rest ∷ [])
+    ∷ row (!begin ∷ 'move' ∷ move_rest ∷ [])
+    ∷ row (!begin ∷ statement_5 ∷ of_expression ∷ [])
+    ∷ row (!begin ∷ 'style' ∷ style_rest ∷ [])
     ∷ [])
     -- statement_1
     ∷ (row (plain_prim ∷ [])
@@ -121,6 +126,11 @@ rules_2 =
     ∷ [])
     -- statement_3
     ∷ (row ('if' ∷ if_rest ∷ [])
+    ∷ row ('while' ∷ while_rest ∷ [])
+    ∷ row ('do' ∷ do_rest ∷ [])
+    ∷ row ('for' ∷ for_rest ∷ [])
+    ∷ row ('objectloop' ∷ objectloop_rest ∷ [])
+    ∷ row ('switch' ∷ switch_rest ∷ [])
     ∷ [])
     -- statement_4
     ∷ (row ('print' ∷ [])
@@ -131,7 +141,9 @@ rules_2 =
     ∷ row ('spaces' ∷ [])
     ∷ [])
     -- plain_word
-    ∷ (row ('quit' ∷ [])
+    ∷ (row ('break' ∷ [])
+    ∷ row ('continue' ∷ [])
+    ∷ row ('quit' ∷ [])
     ∷ row ('rtrue' ∷ [])
     ∷ row ('rfalse' ∷ [])
     ∷ row ('new_line' ∷ [])
@@ -145,6 +157,8 @@ rules_2 =
     -- mark_statement
     ∷ (row (!begin ∷ end ∷ [])
     ∷ row ('open_brace' ∷ mark_statement_1 ∷ 'close_brace' ∷ [])
+    ∷ row (!begin ∷ 'dot' ∷ NAME ∷ end ∷ [])
+    ∷ row (!begin ∷ 'at' ∷ NAME ∷ assembly ∷ end ∷ [])
     ∷ [])
     -- mark_statement_1
     ∷ (row (statement ∷ mark_statement_1 ∷ [])
@@ -262,7 +276,6 @@ rules_2 =
     ∷ [])
     -- assembly_1
     ∷ (row (!asm_text ∷ [])
-    ∷ row (!outer_sure ∷ !text ∷ !outer_end ∷ assembly_2 ∷ [])
     ∷ [])
     -- assembly_2
     ∷ (row (!outer ∷ entry ∷ !outer_end ∷ operands ∷ [])
@@ -315,7 +328,8 @@ rules_2 =
     ∷ row ('minus' ∷ neg ∷ !negate ∷ after_unary ∷ [])
     ∷ [])
     -- bracket_item
-    ∷ (row (OPERAND ∷ !name ∷ bracket_name ∷ [])
+    ∷ (row (!outer_end ∷ RESERVED ∷ !name ∷ 'close_parenthesis' ∷ ruled ∷ [])
+    ∷ row (OPERAND ∷ !name ∷ bracket_name ∷ [])
     ∷ row (!outer_sure ∷ other_assign ∷ expression_tail ∷ !bracketed ∷ 'close_parenthesis' ∷ after_prim ∷ !print_value ∷ [])
     ∷ [])
     -- bracket_name

@@ -3,12 +3,13 @@ use Rattle.std.specs.Prelude.{List, [], ◌∷◌}
 use Rattle.inf_machine.specs.Grammar.{Row}
 use Rattle.inf_syntax.specs.declared.actions.Action.{Action}
 use Rattle.inf_syntax.specs.Rows.{row}
-use Rattle.inf_syntax.specs.Parts.{ !begin, !bracketed, !comma, !default, !end_case, !name, !negate, !outer, !outer_maybe, !outer_sure, !outer_word, !print_rule, !print_text, !print_value, !rule, !text, !to, 'colon', 'comma', 'default', 'do', 'else', 'for', 'give', 'if', 'jump', 'minus', 'move', 'objectloop', 'print', 'print_ret', 'remove', 'return', 'spaces', 'string', 'style', 'switch', 'to', 'while', CASENAME, NOTDEFAULT, NOTTO, OPERAND, TEXT, after_prim, after_unary, assign, bracketed, case_end, case_value, case_value_1, do_rest, end, entry, expression_tail, first_case_1, first_case_2, first_case_3, first_case_4, for_rest, give_rest, if_rest, inner_operator, jump_rest, mark_statement, minus_more, minus_more_1, move_rest, neg, objectloop_rest, of_expression, operator, other_assign, other_operator, other_prim, outer_more, outer_operator, plain_prim, plain_word, prefixed, prim, print_rest, range, return_rest, statement_end, step_prefix, string_rest, switch_following, switch_item_1, switch_item_10, switch_item_11, switch_item_12, switch_item_13, switch_item_14, switch_item_15, switch_item_16, switch_item_17, switch_item_18, switch_item_19, switch_item_2, switch_item_20, switch_item_21, switch_item_22, switch_item_23, switch_item_24, switch_item_25, switch_item_26, switch_item_3, switch_item_4, switch_item_5, switch_item_6, switch_item_7, switch_item_8, switch_item_9, switch_more, switch_next, switch_next_1, switch_rest, switch_word, switch_word_1, text_statement, top_following, top_following_1, top_item_1, top_item_11, top_item_12, top_item_13, top_item_14, top_item_2, top_item_3, top_item_4, top_item_5, top_more, top_next, top_range, top_values, top_values_1, top_values_2, top_word, top_word_1, values, values_1, while_rest}
+use Rattle.inf_syntax.specs.Parts.{ !begin, !bracketed, !comma, !default, !end_case, !name, !negate, !outer, !outer_maybe, !outer_sure, !outer_word, !print_rule, !print_text, !print_value, !rule, !to, 'colon', 'comma', 'default', 'do', 'else', 'for', 'give', 'if', 'jump', 'minus', 'move', 'objectloop', 'print', 'print_ret', 'remove', 'return', 'spaces', 'style', 'switch', 'to', 'while', CASENAME, NOTDEFAULT, NOTTO, OPERAND, TEXT, after_prim, after_unary, assign, bracketed, case_end, case_value, case_value_1, do_rest, end, entry, expression_tail, first_case_1, first_case_2, first_case_3, first_case_4, for_rest, give_rest, if_rest, inner_operator, jump_rest, mark_statement, minus_more, minus_more_1, move_rest, neg, objectloop_rest, of_expression, operator, other_assign, other_operator, other_prim, outer_more, outer_operator, plain_prim, plain_word, prefixed, prim, print_rest, range, return_rest, ruled, statement_end, step_prefix, string_rest, switch_following, switch_item_1, switch_item_10, switch_item_11, switch_item_12, switch_item_13, switch_item_14, switch_item_15, switch_item_16, switch_item_17, switch_item_18, switch_item_19, switch_item_20, switch_item_21, switch_item_22, switch_item_23, switch_item_24, switch_item_26, switch_item_3, switch_item_4, switch_item_5, switch_item_6, switch_item_7, switch_item_8, switch_item_9, switch_more, switch_next, switch_next_1, switch_rest, switch_word, switch_word_1, text_statement, top_following, top_following_1, top_item_1, top_item_10, top_item_11, top_item_12, top_item_13, top_item_14, top_item_15, top_item_16, top_item_17, top_item_18, top_item_19, top_item_2, top_item_21, top_item_3, top_item_4, top_item_5, top_item_6, top_item_7, top_item_8, top_item_9, top_more, top_next, top_range, top_values, top_values_1, top_values_2, top_word, top_word_1, values, values_1, while_rest}
 
 abbrev pub rules_3 : List (List (Row Action))
 rules_3 =
     -- bracket_name_1
-    (row (!outer_sure ∷ !bracketed ∷ other_operator ∷ !print_value ∷ [])
+    (row (ruled ∷ [])
+    ∷ row (!outer_sure ∷ !bracketed ∷ other_operator ∷ !print_value ∷ [])
     ∷ row (!outer_sure ∷ !bracketed ∷ !print_value ∷ [])
     ∷ [])
     -- bracket_name_2
@@ -26,9 +27,19 @@ rules_3 =
     ∷ row (!begin ∷ !outer ∷ top_item_3 ∷ after_prim ∷ statement_end ∷ [])
     ∷ row (!begin ∷ !outer ∷ top_item_4 ∷ statement_end ∷ [])
     ∷ row ('if' ∷ top_item_5 ∷ [])
+    ∷ row ('while' ∷ top_item_6 ∷ [])
+    ∷ row ('do' ∷ top_item_7 ∷ [])
+    ∷ row ('for' ∷ top_item_8 ∷ [])
+    ∷ row ('objectloop' ∷ top_item_9 ∷ [])
+    ∷ row ('switch' ∷ top_item_10 ∷ [])
     ∷ row (!begin ∷ top_item_11 ∷ top_item_12 ∷ [])
     ∷ row (!begin ∷ 'return' ∷ top_item_13 ∷ [])
     ∷ row (!begin ∷ plain_word ∷ top_item_14 ∷ [])
+    ∷ row (!begin ∷ 'jump' ∷ top_item_15 ∷ [])
+    ∷ row (!begin ∷ 'give' ∷ top_item_16 ∷ [])
+    ∷ row (!begin ∷ 'move' ∷ top_item_17 ∷ [])
+    ∷ row (!begin ∷ top_item_18 ∷ top_item_19 ∷ [])
+    ∷ row (!begin ∷ 'style' ∷ top_item_21 ∷ [])
     ∷ [])
     -- top_item_1
     ∷ (row (top_more ∷ [])
@@ -49,23 +60,18 @@ rules_3 =
     ∷ [])
     -- top_item_6
     ∷ (row (while_rest ∷ [])
-    ∷ row (top_word ∷ [])
     ∷ [])
     -- top_item_7
     ∷ (row (do_rest ∷ [])
-    ∷ row (top_word ∷ [])
     ∷ [])
     -- top_item_8
     ∷ (row (for_rest ∷ [])
-    ∷ row (top_word ∷ [])
     ∷ [])
     -- top_item_9
     ∷ (row (objectloop_rest ∷ [])
-    ∷ row (top_word ∷ [])
     ∷ [])
     -- top_item_10
     ∷ (row (switch_rest ∷ [])
-    ∷ row (top_word ∷ [])
     ∷ [])
     -- top_item_11
     ∷ (row ('print' ∷ [])
@@ -82,15 +88,12 @@ rules_3 =
     ∷ [])
     -- top_item_15
     ∷ (row (jump_rest ∷ [])
-    ∷ row (!outer_word ∷ !name ∷ top_values ∷ [])
     ∷ [])
     -- top_item_16
     ∷ (row (give_rest ∷ [])
-    ∷ row (top_word ∷ [])
     ∷ [])
     -- top_item_17
     ∷ (row (move_rest ∷ [])
-    ∷ row (top_word ∷ [])
     ∷ [])
     -- top_item_18
     ∷ (row ('remove' ∷ [])
@@ -98,7 +101,6 @@ rules_3 =
     ∷ [])
     -- top_item_19
     ∷ (row (of_expression ∷ [])
-    ∷ row (top_word ∷ [])
     ∷ [])
     -- top_item_20
     ∷ (row (string_rest ∷ [])
@@ -106,7 +108,6 @@ rules_3 =
     ∷ [])
     -- top_item_21
     ∷ (row (NOTTO ∷ end ∷ [])
-    ∷ row (top_word ∷ [])
     ∷ [])
     -- case_end
     ∷ (row (!end_case ∷ 'colon' ∷ [])
@@ -208,13 +209,11 @@ rules_3 =
     ∷ row (!begin ∷ 'give' ∷ switch_item_21 ∷ [])
     ∷ row (!begin ∷ 'move' ∷ switch_item_22 ∷ [])
     ∷ row (!begin ∷ switch_item_23 ∷ switch_item_24 ∷ [])
-    ∷ row (!begin ∷ 'string' ∷ switch_item_25 ∷ [])
     ∷ row (!begin ∷ 'style' ∷ switch_item_26 ∷ [])
     ∷ row (!outer ∷ 'else' ∷ switch_word ∷ [])
     ∷ [])
     -- switch_item_1
     ∷ (row (!print_text ∷ end ∷ [])
-    ∷ row (!outer_sure ∷ !text ∷ switch_item_2 ∷ [])
     ∷ [])
     -- switch_item_2
     ∷ (row (case_end ∷ [])

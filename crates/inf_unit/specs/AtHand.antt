@@ -5,6 +5,7 @@ use Rattle.inf_unit.specs.declared.unit.Unit.{Unit as CodeUnit}
 abbrev pub unit : CodeUnit → Unit
 unit u = record {
   tokens = u.tokens;
+  begun = u.begun;
   gathering = u.gathering;
   items = u.items.items;
   outer = u.outer;

@@ -38,7 +38,8 @@ directive_of bytes =
     if is_directive (codes "message") bytes then directive.Message else
     if is_directive (codes "end") bytes then directive.End else
     if is_directive (codes "constant") bytes then directive.Constant else
-    if is_directive (codes "replace") bytes then directive.Replace else directive.SystemFile
+    if is_directive (codes "replace") bytes then directive.Replace else
+    if is_directive (codes "stub") bytes then directive.Stub else directive.SystemFile
 
 -- the weight of a message, by the word behind `Message`
 abbrev pub weight_of_word : List ℕ → Kind

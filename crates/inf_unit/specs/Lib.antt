@@ -5,6 +5,8 @@ pub mod Names
 pub mod Kept
 pub mod Steps
 pub mod Texts
+pub mod Items
+pub mod Opcodes
 pub mod Units
 pub mod NameTokens
 pub mod AtHand

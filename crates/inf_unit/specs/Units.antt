@@ -1,5 +1,5 @@
 -- The unit at hand: its tokens, and what the grammar's actions gather of them.
-use Rattle.std.specs.Prelude.{ℕ, ◌+◌, ◌-◌, List, [], ◌∷◌, ◌++◌, length, min, slice_get, nat_le, nat_lt, Bool, true, false, ◌&&◌, if◌then◌else◌, Option, Some, None, option_map, unwrap_or}
+use Rattle.std.specs.Prelude.{ℕ, ◌+◌, ◌-◌, ◌==◌, List, [], ◌∷◌, ◌++◌, length, min, slice_get, take, nat_le, nat_lt, Bool, true, false, ◌&&◌, if◌then◌else◌, Option, Some, None, option_map, unwrap_or}
 use Rattle.inf_scanner.specs.declared.tokens.Mark.{Mark}
 use Rattle.inf_scanner.specs.declared.tokens.Mark.TheVariants as mark
 use Rattle.inf_scanner.specs.declared.tokens.Place.{Place}
@@ -7,21 +7,28 @@ use Rattle.inf_scanner.specs.declared.tokens.TokenKind.{TokenKind}
 use Rattle.inf_scanner.specs.declared.tokens.TokenKind.TheVariants as kind
 use Rattle.inf_gathering.specs.declared.gathering.Leaf.{Leaf}
 use Rattle.inf_gathering.specs.declared.gathering.Leaf.TheVariants as leaf
-use Rattle.inf_gathering.specs.Gatherings.{Gathering, nothing_gathered, with_bracket, with_call, with_closed_bracket, with_comma, with_leaf, with_list, with_part, with_prefix, with_suffix, with_test, with_two}
+use Rattle.inf_gathering.specs.Gatherings.{Gathering, nothing_gathered, with_bracket, with_call, with_closed_bracket, with_comma, with_leaf, with_list, with_part, with_prefix, with_rule, with_suffix, with_test, with_two}
 use Rattle.inf_symbol.specs.Spellings.{Name}
+use Rattle.inf_opcode.specs.declared.opcodes.Opcode.{Opcode}
+use Rattle.inf_opcode.specs.Opcodes.{row_of}
 use Rattle.inf_syntax.specs.declared.actions.Action.{Action}
 use Rattle.inf_syntax.specs.declared.actions.Action.TheVariants as action
 use Rattle.inf_unit.specs.Tokens.{Spelled, is_mark, name_of}
 use Rattle.inf_unit.specs.Steps.{step_of}
 use Rattle.inf_unit.specs.declared.steps.Step.{Step}
 use Rattle.inf_unit.specs.declared.steps.Step.TheVariants as step
-use Rattle.inf_unit.specs.declared.unit.Item.{Item}
-use Rattle.inf_unit.specs.declared.unit.Item.TheVariants as item
+use Rattle.inf_unit.specs.declared.items.Item.{Item}
+use Rattle.inf_unit.specs.declared.items.Item.TheVariants as item
+use Rattle.inf_unit.specs.declared.items.PrintRule.{PrintRule}
+use Rattle.inf_unit.specs.Items.{is_own, rule_of}
+use Rattle.inf_unit.specs.Opcodes.{opcode_of, takes_text}
 
--- Its tokens so far; what is gathered of its expressions; what it prints, in order; where among its tokens its outermost expression begins, if one is
+-- Its tokens so far, before which the first of those between the unit before and its beginning stands, where there are such; where among them it begins;
+-- what is gathered of its expressions; what it has beside them, in order; where among its tokens its outermost expression begins, if one is
 -- open, and whether that surely is one; whether the unit has ended, but for its last token; and how many brackets and braces of its piece are open.
 pub record Unit : Type 0 where
   pub tokens : List Spelled
+  pub begun : ℕ
   pub gathering : Gathering
   pub items : List Item
   pub outer : Option ℕ
@@ -31,11 +38,11 @@ pub record Unit : Type 0 where
 
 -- at the front of a piece
 abbrev pub no_unit : Unit
-no_unit = record { tokens = []; gathering = nothing_gathered; items = []; outer = None; is_sure = false; is_over = false; depth = 0 }
+no_unit = record { tokens = []; begun = 0; gathering = nothing_gathered; items = []; outer = None; is_sure = false; is_over = false; depth = 0 }
 
--- the next token is the first of a unit
+-- The next token is the first of a unit. Of those before it the first is kept.
 abbrev pub begun : Unit → Unit
-begun u = record no_unit { depth = u.depth }
+begun u = record no_unit { tokens = take 1 u.tokens; begun = length (take 1 u.tokens); depth = u.depth }
 
 -- the unit has ended, and its last token is still to come, or not
 abbrev pub over : Bool → Unit → Unit
@@ -79,9 +86,21 @@ name_by (Some t) = short_name_of t
 abbrev pub name_at : List Spelled → ℕ → Option Name
 name_at tokens at = name_by (slice_get tokens at)
 
+-- its bytes
+abbrev pub bytes_of : Option Name → List ℕ
+bytes_of None = []
+bytes_of (Some n) = n.bytes
+
+abbrev pub bytes_at : List Spelled → ℕ → List ℕ
+bytes_at tokens at = bytes_of (name_at tokens at)
+
 -- the place of the first token; where there is none yet, that of the next
 abbrev pub first_place : List Spelled → Place → Place
 first_place tokens next = unwrap_or (place_at tokens 0) next
+
+-- the same of the first token of the unit itself
+abbrev pub own_place : Unit → Place → Place
+own_place u next = unwrap_or (place_at u.tokens u.begun) next
 
 -- the place of the last token, where there is one
 abbrev pub last_place : List Spelled → Place → Place
@@ -96,14 +115,14 @@ abbrev pub quoted_in : List Spelled → List ℕ
 quoted_in [] = []
 quoted_in (t ∷ tokens) = quoted_by t.kind t.bytes (quoted_in tokens)
 
--- whether they begin with a `#`
-abbrev pub begins_with_sign : Option TokenKind → Bool
-begins_with_sign None = false
-begins_with_sign (Some k) = is_mark mark.Hash k
+-- whether a token is a mark, if there is one
+abbrev pub is_some_mark : Mark → Option TokenKind → Bool
+is_some_mark m None = false
+is_some_mark m (Some k) = is_mark m k
 
 -- the order of the name that a directive declares: behind its word, before which a `#` may stand
 abbrev pub name_order : List Spelled → ℕ
-name_order tokens = if begins_with_sign (kind_at tokens 0) then 2 else 1
+name_order tokens = if is_some_mark mark.Hash (kind_at tokens 0) then 2 else 1
 
 -- the names among the tokens, in order
 abbrev pub with_name : Option Name → List Name → List Name
@@ -138,6 +157,10 @@ last_leaf u = length u.tokens - 1
 unfoldable pub order : ℕ → ℕ
 order at = min at 4294967295
 
+-- the place behind another one
+unfoldable pub next_place : ℕ → ℕ
+next_place at = min (at + 1) 18446744073709551615
+
 -- the leaf that a token at a place of its unit is
 abbrev pub leaf_of : ℕ → TokenKind → Leaf
 leaf_of at (kind.Number n) = leaf.Number n
@@ -146,13 +169,32 @@ leaf_of at (kind.Word w) = leaf.Word w
 leaf_of at kind.Text = leaf.Text at
 leaf_of at _ = leaf.Name at
 
-abbrev pub with_last : ℕ → Option TokenKind → Gathering → Gathering
-with_last at None g = g
-with_last at (Some k) g = with_leaf (order at) (order at) (leaf_of at k) g
+-- whether the unit is an assembly line
+abbrev pub is_assembly : Unit → Bool
+is_assembly u = is_some_mark mark.At (kind_at u.tokens u.begun)
 
--- what is gathered of an expression behind some tokens
+-- Whether the token at a place is an operand of an assembly line by itself, if it is a name: the operand begins with it, and nothing stands behind a name.
+abbrev pub is_first : ℕ → Option ℕ → Bool
+is_first at None = false
+is_first at (Some outer) = outer == at
+
+abbrev pub is_alone : ℕ → Unit → Bool
+is_alone at u = is_first at u.outer && is_assembly u
+
+abbrev pub told_leaf : Bool → Leaf → Leaf
+told_leaf true (leaf.Name at) = leaf.Alone at
+told_leaf _ l = l
+
+abbrev pub with_last : ℕ → Bool → Option TokenKind → Gathering → Gathering
+with_last at is_alone None g = g
+with_last at is_alone (Some k) g = with_leaf (order at) (order at) (told_leaf is_alone (leaf_of at k)) g
+
+abbrev pub leaf_gathered : Unit → Unit
+leaf_gathered u = let at = last_leaf u in record u { gathering = with_last at (is_alone at u) (kind_at u.tokens at) u.gathering }
+
+-- what is gathered of an operator behind some tokens
 abbrev pub gathered : Step → List Spelled → Gathering → Gathering
-gathered step.Leaf tokens g = with_last (length tokens - 1) (kind_at tokens (length tokens - 1)) g
+gathered step.Leaf tokens g = g
 gathered (step.Prefix op) tokens g = with_prefix op g
 gathered (step.Suffix op) tokens g = with_suffix op g
 gathered (step.Two op) tokens g = with_two op g
@@ -166,11 +208,27 @@ gathered step.Bracketed tokens g = with_closed_bracket g
 
 abbrev pub stepped : Option Step → Unit → Unit
 stepped None u = u
+stepped (Some step.Leaf) u = leaf_gathered u
 stepped (Some s) u = record u { gathering = gathered s u.tokens u.gathering }
+
+-- one thing more beside its expressions
+abbrev pub with_item : Item → Unit → Unit
+with_item i u = record u { items = u.items ++ i ∷ [] }
 
 -- one thing more is printed, where an outermost expression has ended
 abbrev pub printed : Item → Unit → Unit
 printed i u = record u { items = u.items ++ i ∷ []; outer = None }
+
+-- The name in the bracket that was closed last is a print rule: one of the language is no expression.
+abbrev pub ruled_by : PrintRule → Unit → Unit
+ruled_by r u = record u { gathering = with_rule (is_own r) u.gathering; items = u.items ++ item.Ruled r ∷ [] }
+
+abbrev pub ruled : Unit → Unit
+ruled u = ruled_by (rule_of (bytes_at u.tokens (length u.tokens - 2))) u
+
+-- A text behind an opcode and before the semicolon is an operand, unless the opcode takes a text of its own.
+abbrev pub opcode_text : Unit → Unit
+opcode_text u = if takes_text (bytes_at u.tokens (next_place u.begun)) then with_item (item.Text (last_leaf u)) u else leaf_gathered u
 
 -- what an action gathers; one that ends a unit gathers nothing
 abbrev pub acted : Action → Unit → Unit
@@ -180,6 +238,36 @@ acted action.OuterMaybe u = record u { outer = Some (length u.tokens); is_sure =
 acted action.OuterWord u = record u { outer = Some (last_leaf u); is_sure = true }
 acted action.OuterSure u = record u { is_sure = true }
 acted action.OuterEnd u = record u { outer = None }
+acted action.PrintRule u = record u { outer = None }
 acted action.PrintText u = printed (item.Text (last_leaf u)) u
 acted action.PrintValue u = printed item.Value u
+acted action.Rule u = ruled u
+acted action.Set u = with_item item.Set u
+acted action.Clear u = with_item item.Clear u
+acted action.Default u = with_item item.Default u
+acted action.AsmText u = opcode_text u
+acted action.Store u = with_item (item.Store (last_leaf u)) u
+acted action.Branch u = with_item (item.Branch (last_leaf u) true) u
+acted action.BranchNot u = with_item (item.Branch (last_leaf u) false) u
 acted a u = stepped (step_of a) u
+
+-- Whole units
+
+-- The place of the name of the label to which an assembly line jumps with this opcode and these operands, which is then no expression.
+abbrev pub jump_label : List Leaf → Option ℕ
+jump_label ((leaf.Alone at) ∷ []) = Some at
+jump_label _ = None
+
+abbrev pub jump_by : Option Opcode → List Leaf → Option ℕ
+jump_by None leaves = None
+jump_by (Some op) leaves = if (row_of op).jumps then jump_label leaves else None
+
+abbrev pub jump_of : Unit → Option ℕ
+jump_of u = if is_assembly u then jump_by (opcode_of (bytes_at u.tokens (next_place u.begun))) u.gathering.leaves else None
+
+abbrev pub prepared_by : Option ℕ → Unit → Unit
+prepared_by None u = u
+prepared_by (Some at) u = record u { gathering = nothing_gathered; items = u.items ++ item.Jump at ∷ [] }
+
+abbrev pub prepared : Unit → Unit
+prepared u = prepared_by (jump_of u) u

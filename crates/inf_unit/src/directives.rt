@@ -15,6 +15,7 @@ pub enum Directive {
     End,
     Constant,
     Replace,
+    Stub,
     SystemFile,
 }
 
@@ -42,6 +43,8 @@ pub fn directive_of(word: &[u8]) -> Directive
         Directive::Constant
     } else if word.eq_ignore_ascii_case(b"replace") {
         Directive::Replace
+    } else if word.eq_ignore_ascii_case(b"stub") {
+        Directive::Stub
     } else {
         Directive::SystemFile
     }

@@ -2,8 +2,10 @@
 #![tactic(auto)]
 
 pub mod directives;
+pub mod items;
 pub mod messages;
 pub mod names;
+pub mod opcodes;
 pub mod steps;
 pub mod texts;
 pub mod tokens;

@@ -3,31 +3,27 @@ ghost use Rattle.std.specs.Prelude.{◌≡◌, ◌≤◌, ◌++◌, ◌∷◌, [
 ghost use Rattle.inf_unit.specs.AtHand.{unit};
 ghost use Rattle.inf_unit.specs.Steps.{step_of};
 ghost use Rattle.inf_unit.specs.Tokens.{spelled};
-ghost use Rattle.inf_unit.specs.Units.{acted, begun, depth_behind, first_place, last_leaf, leaf_of, long_at, no_unit, order, over, stepped, taken};
+ghost use Rattle.inf_unit.specs.Units.{acted, begun, depth_behind, first_place, is_alone, is_assembly, jump_label, jump_of, last_leaf, leaf_of, long_at, next_place, no_unit, opcode_text, order, over, own_place, prepared, ruled, stepped, taken, told_leaf, with_item};
 
+use crate::items::{Item, rule_of};
+use crate::opcodes::{opcode_of, takes_text};
 use crate::steps::{Step, step_of};
-use crate::tokens::Spelled;
+use crate::tokens::{Spelled, is_mark};
 use crate::unit_tokens::UnitTokens;
 use inf_gathering::gathering::{Gathering, Leaf};
 use inf_scanner::{Mark, Place, TokenKind};
 use inf_syntax::Action;
 use std::alloc::{AllocError, Global};
 
-/// What a `print` prints.
-#[derive(Clone, Copy, Debug, PartialEq, Eq)]
-pub enum Item {
-    /// The text that is the token at this place of the unit.
-    Text(usize),
-    /// The next expression of the unit.
-    Value,
-}
-
 /// The unit at hand.
 #[derive(Drop)]
 pub struct Unit {
+    /// Its tokens, and before them the first of those between the unit before and its beginning, where there are such.
     pub tokens: UnitTokens,
+    /// Where among them the unit begins.
+    pub begun: usize,
     pub gathering: Gathering,
-    /// What it prints, in order.
+    /// What it has beside its expressions, in order.
     pub items: Vec<Item>,
     /// Where its outermost expression begins among its tokens, if one is open.
     pub outer: Option<usize>,
@@ -52,12 +48,40 @@ fn leaf_of(at: usize, kind: TokenKind) -> Leaf
     }
 }
 
+/// A leaf, which is an operand of an assembly line by itself or not.
+fn told_leaf(is_alone: bool, leaf: Leaf) -> Leaf
+    ensures { result ≡ told_leaf is_alone leaf }
+{
+    match leaf {
+        Leaf::Name(at) if is_alone => Leaf::Alone(at),
+        _ => leaf,
+    }
+}
+
+/// The place of the name of a label to which an instruction with these operands jumps, if they are one name.
+fn jump_label(leaves: &[Leaf]) -> Option<usize>
+    ensures { result ≡ jump_label leaves.now }
+{
+    match leaves {
+        [Leaf::Alone(at)] => Some(*at),
+        _ => None,
+    }
+}
+
 /// The order of a token at a place of its unit. No unit has so many tokens that two have one order.
 #[tactic(auto, unfolding(crate::specs::Units::order))]
-fn order(at: usize) -> u32
+pub fn order(at: usize) -> u32
     ensures { result ≡ order at }
 {
     at.min(4294967295) as u32
+}
+
+/// The place behind another one.
+#[tactic(auto, unfolding(crate::specs::Units::next_place))]
+pub fn next_place(at: usize) -> usize
+    ensures { result ≡ next_place at }
+{
+    at.saturating_add(1)
 }
 
 /// How many brackets and braces are open behind a token.
@@ -78,6 +102,7 @@ impl Unit {
     {
         Unit {
             tokens: UnitTokens::new(alloc),
+            begun: 0,
             gathering: Gathering::new(alloc),
             items: Vec::new(alloc),
             outer: None,
@@ -91,15 +116,17 @@ impl Unit {
     pub fn clear(&mut self)
         ensures { unit self.new ≡ no_unit }
     {
+        self.tokens.clear();
         self.begin();
         self.depth = 0;
     }
 
-    /// The next token is the first of a unit of the same piece.
+    /// The next token is the first of a unit of the same piece. Of the tokens before it the first is kept, where there is one.
     fn begin(&mut self)
         ensures { unit self.new ≡ begun (unit self.old) }
     {
-        self.tokens.clear();
+        self.tokens.keep_first();
+        self.begun = self.tokens.len();
         self.gathering.clear();
         self.items.clear();
         self.outer = None;
@@ -111,6 +138,7 @@ impl Unit {
     pub fn end(&mut self, has_last: bool)
         ensures { unit self.new ≡ over has_last (unit self.old) }
     {
+        self.tokens.clear();
         self.begin();
         self.is_over = has_last;
     }
@@ -142,8 +170,17 @@ impl Unit {
             }
             Action::OuterSure => self.is_sure = true,
             Action::OuterEnd => self.outer = None,
+            Action::PrintRule => self.outer = None,
             Action::PrintText => return self.print(Item::Text(last)),
             Action::PrintValue => return self.print(Item::Value),
+            Action::Rule => return self.rule(),
+            Action::Set => return self.item(Item::Set),
+            Action::Clear => return self.item(Item::Clear),
+            Action::Default => return self.item(Item::Default),
+            Action::AsmText => return self.opcode_text(),
+            Action::Store => return self.item(Item::Store(last)),
+            Action::Branch => return self.item(Item::Branch(last, true)),
+            Action::BranchNot => return self.item(Item::Branch(last, false)),
             _ => return self.step(step_of(action)),
         }
         Ok(())
@@ -164,14 +201,88 @@ impl Unit {
         self.tokens.len().saturating_sub(1)
     }
 
-    /// One thing more is printed.
+    /// One thing more beside its expressions.
+    fn item(&mut self, item: Item) -> Result<(), AllocError>
+        ensures { OnOk result (unit self.new ≡ with_item item (unit self.old)) }
+    {
+        self.items.push(item)?;
+        Ok(())
+    }
+
+    /// One thing more is printed, with which an outermost expression ends.
     fn print(&mut self, item: Item) -> Result<(), AllocError>
         ensures { let before = unit self.old in
             OnOk result (unit self.new ≡ record before { items = before.items ++ item ∷ []; outer = None }) }
     {
-        self.items.push(item)?;
         self.outer = None;
-        Ok(())
+        self.item(item)
+    }
+
+    /// The name in the bracket that was closed last is a print rule.
+    fn rule(&mut self) -> Result<(), AllocError>
+        ensures { OnOk result (unit self.new ≡ ruled (unit self.old)) }
+    {
+        let rule = rule_of(self.tokens.bytes_at(self.tokens.len().saturating_sub(2)));
+        self.gathering.rule(rule.is_own());
+        self.item(Item::Ruled(rule))
+    }
+
+    /// The last token is a text behind an opcode and before the semicolon: an operand, unless the opcode takes a text of its own.
+    fn opcode_text(&mut self) -> Result<(), AllocError>
+        ensures { OnOk result (unit self.new ≡ opcode_text (unit self.old)) }
+    {
+        let opcode = next_place(self.begun);
+        if takes_text(self.tokens.bytes_at(opcode)) {
+            self.item(Item::Text(self.last()))
+        } else {
+            self.leaf()
+        }
+    }
+
+    /// Whether it is an assembly line.
+    fn is_assembly(&self) -> bool
+        ensures { result ≡ is_assembly (unit self.now) }
+    {
+        match self.tokens.kind(self.begun) {
+            Some(kind) => is_mark(kind, Mark::At),
+            None => false,
+        }
+    }
+
+    /// Whether the token at a place is an operand of an assembly line by itself, if it is a name.
+    fn is_alone(&self, at: usize) -> bool
+        ensures { result ≡ is_alone at (unit self.now) }
+    {
+        match self.outer {
+            Some(outer) => outer == at && self.is_assembly(),
+            None => false,
+        }
+    }
+
+    /// The place of the name of the label to which it jumps, where it is the line of a jump with one name.
+    fn jump_of(&self) -> Option<usize>
+        ensures { result ≡ jump_of (unit self.now) }
+    {
+        if !self.is_assembly() {
+            return None;
+        }
+        let opcode = opcode_of(self.tokens.bytes_at(next_place(self.begun)))?;
+        if opcode.row().jumps {
+            jump_label(self.gathering.leaves())
+        } else {
+            None
+        }
+    }
+
+    /// It is whole: the name of the label to which an assembly line jumps is no expression.
+    pub fn prepare(&mut self) -> Result<(), AllocError>
+        ensures { OnOk result (unit self.new ≡ prepared (unit self.old)) }
+    {
+        let Some(label) = self.jump_of() else {
+            return Ok(());
+        };
+        self.gathering.clear();
+        self.item(Item::Jump(label))
     }
 
     /// What is gathered of an expression.
@@ -205,13 +316,25 @@ impl Unit {
         ensures { OnOk result (unit self.new ≡ stepped (Some Step.Leaf) (unit self.old)) }
     {
         let at = self.last();
+        let is_alone = self.is_alone(at);
         match self.tokens.kind(at) {
-            Some(kind) => self.gathering.leaf(order(at), order(at), leaf_of(at, kind)),
+            Some(kind) => self.gathering.leaf(
+                order(at),
+                order(at),
+                told_leaf(is_alone, leaf_of(at, kind)),
+            ),
             None => Ok(()),
         }
     }
 
     /// The place of its first token; where it has none yet, that of the next.
+    pub fn own_place(&self, next: Place) -> Place
+        ensures { result ≡ own_place (unit self.now) next }
+    {
+        self.tokens.place(self.begun).unwrap_or(next)
+    }
+
+    /// The place of the first token behind the unit before; where there is none yet, that of the next.
     pub fn first_place(&self, next: Place) -> Place
         ensures { result ≡ first_place (unit self.now).tokens next }
     {

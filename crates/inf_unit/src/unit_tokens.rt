@@ -1,10 +1,10 @@
 //! The tokens of a unit.
-ghost use Rattle.std.specs.Prelude.{◌≡◌, ◌≤◌, [], ◌∷◌, ◌++◌, IfOk, IfSome, OnOk, length, map, option_map, slice_get};
+ghost use Rattle.std.specs.Prelude.{◌≡◌, ◌≤◌, [], ◌∷◌, ◌++◌, IfOk, IfSome, OnOk, length, map, option_map, slice_get, take};
 ghost use Rattle.inf_symbol.specs.Spellings.{as_name};
 ghost use Rattle.inf_unit.specs.Kept.{as_spelled};
 ghost use Rattle.inf_unit.specs.NameTokens.{named};
 ghost use Rattle.inf_unit.specs.Tokens.{spelled};
-ghost use Rattle.inf_unit.specs.Units.{kind_at, last_place, name_at, name_order, names_in, place_at, quoted_in, short_name_of, with_name};
+ghost use Rattle.inf_unit.specs.Units.{bytes_at, kind_at, last_place, name_at, name_order, names_in, place_at, quoted_in, short_name_of, with_name};
 
 use crate::tokens::{Spelled, is_mark};
 use inf_scanner::{Mark, Place, TokenKind};
@@ -90,6 +90,13 @@ impl UnitTokens {
         self.kept.clear();
     }
 
+    /// Keeps the first alone, where there is one.
+    pub fn keep_first(&mut self)
+        ensures { self.new ≡ take 1 self.old }
+    {
+        self.kept.truncate(1);
+    }
+
     /// How many there are.
     pub fn len(&self) -> usize
         ensures { result ≡ length self.now }
@@ -145,6 +152,17 @@ impl UnitTokens {
         match self.get(at) {
             Some(token) => name_of(&token),
             None => None,
+        }
+    }
+
+    /// The bytes of the name at a place among them; none, where the token there is no name.
+    pub fn bytes_at(&self, at: usize) -> &[u8]
+        ensures value { result.now ≡ bytes_at self.now at }
+        ensures few { length result.now ≤ 32 }
+    {
+        match self.name_at(at) {
+            Some(name) => name.bytes,
+            None => b"",
         }
     }
 

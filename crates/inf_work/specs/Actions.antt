@@ -1,12 +1,11 @@
 -- What the actions of the grammar do. While a unit is read they gather what it has, and at its end it acts, as a whole.
-use Rattle.std.specs.Prelude.{ℕ, ◌+◌, ◌==◌, List, [], ◌∷◌, ◌++◌, length, map, drop, nat_lt, slice_get, Bool, true, false, ◌&&◌, if◌then◌else◌, Option, Some, None, is_some, unwrap_or}
+use Rattle.std.specs.Prelude.{ℕ, ◌+◌, ◌-◌, ◌==◌, List, [], ◌∷◌, ◌++◌, length, map, drop, nat_lt, slice_get, Bool, true, false, ◌&&◌, if◌then◌else◌, Option, Some, None, is_some, unwrap_or}
 use Rattle.inf_characters.specs.declared.characters.CharSet.{CharSet}
 use Rattle.inf_scanner.specs.declared.tokens.Mark.{Mark}
 use Rattle.inf_scanner.specs.declared.tokens.Mark.TheVariants as mark
 use Rattle.inf_scanner.specs.declared.tokens.Place.{Place}
 use Rattle.inf_scanner.specs.declared.tokens.TokenKind.{TokenKind}
 use Rattle.inf_scanner.specs.declared.tokens.TokenKind.TheVariants as kind
-use Rattle.inf_opcode.specs.declared.instructions.Label.{Label}
 use Rattle.inf_assembler.specs.declared.routines.RoutineKind.TheVariants as routine_kind
 use Rattle.inf_assembler.specs.declared.routines.CloseFault.{CloseFault}
 use Rattle.inf_assembler.specs.declared.routines.CloseFault.TheVariants as close_fault
@@ -19,6 +18,7 @@ use Rattle.inf_expressions.specs.declared.operators.Operand.TheVariants as opera
 use Rattle.inf_expressions.specs.declared.units.Wanted.{Wanted}
 use Rattle.inf_expressions.specs.declared.units.Wanted.TheVariants as wanted
 use Rattle.inf_expressions.specs.Findings.{least_of_both, no_constant}
+use Rattle.inf_expressions.specs.Rooted.{Rooted}
 use Rattle.inf_expressions.specs.Trees.{Tree, Leaf}
 use Rattle.inf_expressions.specs.Units.{judged, trees_of}
 use Rattle.inf_gathering.specs.declared.gathering.Leaf.{Leaf as UnitLeaf}
@@ -32,7 +32,7 @@ use Rattle.inf_names.specs.declared.symbols.Found.{Found}
 use Rattle.inf_names.specs.declared.symbols.Found.TheVariants as found
 use Rattle.inf_names.specs.declared.meanings.Meaning.{Meaning}
 use Rattle.inf_names.specs.declared.meanings.Meaning.TheVariants as meaning
-use Rattle.inf_report.specs.Messages.{BranchTooFar, DeepNesting, Exceeded, UnusedLocal}
+use Rattle.inf_report.specs.Messages.{BranchTooFar, ConstantOutOfRange, DeepNesting, Exceeded, LabelMissing, UnusedLocal}
 use Rattle.inf_report.specs.OwnWords.{Words}
 use Rattle.inf_symbol.specs.Spellings.{Name}
 use Rattle.inf_symbol.specs.Locals.{Local, Headed, with_locals, no_locals}
@@ -43,13 +43,15 @@ use Rattle.inf_unit.specs.declared.directives.Directive.{Directive}
 use Rattle.inf_unit.specs.declared.directives.Directive.TheVariants as directive
 use Rattle.inf_unit.specs.Messages.{FileNames, Blame, Reported, location, nothing_reported, with_error, with_fatal, with_fault, with_full, with_warning, with_words}
 use Rattle.inf_unit.specs.Names.{no_symbols}
-use Rattle.inf_unit.specs.Tokens.{Spelled, is_mark}
-use Rattle.inf_unit.specs.Units.{Unit, acted as unit_acted, first_place, last_place, long_at, name_at, name_order, names_in, no_unit, over, quoted_in, taken as unit_taken}
-use Rattle.inf_output.specs.Output.{Code, Out, begun, closed, declared, full, marked, behind as label_behind, next_label, opened, referred}
+use Rattle.inf_unit.specs.Tokens.{Spelled, is_mark, number_of}
+use Rattle.inf_unit.specs.Units.{Unit, acted as unit_acted, bytes_at, first_place, kind_at, long_at, name_order, names_in, no_unit, over, quoted_in, taken as unit_taken}
+use Rattle.inf_output.specs.Output.{Code, Out, begun, closed, declared, full, opened, referred}
 use Rattle.inf_work.specs.Findings.{blame_of, header_fault, name_fault}
 use Rattle.inf_work.specs.Words.{nowhere}
-use Rattle.inf_work.specs.Operands.{Settled, all_looked, bytes_of, leaves_named, settled}
-use Rattle.inf_work.specs.Statements.{statement_code, statement_in, tree_in, turned, unless}
+use Rattle.inf_statements.specs.declared.constructs.Construct.{Construct}
+use Rattle.inf_statements.specs.Labels.{NamedLabel, spelled_as}
+use Rattle.inf_statements.specs.Operands.{Settled, all_looked, leaves_named, settled, stores_named}
+use Rattle.inf_statements.specs.Statements.{tree_in}
 
 -- what code may hold, as the settings say: the labels, branches and jumps of a routine, bytes, and references
 abbrev pub limits_of : Settings → CodeLimits
@@ -62,15 +64,16 @@ limits_of settings = record {
 abbrev pub no_output : Settings → Out
 no_output settings = record { code = no_routines (limits_of settings); names = no_symbols settings; first = nowhere; next = 0; past = None; kept = None }
 
--- What was compiled so far: the character set of the sources; how many tokens an expression may have; the unit at hand; the labels behind the open `if`s, the
--- innermost first; the locals of the open routine; the code and the names of the source; the messages; what a directive asks of the reading; the names of
+-- What was compiled so far: the character set of the sources; how many tokens an expression may have; the unit at hand; the statements that are open, the
+-- innermost first; the labels with names and the locals of the open routine; the code and the names of the source; the messages; what a directive asks of the reading; the names of
 -- routines that are to be replaced, whether those of the file at hand may be, and those of the files that wait, the inner files first; and whether the
 -- routine at hand is passed over for that.
 pub record Work : Type 0 where
   pub set : CharSet
   pub longest : ℕ
   pub unit : Unit
-  pub constructs : List Label
+  pub constructs : List Construct
+  pub labels : List NamedLabel
   pub locals : List Local
   pub output : Out
   pub report : Reported
@@ -87,6 +90,7 @@ no_work set settings = record {
   longest = setting_number setting.ExpressionNodes settings;
   unit = no_unit;
   constructs = [];
+  labels = [];
   locals = [];
   output = no_output settings;
   report = nothing_reported;
@@ -159,80 +163,24 @@ cut files w = sized files (record w { unit = record w.unit { is_sure = true } })
 abbrev pub operands_of : Work → List Operand
 operands_of w = all_looked w.locals w.output.names w.unit.tokens w.unit.gathering.leaves
 
--- the least of what is wrong with them
-abbrev pub finding_of : Wanted → Work → Option Finding
-finding_of wanted w = judged wanted 0 (operands_of w) w.unit.gathering.symbols
+-- the least of what is wrong with them, in a unit whose first token has an order
+abbrev pub finding_at : ℕ → Wanted → Work → Option Finding
+finding_at first wanted w = judged wanted first (operands_of w) w.unit.gathering.symbols
 
+-- They, and where it stores, name its locals.
 abbrev pub named : Work → Work
-named w = record w { locals = leaves_named w.unit.tokens w.unit.gathering.leaves w.locals }
+named w = record w { locals = stores_named w.unit.tokens w.unit.items (leaves_named w.unit.tokens w.unit.gathering.leaves w.locals) }
 
 -- their trees, when their names were used
 abbrev pub settled_of : Work → Settled
 settled_of w = settled w.locals w.unit.tokens w.unit.gathering.leaves (record { out = w.output; operands = [] })
 
-abbrev pub trees_in : Wanted → List Operand → Work → List Tree
-trees_in wanted operands w = map tree_in (trees_of wanted 0 operands w.unit.gathering.symbols)
-
--- A unit of expressions ends, which begins at a place. With an error it has no effect but that its locals are named.
-abbrev pub refused_by : FileNames → Place → Bool → Option Finding → Work → Work
-refused_by files first has_last None w = w
-refused_by files first has_last (Some f) w = unit_ended files first has_last (Some (blame_of w.unit.tokens f)) w
-
-abbrev pub understood_by : FileNames → Place → Bool → (List Tree → Code) → Option Finding → Work → Work
-understood_by files first has_last code (Some f) w = refused_by files first has_last (Some f) w
-understood_by files first has_last code None w =
-    let s = settled_of w in unit_ended files first has_last None (laid first (code (trees_in wanted.Value s.operands w)) (record w { output = s.out }))
-
-abbrev pub understood : FileNames → Place → Bool → (List Tree → Code) → Work → Work
-understood files first has_last code w = understood_by files first has_last code (finding_of wanted.Value w) (named w)
-
--- Statements
-
-abbrev pub finish : FileNames → Place → Work → Work
-finish files first w =
-    understood files first true
-    (λ trees. statement_code w.set w.unit.tokens w.unit.items trees (statement_in w.unit.tokens w.unit.items)) w
+abbrev pub trees_at : ℕ → Wanted → List Operand → Work → List Rooted
+trees_at first wanted operands w = trees_of wanted first operands w.unit.gathering.symbols
 
 -- in a routine that is passed over nothing has an effect
 abbrev pub passed : Bool → Work → Work
 passed has_last w = record w { unit = over has_last w.unit }
-
--- where the next token stands at a place
-abbrev pub statement_end : FileNames → Place → Work → Work
-statement_end files place w = if w.is_passed_over then passed true w else finish files (first_place w.unit.tokens place) w
-
--- An `if`
-
--- the word before is told, where it stands too deep, and the label behind the first side is handed out
-abbrev pub if_opened_in : Work → Work
-if_opened_in w = record w {
-  constructs = next_label w.output ∷ w.constructs;
-  output = record w.output { next = label_behind w.output.next };
-}
-
-abbrev pub if_opened : FileNames → Place → Work → Work
-if_opened files place w = if_opened_in (nested files (last_place w.unit.tokens place) (is_deep w 1) w)
-
-abbrev pub innermost : List Label → Label
-innermost [] = record { number = 0 }
-innermost (label ∷ constructs) = label
-
-abbrev pub condition : FileNames → Place → Work → Work
-condition files first w = understood files first false (λ trees. unless trees (innermost w.constructs)) w
-
-abbrev pub if_end : FileNames → Place → Work → Work
-if_end files place w = if w.is_passed_over then passed false w else condition files (first_place w.unit.tokens place) w
-
--- its other side: what stands before it goes behind that
-abbrev pub other_side : List Label → Work → Work
-other_side [] w = w
-other_side (first ∷ constructs) w =
-    let second = next_label w.output in
-    record w { constructs = second ∷ constructs; output = turned first second (record w.output { next = label_behind w.output.next }) }
-
-abbrev pub closed_with : List Label → Work → Work
-closed_with [] w = w
-closed_with (label ∷ constructs) w = record w { constructs = constructs; output = marked label w.output }
 
 -- A routine
 
@@ -240,7 +188,7 @@ closed_with (label ∷ constructs) w = record w { constructs = constructs; outpu
 -- is free, and its locals. Z-Machine Standard 1.1, section 5.2.
 abbrev pub opened_with : FileNames → Place → Headed → Bool → Work → Work
 opened_with files first h is_lost w =
-    unit_ended files first true None (record w { output = opened (length h.locals) is_lost w.output; locals = h.locals; constructs = [] })
+    unit_ended files first true None (record w { output = opened (length h.locals) is_lost w.output; locals = h.locals; constructs = []; labels = [] })
 
 abbrev pub routine_declared : Name → Work → Work
 routine_declared name w = record w { output = declared name.bytes name.place (meaning.Routine (size w.output.code.finished)) w.output }
@@ -280,16 +228,13 @@ abbrev pub with_all_unused : FileNames → Place → List Local → Reported →
 with_all_unused files place [] r = r
 with_all_unused files place (l ∷ locals) r = with_all_unused files place locals (with_unused files place l r)
 
--- whether a routine can't be closed for its labels or offsets
-abbrev pub is_far : Option CloseFault → Bool
-is_far (Some (close_fault.LabelMissing label)) = true
-is_far (Some (close_fault.LabelTwice label)) = true
-is_far (Some close_fault.TooFar) = true
-is_far _ = false
-
--- that a branch goes too far, where it does
-abbrev pub with_far : FileNames → Place → Option CloseFault → Reported → Reported
-with_far files place fault r = if is_far fault then with_error (location files place) (location files place) BranchTooFar r else r
+-- what is wrong with the labels or offsets of a routine: a label that is used and not given, or a branch that goes too far
+abbrev pub with_routine_fault : FileNames → Place → List NamedLabel → Option CloseFault → Reported → Reported
+with_routine_fault files place labels (Some (close_fault.LabelMissing label)) r =
+    with_error (location files place) (location files place) (LabelMissing (spelled_as label labels)) r
+with_routine_fault files place labels (Some (close_fault.LabelTwice label)) r = with_error (location files place) (location files place) BranchTooFar r
+with_routine_fault files place labels (Some close_fault.TooFar) r = with_error (location files place) (location files place) BranchTooFar r
+with_routine_fault files place labels _ r = r
 
 -- The end of a routine, at a place: what is wrong with it is told, and its unused locals. Of one that is passed over nothing is.
 abbrev pub close_open : FileNames → Place → Work → Work
@@ -297,7 +242,7 @@ close_open files place w =
     let fault = fault_closed routine_kind.Plain w.output.code in
     unit_ended files place true None (record w {
       output = closed routine_kind.Plain w.output;
-      report = with_all_unused files place w.locals (with_far files place fault w.report);
+      report = with_all_unused files place w.locals (with_routine_fault files place w.labels fault w.report);
     })
 
 abbrev pub close : FileNames → Place → Work → Work
@@ -317,7 +262,7 @@ declared_meaning found.Used = None
 declared_meaning found.Unknown = None
 
 abbrev pub named_leaf : List Spelled → List UnitLeaf → List ℕ
-named_leaf tokens ((leaf.Name at) ∷ leaves) = bytes_of (name_at tokens at)
+named_leaf tokens ((leaf.Name at) ∷ leaves) = bytes_at tokens at
 named_leaf tokens _ = []
 
 abbrev pub constant_of : List Tree → Work → Option Meaning
@@ -355,7 +300,7 @@ constant_with files first name m found w =
 abbrev pub constant : FileNames → Place → List Name → Work → Work
 constant files first [] w = passed true w
 constant files first (name ∷ names) w =
-    constant_with files first name (constant_of (trees_in wanted.Constant (operands_of w) w) w) (finding_of wanted.Constant w) w
+    constant_with files first name (constant_of (map tree_in (trees_at 0 wanted.Constant (operands_of w) w)) w) (finding_at 0 wanted.Constant w) w
 
 -- The routine of a name is to be replaced where it stands in a file that is marked. That is a use of the name.
 abbrev pub used_name : Name → Table Place → Table Place
@@ -366,6 +311,33 @@ replace files first [] w = passed true w
 replace files first (name ∷ names) w =
     unit_ended files first true None (record w { output = referred name.bytes name.place w.output; replaced = used_name name w.replaced })
 
+-- A stub is a routine of so many locals, four at most, that returns 0. It is one where the name is not declared.
+abbrev pub stub_locals_by : Option TokenKind → ℕ
+stub_locals_by None = 0
+stub_locals_by (Some k) = unwrap_or (number_of k) 0
+
+abbrev pub stub_locals : List Spelled → ℕ
+stub_locals tokens = stub_locals_by (kind_at tokens (length tokens - 1))
+
+abbrev pub stub_code : ℕ → Code
+stub_code locals o = closed routine_kind.Embedded (opened locals false o)
+
+abbrev pub stubbed : FileNames → Place → Work → Work
+stubbed files first w =
+    let locals = stub_locals w.unit.tokens in
+    if nat_lt 4 locals then unit_ended files first true (Some (record { place = first; message = ConstantOutOfRange })) w
+    else unit_ended files first true None (record w { output = stub_code locals w.output })
+
+abbrev pub stub_by : Found Place → FileNames → Place → Name → Work → Work
+stub_by (found.System m) files first name w = unit_ended files first true None w
+stub_by (found.Declared m place) files first name w = unit_ended files first true None w
+stub_by found.Used files first name w = stubbed files first (routine_declared name w)
+stub_by found.Unknown files first name w = stubbed files first (routine_declared name w)
+
+abbrev pub stub : FileNames → Place → List Name → Work → Work
+stub files first [] w = passed true w
+stub files first (name ∷ names) w = stub_by (found_in name.bytes w.output.names) files first name w
+
 abbrev pub carried_out : Directive → FileNames → Place → List Name → Work → Work
 carried_out directive.Include files first names w = passed true (record w { asked = Include (quoted_in w.unit.tokens) first })
 carried_out directive.Message files first names w =
@@ -373,6 +345,7 @@ carried_out directive.Message files first names w =
 carried_out directive.End files first names w = passed true (record w { asked = End })
 carried_out directive.Constant files first names w = constant files first names w
 carried_out directive.Replace files first names w = replace files first names w
+carried_out directive.Stub files first names w = stub files first names w
 carried_out directive.SystemFile files first names w = passed true (record w { is_system = true })
 
 -- a directive ends, which begins with the name of its word; code begins with it, unless it has begun
@@ -382,26 +355,6 @@ directive_of_names files first (word ∷ names) w = begun_at files first (carrie
 
 abbrev pub directive_end : FileNames → Place → Work → Work
 directive_end files place w = directive_of_names files (first_place w.unit.tokens place) (names_in w.unit.tokens) w
-
--- Actions
-
--- what an action does before a token at a place
-abbrev pub act : FileNames → Place → Action → Work → Work
-act files place action.EndLocals w = header_end files place w
-act files place action.EndDirective w = directive_end files place w
-act files place action.EndStatement w = statement_end files place w
-act files place action.EndRoutine w = close files place w
-act files place action.Deeper w = nested files place (is_deep w 1) w
-act files place action.OpenIf w = if_opened files place w
-act files place action.EndIf w = if_end files place w
-act files place action.Else w = other_side w.constructs w
-act files place action.Close w = closed_with w.constructs w
-act files place action.OuterSure w = sized files (record w { unit = unit_acted action.OuterSure w.unit })
-act files place a w = record w { unit = unit_acted a w.unit }
-
-abbrev pub acted : FileNames → Place → List Action → Work → Work
-acted files place [] w = w
-acted files place (a ∷ actions) w = acted files place actions (act files place a w)
 
 -- Files
 

@@ -1,10 +1,10 @@
 -- What is told of what is wrong with a unit.
-use Rattle.std.specs.Prelude.{ℕ, ◌==◌, List, slice_get, if◌then◌else◌, Option, Some, None}
+use Rattle.std.specs.Prelude.{ℕ, ◌==◌, List, [], slice_get, if◌then◌else◌, Option, Some, None}
 use Rattle.inf_scanner.specs.declared.tokens.Place.{Place}
 use Rattle.inf_expressions.specs.declared.findings.Finding.{Finding}
 use Rattle.inf_names.specs.declared.symbols.DeclareFault.{DeclareFault}
 use Rattle.inf_names.specs.declared.symbols.DeclareFault.TheVariants as declaring
-use Rattle.inf_report.specs.Messages.{ConstantOutOfRange, Declared, End, Message, NotConstant, SystemName, Told, TooMany, TooManyArguments, WrongKind}
+use Rattle.inf_report.specs.Messages.{ConstantOutOfRange, Declared, End, LabelTwice, Message, MisplacedDefault, NotConstant, NothingToLeave, SystemName, Told, TooMany, TooManyArguments, WrongKind, WrongOpcode}
 use Rattle.inf_report.specs.declared.messages.Countable.TheVariants as countable
 use Rattle.inf_symbol.specs.Spellings.{Name}
 use Rattle.inf_symbol.specs.Locals.{Headed, Repeated}
@@ -14,14 +14,20 @@ use Rattle.inf_work.specs.Words.{nowhere}
 
 -- Expressions
 
--- the message of a finding at a token, by its number in the table of errors
-abbrev pub message_of : ℕ → Told → Message
-message_of number t =
-    if number == 9 then WrongKind t else if number == 12 then NotConstant else if number == 13 then ConstantOutOfRange else TooManyArguments
+-- the message of a finding at a token with these bytes, by its number in the table of errors
+abbrev pub message_of : ℕ → Told → List ℕ → Message
+message_of number t bytes =
+    if number == 9 then WrongKind t else
+    if number == 12 then NotConstant else
+    if number == 13 then ConstantOutOfRange else
+    if number == 15 then WrongOpcode bytes else
+    if number == 16 then LabelTwice bytes else
+    if number == 17 then NothingToLeave else
+    if number == 24 then MisplacedDefault else TooManyArguments
 
 abbrev pub blame_at : ℕ → Option Spelled → Blame
-blame_at number None = record { place = nowhere; message = message_of number End }
-blame_at number (Some t) = record { place = t.place; message = message_of number (told t) }
+blame_at number None = record { place = nowhere; message = message_of number End [] }
+blame_at number (Some t) = record { place = t.place; message = message_of number (told t) t.bytes }
 
 abbrev pub blame_of : List Spelled → Finding → Blame
 blame_of tokens f = blame_at f.number (slice_get tokens f.order)

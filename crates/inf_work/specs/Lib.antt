@@ -1,7 +1,7 @@
 pub mod Words
 pub mod Findings
-pub mod Operands
-pub mod Statements
 pub mod Actions
+pub mod Parts
+pub mod Acting
 pub mod Works
 pub mod Limits

@@ -4,7 +4,8 @@ use Rattle.inf_scanner.specs.declared.tokens.Place.{Place}
 use Rattle.inf_syntax.specs.declared.actions.Action.{Action}
 use Rattle.inf_unit.specs.Messages.{FileNames}
 use Rattle.inf_output.specs.Limits.{SameLimits as SameOutLimits}
-use Rattle.inf_work.specs.Actions.{Work, acted}
+use Rattle.inf_work.specs.Actions.{Work}
+use Rattle.inf_work.specs.Acting.{acted}
 
 -- as much as before
 abbrev pub SameLimits : Work → Work → Type 0

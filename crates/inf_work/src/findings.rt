@@ -10,6 +10,7 @@ use inf_expressions::{Finding, NOT_CONSTANT, OUT_OF_RANGE, WRONG_KIND};
 use inf_lexer::{Place, Stack};
 use inf_names::symbols::DeclareFault;
 use inf_report::messages::{Countable, Message, Told};
+use inf_statements::effects::{GIVEN_TWICE, MISPLACED_DEFAULT, NOTHING_TO_LEAVE, WRONG_OPCODE};
 use inf_symbol::locals::{Headed, Repeated};
 use inf_symbol::spellings::Name;
 use inf_unit::messages::{Blame, location};
@@ -19,14 +20,18 @@ use inf_unit::unit_tokens::UnitTokens;
 /// Before the first unit nothing was laid.
 pub(crate) const NOWHERE: Place = Place { file: 0, line: 0 };
 
-/// The message of a finding at a token, by its number in the table of errors.
-fn message_of<'t>(number: u8, token: Told<'t>) -> Message<'t>
-    ensures { meant result ≡ message_of number (named token.entry) }
+/// The message of a finding at a token with these bytes, by its number in the table of errors.
+fn message_of<'t>(number: u8, token: Told<'t>, bytes: &'t [u8]) -> Message<'t>
+    ensures { meant result ≡ message_of number (named token.entry) bytes.now }
 {
     match number {
         WRONG_KIND => Message::WrongKind(token),
         NOT_CONSTANT => Message::NotConstant,
         OUT_OF_RANGE => Message::ConstantOutOfRange,
+        WRONG_OPCODE => Message::WrongOpcode(bytes),
+        GIVEN_TWICE => Message::LabelTwice(bytes),
+        NOTHING_TO_LEAVE => Message::NothingToLeave,
+        MISPLACED_DEFAULT => Message::MisplacedDefault,
         _ => Message::TooManyArguments,
     }
 }
@@ -38,11 +43,11 @@ pub(crate) fn blame_of<'t>(tokens: &'t UnitTokens, finding: Finding) -> Blame<'t
     match tokens.get(finding.order as usize) {
         Some(token) => Blame {
             place: token.place,
-            message: message_of(finding.number, told(&token)),
+            message: message_of(finding.number, told(&token), token.bytes),
         },
         None => Blame {
             place: NOWHERE,
-            message: message_of(finding.number, Told::End),
+            message: message_of(finding.number, Told::End, b""),
         },
     }
 }

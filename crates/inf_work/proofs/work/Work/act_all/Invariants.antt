@@ -1,5 +1,5 @@
 use Rattle.std.proofs.Common.{◌≡◌, drop}
-use Rattle.inf_work.specs.Actions.{acted}
+use Rattle.inf_work.specs.Acting.{acted}
 use Rattle.inf_work.specs.Works.{work}
 use Rattle.inf_work.proofs.work.Work.act_all.Given as goal
 

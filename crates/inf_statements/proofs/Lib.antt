@@ -1,0 +1,4 @@
+pub mod Named
+pub mod Fitting
+pub mod Stacks
+pub mod Keeping

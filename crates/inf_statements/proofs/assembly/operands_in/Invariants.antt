@@ -1,0 +1,10 @@
+use Rattle.std.proofs.Common.{◌≡◌, ◌+◌, ◌-◌, ◌≤◌, ◌++◌, length, drop}
+use Rattle.inf_statements.specs.Assembly.{operands_in}
+use Rattle.inf_statements.specs.Statements.{trees_from}
+use Rattle.inf_statements.proofs.assembly.operands_in.Given as goal
+
+-- what is there, with what is left, is all
+abbrev pub invariant-loop-root : goal.invariant-loop-root
+invariant-loop-root l =
+    (l.operands.items ++ operands_in (trees_from l.nodes (drop l.root-index l.roots)) ≡ operands_in (trees_from l.nodes l.roots))
+    × ((length l.operands.items ≡ l.root-index) × (length l.roots ≤ 8))

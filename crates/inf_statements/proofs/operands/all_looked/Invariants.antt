@@ -1,0 +1,9 @@
+use Rattle.std.proofs.Common.{◌≡◌, [], drop}
+use Rattle.inf_symbol.specs.LocalList.{listed}
+use Rattle.inf_statements.specs.Operands.{looked_from}
+use Rattle.inf_statements.proofs.operands.all_looked.Given as goal
+
+-- the operands so far, and then those of the leaves that are left, are those of all
+abbrev pub invariant-loop-leaf : goal.invariant-loop-leaf
+invariant-loop-leaf l =
+    looked_from (listed l.locals) l.names l.tokens (drop l.leaf-index l.leaves) l.operands.items ≡ looked_from (listed l.locals) l.names l.tokens l.leaves []

@@ -1,0 +1,11 @@
+use Rattle.std.proofs.Common.{◌≡◌, [], drop}
+use Rattle.inf_symbol.specs.LocalList.{listed}
+use Rattle.inf_statements.specs.Operands.{Settled, settled}
+use Rattle.inf_statements.proofs.operands.settled.Given as goal
+
+-- what was settled so far leads, with the leaves that are left, to what all lead to
+abbrev pub invariant-loop-leaf : goal.invariant-loop-leaf
+invariant-loop-leaf l =
+    let now : Settled = record { out = l.out; operands = l.operands.items } in
+    let first : Settled = record { out = l.fn.out; operands = [] } in
+    settled (listed l.locals) l.tokens (drop l.leaf-index l.leaves) now ≡ settled (listed l.locals) l.tokens l.leaves first

@@ -1,0 +1,13 @@
+use Rattle.std.proofs.Common.{◌≡◌, length}
+use Rattle.inf_templates.specs.Tasks.{part_of}
+use Rattle.inf_statements.specs.Statements.{attributes_given, trees_from}
+use Rattle.inf_statements.proofs.statements.lay_attributes.Given as goal
+
+-- what is left leads from here to where all leads
+abbrev pub invariant-loop-item : goal.invariant-loop-item
+invariant-loop-item l =
+    attributes_given (part_of l.nodes l.object) l.left (trees_from l.nodes l.attributes) l.out
+    ≡ attributes_given (part_of l.nodes l.object) l.items (trees_from l.nodes l.roots) l.fn.out
+
+abbrev pub decreases-loop-item : goal.decreases-loop-item
+decreases-loop-item l = length l.left

@@ -1,0 +1,194 @@
+-- Assembly lines. Z-Machine Standard 1.1, sections 4 and 14.
+use Rattle.std.specs.Prelude.{ℕ, ◌+◌, ◌==◌, List, [], ◌∷◌, length, nat_le, codes, Bool, true, false, not, ◌&&◌, if◌then◌else◌, Option, Some, None, is_some, unwrap_or}
+use Rattle.std.specs.Str.{str_eq_ignore_ascii_case}
+use Rattle.inf_characters.specs.declared.characters.CharSet.{CharSet}
+use Rattle.inf_scanner.specs.declared.tokens.Place.{Place}
+use Rattle.inf_opcode.specs.Opcodes.{row_of}
+use Rattle.inf_opcode.specs.declared.instructions.Branch.{Branch}
+use Rattle.inf_opcode.specs.declared.instructions.Destination.{Destination}
+use Rattle.inf_opcode.specs.declared.instructions.Destination.TheVariants as destination
+use Rattle.inf_opcode.specs.declared.instructions.Label.{Label}
+use Rattle.inf_opcode.specs.declared.opcodes.Opcode.{Opcode}
+use Rattle.inf_opcode.specs.declared.opcodes.OpcodeRow.{OpcodeRow}
+use Rattle.inf_expressions.specs.declared.findings.Finding.{Finding}
+use Rattle.inf_expressions.specs.declared.operators.Operand.{Operand}
+use Rattle.inf_expressions.specs.declared.operators.Operand.TheVariants as operand
+use Rattle.inf_expressions.specs.Findings.{least_of_both, wrong_kind}
+use Rattle.inf_expressions.specs.Trees.{Tree}
+use Rattle.inf_names.specs.Symbols.{Table}
+use Rattle.inf_output.specs.declared.operands.Simple.{Simple}
+use Rattle.inf_output.specs.declared.operands.Simple.TheVariants as simple
+use Rattle.inf_output.specs.Output.{Code, Out, behind, instruction, jumped, naming, next_label, nothing}
+use Rattle.inf_templates.specs.Meaning.{meaning}
+use Rattle.inf_symbol.specs.Locals.{Local, number_of}
+use Rattle.inf_unit.specs.Opcodes.{opcode_of}
+use Rattle.inf_unit.specs.Tokens.{Spelled}
+use Rattle.inf_unit.specs.Units.{bytes_at, next_place, order}
+use Rattle.inf_unit.specs.declared.items.Item.{Item}
+use Rattle.inf_unit.specs.declared.items.Item.TheVariants as item
+use Rattle.inf_statements.specs.Cases.{operand_in}
+use Rattle.inf_statements.specs.Constructs.{Laying, giving}
+use Rattle.inf_statements.specs.Labels.{NamedLabel, given, label_of, wanted}
+use Rattle.inf_statements.specs.Operands.{is_stack, looked_name}
+use Rattle.inf_statements.specs.Printing.{text_at}
+use Rattle.inf_statements.specs.Statements.{printed}
+use Rattle.inf_statements.specs.declared.assembly.Ends.{Ends}
+
+-- Named labels
+
+-- the label of a name that is used, and the labels then
+abbrev pub labelled : List ℕ → List NamedLabel → Laying (Label × List NamedLabel)
+labelled name labels o =
+    ((label_of name (next_label o) labels, wanted name (next_label o) labels), record o { next = behind o.next })
+
+-- the same where its place is given
+abbrev pub placed : List ℕ → List NamedLabel → Laying (Label × List NamedLabel)
+placed name labels o =
+    ((label_of name (next_label o) labels, given name (next_label o) labels), record o { next = behind o.next })
+
+-- What stands behind the operands of a line, or is no operand
+
+abbrev pub no_ends : Ends
+no_ends = record { store = None; branch = None; text = None; jump = None }
+
+abbrev pub with_end : Item → Ends → Ends
+with_end (item.Store at) e = record e { store = Some at }
+with_end (item.Branch at sense) e = record e { branch = Some (at, sense) }
+with_end (item.Text at) e = record e { text = Some at }
+with_end (item.Jump at) e = record e { jump = Some at }
+with_end _ e = e
+
+abbrev pub ends_from : List Item → Ends → Ends
+ends_from [] e = e
+ends_from (i ∷ items) e = ends_from items (with_end i e)
+
+abbrev pub ends_of : List Item → Ends
+ends_of items = ends_from items no_ends
+
+-- What an opcode takes
+
+abbrev pub same : Bool → Bool → Bool
+same true b = b
+same false b = not b
+
+abbrev pub variable_of : Option Simple → Option ℕ
+variable_of (Some (simple.Variable v)) = Some v
+variable_of _ = None
+
+abbrev pub first_variable : List Tree → Option ℕ
+first_variable [] = None
+first_variable (e ∷ trees) = variable_of (meaning e).operand
+
+abbrev pub has_ends : OpcodeRow → Ends → Bool
+has_ends row e = same row.stores (is_some e.store) && same row.branches (is_some e.branch) && same row.has_text (is_some e.text)
+
+-- so many operands, of which no instruction has more than eight and the first is a variable where the opcode wants one, and what stands behind them
+abbrev pub fits_row : OpcodeRow → ℕ → Bool → Ends → Bool
+fits_row row operands has_variable e =
+    nat_le row.least operands && nat_le operands row.most && nat_le operands 8 && (if row.names_variable then has_variable else true) && has_ends row e
+
+-- a jump has one name, and nothing behind it
+abbrev pub fits_jump : Ends → Bool
+fits_jump e = is_some e.jump && not (is_some e.store) && not (is_some e.branch)
+
+unfoldable pub fits : Opcode → List Tree → Ends → Bool
+fits op trees e = if (row_of op).jumps then fits_jump e else fits_row (row_of op) (length trees) (is_some (first_variable trees)) e
+
+-- What is wrong with a line: its opcode, what it has, or where it stores
+
+abbrev pub fits_some : Option Opcode → List Tree → Ends → Bool
+fits_some None trees e = false
+fits_some (Some op) trees e = fits op trees e
+
+abbrev pub wrong_opcode : ℕ → Finding
+wrong_opcode at = record { order = at; number = 15 }
+
+abbrev pub stored_in : Operand → Option ℕ
+stored_in (operand.Variable v) = Some v
+stored_in _ = None
+
+abbrev pub store_variable : List Local → Table Place → List ℕ → Option ℕ
+store_variable locals names name = if is_stack name (number_of name locals) then Some 0 else stored_in (looked_name locals names name)
+
+-- (what is no variable is an error of its line)
+abbrev pub store_of : List Local → Table Place → List Spelled → Option ℕ → Option ℕ
+store_of locals names tokens None = None
+store_of locals names tokens (Some at) = Some (unwrap_or (store_variable locals names (bytes_at tokens at)) 0)
+
+abbrev pub store_finding_by : Option ℕ → ℕ → Option Finding
+store_finding_by None at = Some (wrong_kind (order at))
+store_finding_by (Some v) at = None
+
+abbrev pub store_finding : List Local → Table Place → List Spelled → Option ℕ → Option Finding
+store_finding locals names tokens None = None
+store_finding locals names tokens (Some at) = store_finding_by (store_variable locals names (bytes_at tokens at)) at
+
+abbrev pub line_finding : List Local → Table Place → List Spelled → ℕ → Ends → List Tree → Option Finding
+line_finding locals names tokens begun e trees =
+    let stores = store_finding locals names tokens e.store in
+    if fits_some (opcode_of (bytes_at tokens (next_place begun))) trees e then stores else least_of_both stores (Some (wrong_opcode (order (next_place begun))))
+
+-- Its code
+
+abbrev pub operands_in : List Tree → List Simple
+operands_in [] = []
+operands_in (e ∷ trees) = operand_in e ∷ operands_in trees
+
+abbrev pub branch_to : Bool → Destination → Option Branch
+branch_to sense destination = Some (record { sense = sense; target = destination })
+
+abbrev pub branched_to : List ℕ → Bool → List NamedLabel → Laying (Option Branch × List NamedLabel)
+branched_to name sense labels o =
+    if str_eq_ignore_ascii_case name (codes "rtrue") then ((branch_to sense destination.ReturnTrue, labels), o) else
+    if str_eq_ignore_ascii_case name (codes "rfalse") then ((branch_to sense destination.ReturnFalse, labels), o) else
+    let l = labelled name labels o in ((branch_to sense (destination.To l.0.0), l.0.1), l.1)
+
+unfoldable pub branched : List Spelled → Option (ℕ × Bool) → List NamedLabel → Laying (Option Branch × List NamedLabel)
+branched tokens None labels o = ((None, labels), o)
+branched tokens (Some b) labels o = branched_to (bytes_at tokens b.0) b.1 labels o
+
+abbrev pub jumped_on : List Spelled → Option ℕ → List NamedLabel → Laying (List NamedLabel)
+jumped_on tokens None labels o = (labels, o)
+jumped_on tokens (Some at) labels o = let l = labelled (bytes_at tokens at) labels o in (l.0.1, jumped l.0.0 l.1)
+
+abbrev pub named_first : Opcode → List Tree → Option ℕ → Option Branch → Code
+named_first op [] store branch o = o
+named_first op (e ∷ trees) store branch o = naming op (unwrap_or (variable_of (meaning e).operand) 0) (operands_in trees) store branch o
+
+unfoldable pub instructed : Bool → Opcode → List Tree → Option ℕ → Option Branch → Code
+instructed true op trees store branch = named_first op trees store branch
+instructed false op trees store branch = instruction op (operands_in trees) store branch
+
+abbrev pub line_instructed : List Local → List Spelled → Opcode → Ends → List Tree → List NamedLabel → Laying (List NamedLabel)
+line_instructed locals tokens op e trees labels o =
+    let b = branched tokens e.branch labels o in
+    (b.0.1, instructed (row_of op).names_variable op trees (store_of locals b.1.names tokens e.store) b.0.0 b.1)
+
+-- the opcode itself, where it prints a text and takes nothing else
+abbrev pub prints : OpcodeRow → Bool
+prints row = row.has_text && not row.jumps && not row.stores && not row.branches && (row.least == 0)
+
+abbrev pub printing_of : Opcode → Option Opcode
+printing_of op = if prints (row_of op) then Some op else None
+
+abbrev pub text_printed : CharSet → List Spelled → Option Opcode → ℕ → Code
+text_printed set tokens None at = nothing
+text_printed set tokens (Some op) at = printed op (text_at set tokens at)
+
+abbrev pub some_printed : CharSet → List Spelled → Opcode → Option ℕ → Code
+some_printed set tokens op None = nothing
+some_printed set tokens op (Some at) = text_printed set tokens (printing_of op) at
+
+abbrev pub line_laid_by : Bool → Bool → CharSet → List Local → List Spelled → Opcode → Ends → List Tree → List NamedLabel → Laying (List NamedLabel)
+line_laid_by true has_text set locals tokens op e trees labels = jumped_on tokens e.jump labels
+line_laid_by false true set locals tokens op e trees labels = giving labels (some_printed set tokens op e.text)
+line_laid_by false false set locals tokens op e trees labels = line_instructed locals tokens op e trees labels
+
+abbrev pub line_laid_as : Bool → CharSet → List Local → List Spelled → Opcode → Ends → List Tree → List NamedLabel → Laying (List NamedLabel)
+line_laid_as true set locals tokens op e trees labels = line_laid_by (row_of op).jumps (row_of op).has_text set locals tokens op e trees labels
+line_laid_as false set locals tokens op e trees labels = giving labels nothing
+
+-- of a line without an error
+unfoldable pub line_laid : CharSet → List Local → List Spelled → Option Opcode → Ends → List Tree → List NamedLabel → Laying (List NamedLabel)
+line_laid set locals tokens None e trees labels o = (labels, o)
+line_laid set locals tokens (Some op) e trees labels o = line_laid_as (fits op trees e) set locals tokens op e trees labels o

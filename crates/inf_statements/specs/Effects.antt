@@ -1,0 +1,112 @@
+-- What the statements of a routine do, and what is wrong with them beside their expressions.
+use Rattle.std.specs.Prelude.{ℕ, ◌+◌, List, [], ◌∷◌, map, Bool, true, false, if◌then◌else◌, Option, Some, None}
+use Rattle.inf_characters.specs.declared.characters.CharSet.{CharSet}
+use Rattle.inf_scanner.specs.declared.tokens.Place.{Place}
+use Rattle.inf_opcode.specs.declared.opcodes.Opcode.TheVariants as opcode
+use Rattle.inf_expressions.specs.declared.findings.Finding.{Finding}
+use Rattle.inf_expressions.specs.declared.units.Wanted.{Wanted}
+use Rattle.inf_expressions.specs.declared.units.Wanted.TheVariants as wanted
+use Rattle.inf_expressions.specs.Findings.{wrong_kind}
+use Rattle.inf_expressions.specs.Rooted.{Rooted}
+use Rattle.inf_expressions.specs.Trees.{Tree}
+use Rattle.inf_names.specs.Symbols.{Table}
+use Rattle.inf_opcode.specs.declared.instructions.Label.{Label}
+use Rattle.inf_output.specs.Output.{Code, Out, apart, jumped, marked, nothing, ◌▸◌}
+use Rattle.inf_symbol.specs.Locals.{Local}
+use Rattle.inf_unit.specs.Opcodes.{opcode_of}
+use Rattle.inf_unit.specs.Tokens.{Spelled}
+use Rattle.inf_unit.specs.Units.{bytes_at, next_place, order}
+use Rattle.inf_unit.specs.declared.items.Item.{Item}
+use Rattle.inf_statements.specs.Assembly.{ends_of, labelled, line_finding, line_laid, placed}
+use Rattle.inf_statements.specs.Constructs.{Laying, giving, left_to}
+use Rattle.inf_statements.specs.Labels.{NamedLabel, is_given}
+use Rattle.inf_statements.specs.Printing.{items_printed}
+use Rattle.inf_statements.specs.Statements.{alone, attributes_changed, jumped_to, moved, one_worked, plain, returned, spaced, style_of, styled}
+use Rattle.inf_statements.specs.declared.constructs.Construct.{Construct}
+use Rattle.inf_statements.specs.declared.statements.Statement.{Statement}
+use Rattle.inf_statements.specs.declared.statements.Statement.TheVariants as statement
+
+-- What a statement goes by beside its trees: the character set of the source; its tokens, where among them it begins, and what it has beside its
+-- expressions; the locals of its routine; and the statements that hold it, the innermost first.
+pub record Site : Type 0 where
+  pub set : CharSet
+  pub tokens : List Spelled
+  pub begun : ℕ
+  pub items : List Item
+  pub locals : List Local
+  pub constructs : List Construct
+
+-- the name behind its first token
+abbrev pub name_behind : Site → List ℕ
+name_behind s = bytes_at s.tokens (next_place s.begun)
+
+-- What is wrong
+
+-- `Label is given twice`, `No loop or switch to leave or continue`, `default must come once and last`
+abbrev pub given_twice : ℕ → Finding
+given_twice at = record { order = at; number = 16 }
+
+abbrev pub nothing_to_leave : ℕ → Finding
+nothing_to_leave at = record { order = at; number = 17 }
+
+abbrev pub misplaced_default : Finding
+misplaced_default = record { order = 0; number = 24 }
+
+abbrev pub unless_some : {A : Type 0} → Option A → Finding → Option Finding
+unless_some None f = Some f
+unless_some (Some a) f = None
+
+abbrev pub only_if : Bool → Finding → Option Finding
+only_if b f = if b then Some f else None
+
+-- with a statement that is no assembly line
+unfoldable pub statement_finding : Site → List NamedLabel → Statement → Option Finding
+statement_finding s labels statement.Break = unless_some (left_to false s.constructs) (nothing_to_leave (order s.begun))
+statement_finding s labels statement.Continue = unless_some (left_to true s.constructs) (nothing_to_leave (order s.begun))
+statement_finding s labels statement.Place = only_if (is_given (name_behind s) labels) (given_twice (order (next_place s.begun)))
+statement_finding s labels statement.Style = unless_some (style_of (name_behind s)) (wrong_kind (order (next_place s.begun)))
+statement_finding s labels _ = None
+
+-- with an assembly line, by the trees that its operands are where names are only looked up
+abbrev pub site_finding : Site → Table Place → List Tree → Option Finding
+site_finding s names trees = line_finding s.locals names s.tokens s.begun (ends_of s.items) trees
+
+-- what it wants of its expressions
+abbrev pub wanted_by : Statement → Wanted
+wanted_by statement.Assembly = wanted.Operand
+wanted_by _ = wanted.Value
+
+-- What it does
+
+abbrev pub statement_code : Site → List Tree → Statement → Code
+statement_code s trees statement.Empty = nothing
+statement_code s trees statement.Expression = alone trees
+statement_code s trees statement.Print = items_printed s.set s.tokens false false s.items trees
+statement_code s trees statement.PrintReturn = items_printed s.set s.tokens true false s.items trees
+statement_code s trees statement.Return = returned trees
+statement_code s trees statement.NewLine = plain opcode.NewLine
+statement_code s trees statement.Quit = plain opcode.Quit
+statement_code s trees statement.ReturnTrue = plain opcode.Rtrue
+statement_code s trees statement.ReturnFalse = plain opcode.Rfalse
+statement_code s trees statement.Break = jumped_to (left_to false s.constructs)
+statement_code s trees statement.Continue = jumped_to (left_to true s.constructs)
+statement_code s trees statement.Give = attributes_changed s.items trees
+statement_code s trees statement.Move = moved trees
+statement_code s trees statement.Remove = one_worked opcode.RemoveObj trees
+statement_code s trees statement.Spaces = spaced trees
+statement_code s trees statement.Style = styled (name_behind s)
+statement_code s trees statement.Place = nothing
+statement_code s trees statement.Jump = nothing
+statement_code s trees statement.Assembly = nothing
+
+abbrev pub jump_laid : List ℕ → List NamedLabel → Laying (List NamedLabel)
+jump_laid name labels o = let l = labelled name labels o in (l.0.1, jumped l.0.0 l.1)
+
+abbrev pub place_laid : List ℕ → List NamedLabel → Laying (List NamedLabel)
+place_laid name labels o = let l = placed name labels o in (l.0.1, marked l.0.0 l.1)
+
+unfoldable pub statement_laid : Site → Statement → List Tree → List NamedLabel → Laying (List NamedLabel)
+statement_laid s statement.Jump trees labels = jump_laid (name_behind s) labels
+statement_laid s statement.Place trees labels = place_laid (name_behind s) labels
+statement_laid s statement.Assembly trees labels = line_laid s.set s.locals s.tokens (opcode_of (name_behind s)) (ends_of s.items) trees labels
+statement_laid s other trees labels = giving labels (statement_code s trees other)

@@ -1,0 +1,72 @@
+-- The labels of a routine that have names.
+use Rattle.std.specs.Prelude.{ℕ, zero, suc, ◌==◌, List, [], ◌∷◌, Bool, true, false, if◌then◌else◌, Option, Some, None}
+use Rattle.std.specs.Str.{bytes_eq}
+use Rattle.inf_names.specs.Symbols.{folded}
+use Rattle.inf_opcode.specs.declared.instructions.Label.{Label}
+
+-- What is known of a label: its name as it is spelled where it stands first, its number, and whether its place was given.
+pub record Known : Type 0 where
+  pub spelling : List ℕ
+  pub label : Label
+  pub is_given : Bool
+
+-- and its name without case
+pub record NamedLabel : Type 0 where
+  pub key : List ℕ
+  pub known : Known
+
+abbrev pub known_of : List ℕ → List NamedLabel → Option Known
+known_of key [] = None
+known_of key (l ∷ labels) = if bytes_eq key l.key then Some l.known else known_of key labels
+
+-- something is known of a label: in its place, or behind the others
+abbrev pub put : List ℕ → Known → List NamedLabel → List NamedLabel
+put key known [] = record { key = key; known = known } ∷ []
+put key known (l ∷ labels) = if bytes_eq key l.key then record { key = l.key; known = known } ∷ labels else l ∷ put key known labels
+
+-- the label of a name, in any case: that which it has, or a new one
+abbrev pub label_or : Label → Option Known → Label
+label_or new None = new
+label_or new (Some k) = k.label
+
+abbrev pub label_of : List ℕ → Label → List NamedLabel → Label
+label_of name new labels = label_or new (known_of (folded name) labels)
+
+-- the name is used: with a new label, where it has none
+abbrev pub wanted_by : Option Known → List ℕ → Label → List NamedLabel → List NamedLabel
+wanted_by None name new labels = put (folded name) (record { spelling = name; label = new; is_given = false }) labels
+wanted_by (Some k) name new labels = labels
+
+abbrev pub wanted : List ℕ → Label → List NamedLabel → List NamedLabel
+wanted name new labels = wanted_by (known_of (folded name) labels) name new labels
+
+-- its place is given
+abbrev pub given_by : Option Known → List ℕ → Label → List NamedLabel → List NamedLabel
+given_by None name new labels = put (folded name) (record { spelling = name; label = new; is_given = true }) labels
+given_by (Some k) name new labels = put (folded name) (record { spelling = k.spelling; label = k.label; is_given = true }) labels
+
+abbrev pub given : List ℕ → Label → List NamedLabel → List NamedLabel
+given name new labels = given_by (known_of (folded name) labels) name new labels
+
+abbrev pub was_given : Option Known → Bool
+was_given None = false
+was_given (Some k) = k.is_given
+
+abbrev pub is_given : List ℕ → List NamedLabel → Bool
+is_given name labels = was_given (known_of (folded name) labels)
+
+-- how the name of a label is spelled where it stands first
+abbrev pub spelled_as : Label → List NamedLabel → List ℕ
+spelled_as label [] = []
+spelled_as label (l ∷ labels) = if l.known.label.number == label.number then l.known.spelling else spelled_as label labels
+
+-- what is known of the label at a place among them
+abbrev pub known_at : ℕ → List NamedLabel → Option Known
+known_at n [] = None
+known_at zero (l ∷ labels) = Some l.known
+known_at (suc n) (l ∷ labels) = known_at n labels
+
+-- its name, where it is this label
+abbrev pub spelled_at : Label → Option Known → Option (List ℕ)
+spelled_at label None = None
+spelled_at label (Some k) = if k.label.number == label.number then Some k.spelling else None

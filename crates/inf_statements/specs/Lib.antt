@@ -1,0 +1,11 @@
+pub mod Labels
+pub mod Entries
+pub mod Operands
+pub mod Constructs
+pub mod Cases
+pub mod Statements
+pub mod Printing
+pub mod Assembly
+pub mod Effects
+pub mod Sites
+pub mod Limits

@@ -1,0 +1,164 @@
+-- What the leaves of a unit stand for.
+use Rattle.std.specs.Prelude.{ℕ, List, [], ◌∷◌, ◌++◌, codes, Bool, false, if◌then◌else◌, Option, Some, None, unwrap_or}
+use Rattle.std.specs.Str.{str_eq_ignore_ascii_case}
+use Rattle.inf_area.specs.declared.targets.Target.TheVariants as target
+use Rattle.inf_scanner.specs.declared.tokens.Place.{Place}
+use Rattle.inf_expressions.specs.declared.operators.Function.{Function}
+use Rattle.inf_expressions.specs.declared.operators.Function.TheVariants as function
+use Rattle.inf_expressions.specs.declared.operators.Operand.{Operand}
+use Rattle.inf_expressions.specs.declared.operators.Operand.TheVariants as operand
+use Rattle.inf_gathering.specs.declared.gathering.Leaf.{Leaf}
+use Rattle.inf_gathering.specs.declared.gathering.Leaf.TheVariants as leaf
+use Rattle.inf_names.specs.Symbols.{Table, found_in}
+use Rattle.inf_names.specs.declared.meanings.Function.{Function as NamedFunction}
+use Rattle.inf_names.specs.declared.meanings.Function.TheVariants as named
+use Rattle.inf_names.specs.declared.meanings.Meaning.{Meaning}
+use Rattle.inf_names.specs.declared.meanings.Meaning.TheVariants as meaning
+use Rattle.inf_names.specs.declared.symbols.Found.{Found}
+use Rattle.inf_names.specs.declared.symbols.Found.TheVariants as found
+use Rattle.inf_symbol.specs.Locals.{Local, number_of, with_named}
+use Rattle.inf_symbol.specs.Spellings.{Name}
+use Rattle.inf_unit.specs.Tokens.{Spelled}
+use Rattle.inf_unit.specs.Units.{bytes_at, name_at}
+use Rattle.inf_unit.specs.declared.items.Item.{Item}
+use Rattle.inf_unit.specs.declared.items.Item.TheVariants as item
+use Rattle.inf_output.specs.Output.{Out, referred, referred_as}
+
+-- Names
+
+abbrev pub function_of : NamedFunction → Function
+function_of named.Child = function.Child
+function_of named.Parent = function.Parent
+function_of named.Sibling = function.Sibling
+function_of named.Children = function.Children
+function_of named.Random = function.Random
+function_of named.Indirect = function.Indirect
+
+-- what a name stands for whose value is known, or that is a variable or a function
+abbrev pub standing : Meaning → Option Operand
+standing (meaning.Number number) = Some (operand.Known number)
+standing (meaning.Variable number) = Some (operand.Variable number)
+standing (meaning.Attribute number) = Some (operand.Known number)
+standing (meaning.Property number is_additive) = Some (operand.Known number)
+standing (meaning.IndividualProperty number) = Some (operand.Known number)
+standing (meaning.Object number) = Some (operand.Known number)
+standing (meaning.Class number) = Some (operand.Known number)
+standing (meaning.FakeAction number) = Some (operand.Known number)
+standing (meaning.Function f) = Some (operand.Function (function_of f))
+standing (meaning.Text place) = None
+standing (meaning.Word place) = None
+standing (meaning.LowString place) = None
+standing (meaning.Array place) = None
+standing (meaning.Routine place) = None
+
+-- every other name is a reference by its number among the names
+abbrev pub referring : Option ℕ → Operand
+referring number = operand.Later (target.Name (unwrap_or number 0))
+
+abbrev pub operand_by : Option Operand → Option ℕ → Operand
+operand_by (Some known) number = known
+operand_by None number = referring number
+
+abbrev pub found_operand : Found Place → Option ℕ → Operand
+found_operand (found.System m) number = operand_by (standing m) number
+found_operand (found.Declared m place) number = operand_by (standing m) number
+found_operand found.Used number = referring number
+found_operand found.Unknown number = referring number
+
+-- Looking
+
+-- a local hides a name
+abbrev pub looked_by : Option ℕ → List ℕ → Table Place → Operand
+looked_by (Some local) name names = operand.Variable local
+looked_by None name names = found_operand (found_in name names) None
+
+abbrev pub looked_name : List Local → Table Place → List ℕ → Operand
+looked_name locals names name = looked_by (number_of name locals) name names
+
+-- An operand of an assembly line that is a name by itself: `sp` is the stack, where no local has this name.
+abbrev pub is_stack : List ℕ → Option ℕ → Bool
+is_stack name (Some local) = false
+is_stack name None = str_eq_ignore_ascii_case name (codes "sp")
+
+abbrev pub looked_alone : List Local → Table Place → List ℕ → Operand
+looked_alone locals names name = if is_stack name (number_of name locals) then operand.Variable 0 else looked_name locals names name
+
+-- What a leaf stands for, where its name is only looked up. Words, texts, actions and system constants are in no expression yet.
+abbrev pub looked : List Local → Table Place → List Spelled → Leaf → Operand
+looked locals names tokens (leaf.Name at) = looked_name locals names (bytes_at tokens at)
+looked locals names tokens (leaf.Alone at) = looked_alone locals names (bytes_at tokens at)
+looked locals names tokens (leaf.Number number) = operand.Known number
+looked locals names tokens (leaf.Char zscii) = operand.Known zscii
+looked locals names tokens (leaf.Word word) = operand.Unknown
+looked locals names tokens (leaf.Text at) = operand.Unknown
+looked locals names tokens (leaf.Action at) = operand.Unknown
+looked locals names tokens (leaf.System at) = operand.Unknown
+
+abbrev pub looked_from : List Local → Table Place → List Spelled → List Leaf → List Operand → List Operand
+looked_from locals names tokens [] operands = operands
+looked_from locals names tokens (l ∷ leaves) operands = looked_from locals names tokens leaves (operands ++ looked locals names tokens l ∷ [])
+
+abbrev pub all_looked : List Local → Table Place → List Spelled → List Leaf → List Operand
+all_looked locals names tokens leaves = looked_from locals names tokens leaves []
+
+-- Settling
+
+-- what was laid so far, and the operands of some leaves
+pub record Settled : Type 0 where
+  pub out : Out
+  pub operands : List Operand
+
+-- a name that is one too many stands for nothing
+abbrev pub settled_as : Option (Found Place × Option ℕ) → Operand
+settled_as None = operand.Known 0
+settled_as (Some f) = found_operand f.0 f.1
+
+abbrev pub settled_by : Option ℕ → List ℕ → Place → Out → Out × Operand
+settled_by (Some local) name place o = (o, operand.Variable local)
+settled_by None name place o = (referred name place o, settled_as (referred_as name o))
+
+abbrev pub settled_name : List Local → Option Name → Out → Out × Operand
+settled_name locals None o = (o, operand.Known 0)
+settled_name locals (Some n) o = settled_by (number_of n.bytes locals) n.bytes n.place o
+
+abbrev pub settled_alone : List Local → List Spelled → ℕ → Out → Out × Operand
+settled_alone locals tokens at o =
+    if is_stack (bytes_at tokens at) (number_of (bytes_at tokens at) locals) then (o, operand.Variable 0) else settled_name locals (name_at tokens at) o
+
+-- a leaf, whose name is used where it is no local
+abbrev pub settled_leaf : List Local → List Spelled → Leaf → Out → Out × Operand
+settled_leaf locals tokens (leaf.Name at) o = settled_name locals (name_at tokens at) o
+settled_leaf locals tokens (leaf.Alone at) o = settled_alone locals tokens at o
+settled_leaf locals tokens (leaf.Number number) o = (o, operand.Known number)
+settled_leaf locals tokens (leaf.Char zscii) o = (o, operand.Known zscii)
+settled_leaf locals tokens (leaf.Word word) o = (o, operand.Unknown)
+settled_leaf locals tokens (leaf.Text at) o = (o, operand.Unknown)
+settled_leaf locals tokens (leaf.Action at) o = (o, operand.Unknown)
+settled_leaf locals tokens (leaf.System at) o = (o, operand.Unknown)
+
+abbrev pub with_settled : Out × Operand → List Operand → Settled
+with_settled s operands = record { out = s.0; operands = operands ++ s.1 ∷ [] }
+
+-- the leaves from left to right
+abbrev pub settled : List Local → List Spelled → List Leaf → Settled → Settled
+settled locals tokens [] s = s
+settled locals tokens (l ∷ leaves) s = settled locals tokens leaves (with_settled (settled_leaf locals tokens l s.out) s.operands)
+
+-- a unit names its locals
+abbrev pub leaf_named : List Spelled → Leaf → List Local → List Local
+leaf_named tokens (leaf.Name at) locals = with_named (bytes_at tokens at) locals
+leaf_named tokens (leaf.Alone at) locals = with_named (bytes_at tokens at) locals
+leaf_named tokens _ locals = locals
+
+abbrev pub leaves_named : List Spelled → List Leaf → List Local → List Local
+leaves_named tokens [] locals = locals
+leaves_named tokens (l ∷ leaves) locals = leaves_named tokens leaves (leaf_named tokens l locals)
+
+-- and the locals in which it stores
+abbrev pub store_named : List Spelled → Item → List Local → List Local
+store_named tokens (item.Store at) locals = with_named (bytes_at tokens at) locals
+store_named tokens _ locals = locals
+
+abbrev pub stores_named : List Spelled → List Item → List Local → List Local
+stores_named tokens [] locals = locals
+stores_named tokens (i ∷ items) locals = stores_named tokens items (store_named tokens i locals)

@@ -1,0 +1,82 @@
+-- What is printed.
+use Rattle.std.specs.Prelude.{ℕ, List, [], ◌∷◌, Bool, true, false, slice_get, Option, Some, None}
+use Rattle.inf_characters.specs.declared.characters.CharSet.{CharSet}
+use Rattle.inf_characters.specs.declared.texts.TextItem.{TextItem}
+use Rattle.inf_opcode.specs.declared.opcodes.Opcode.{Opcode}
+use Rattle.inf_opcode.specs.declared.opcodes.Opcode.TheVariants as opcode
+use Rattle.inf_expressions.specs.Trees.{Tree}
+use Rattle.inf_output.specs.declared.veneer.Veneer.{Veneer}
+use Rattle.inf_output.specs.declared.veneer.Veneer.TheVariants as veneer
+use Rattle.inf_output.specs.Output.{Code, nothing, ◌▸◌}
+use Rattle.inf_templates.specs.Meaning.{meaning, part}
+use Rattle.inf_templates.specs.Parts.{call, call_routine, worked}
+use Rattle.inf_unit.specs.Texts.{read_of}
+use Rattle.inf_unit.specs.Tokens.{Spelled}
+use Rattle.inf_unit.specs.declared.items.Item.{Item}
+use Rattle.inf_unit.specs.declared.items.Item.TheVariants as item
+use Rattle.inf_unit.specs.declared.items.PrintRule.{PrintRule}
+use Rattle.inf_unit.specs.declared.items.PrintRule.TheVariants as rule
+use Rattle.inf_statements.specs.Statements.{one_worked, plain, printed, rest}
+
+-- What is printed, in order. The last text of `print_ret` is an instruction of its own, and behind anything else a new line comes, and 1 is returned.
+abbrev pub text_opcode : Bool → List Item → Opcode
+text_opcode true [] = opcode.PrintRet
+text_opcode _ _ = opcode.Print
+
+abbrev pub text_by : CharSet → Option Spelled → Option (List TextItem)
+text_by set None = None
+text_by set (Some t) = read_of set t
+
+abbrev pub text_at : CharSet → List Spelled → ℕ → Option (List TextItem)
+text_at set tokens at = text_by set (slice_get tokens at)
+
+abbrev pub ended : Bool → Code
+ended true = plain opcode.NewLine ▸ plain opcode.Rtrue
+ended false = nothing
+
+-- A value by a rule: by an instruction, by a routine of the veneer, or by the routine that is the expression before it.
+abbrev pub called_with : List Tree → Code
+called_with (f ∷ e ∷ trees) = call (part (meaning f)) (part (meaning e) ∷ []) None
+called_with _ = nothing
+
+abbrev pub veneer_called : Veneer → List Tree → Code
+veneer_called v [] = nothing
+veneer_called v (e ∷ trees) = call_routine v (part (meaning e) ∷ []) None
+
+unfoldable pub rule_code : PrintRule → List Tree → Code
+rule_code rule.Character trees = one_worked opcode.PrintChar trees
+rule_code rule.String trees = one_worked opcode.PrintPaddr trees
+rule_code rule.Address trees = one_worked opcode.PrintAddr trees
+rule_code rule.Object trees = one_worked opcode.PrintObj trees
+rule_code rule.ShortName trees = veneer_called veneer.ShortName trees
+rule_code rule.DefiniteArticle trees = veneer_called veneer.DefiniteArticle trees
+rule_code rule.CapitalArticle trees = veneer_called veneer.CapitalArticle trees
+rule_code rule.IndefiniteArticle trees = veneer_called veneer.IndefiniteArticle trees
+rule_code rule.EnglishNumber trees = veneer_called veneer.EnglishNumber trees
+rule_code rule.Routine trees = called_with trees
+
+-- the trees behind those that a rule takes
+abbrev pub rest_behind : PrintRule → List Tree → List Tree
+rest_behind rule.Routine trees = rest (rest trees)
+rest_behind _ trees = rest trees
+
+-- One item, with how many of those behind it there are: its code, the trees behind it, and whether something other than a text was printed last.
+abbrev pub item_code : CharSet → List Spelled → Bool → List Item → Item → List Tree → Code
+item_code set tokens returns others (item.Text at) trees = printed (text_opcode returns others) (text_at set tokens at)
+item_code set tokens returns others item.Value trees = one_worked opcode.PrintNum trees
+item_code set tokens returns others (item.Ruled r) trees = rule_code r trees
+item_code set tokens returns others _ trees = nothing
+
+abbrev pub trees_behind : Item → List Tree → List Tree
+trees_behind item.Value trees = rest trees
+trees_behind (item.Ruled r) trees = rest_behind r trees
+trees_behind _ trees = trees
+
+abbrev pub ends_behind : Item → Bool → Bool
+ends_behind (item.Text at) returns = false
+ends_behind _ returns = returns
+
+abbrev pub items_printed : CharSet → List Spelled → Bool → Bool → List Item → List Tree → Code
+items_printed set tokens returns ends [] trees = ended ends
+items_printed set tokens returns ends (i ∷ items) trees =
+    item_code set tokens returns items i trees ▸ items_printed set tokens returns (ends_behind i returns) items (trees_behind i trees)

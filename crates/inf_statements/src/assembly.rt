@@ -1,0 +1,467 @@
+//! Assembly lines.
+ghost use Rattle.std.specs.Prelude.{◌≡◌, Bool, ◌≤◌, ◌-◌, IfOk, IfSome, OnOk, Some, false, is_some, length, true};
+ghost use Rattle.inf_opcode.specs.Opcodes.{row_of};
+ghost use Rattle.inf_output.specs.Output.{Takes, TakesVariable};
+ghost use Rattle.inf_symbol.specs.LocalList.{listed};
+ghost use Rattle.inf_statements.specs.Assembly.{branched, branched_to, ends_from, ends_of, first_variable, fits, fits_jump, fits_row, fits_some, has_ends, instructed, jumped_on, labelled, line_finding, line_instructed, line_laid, line_laid_by, named_first, no_ends, operands_in, placed, printing_of, prints, same, some_printed, store_finding, store_of, store_variable, stored_in, variable_of, with_end, wrong_opcode};
+ghost use Rattle.inf_statements.specs.Statements.{PrintsText, trees_from};
+
+use crate::effects::WRONG_OPCODE;
+use crate::labels::Labels;
+use crate::operands::{is_stack, looked_name};
+use crate::printing::print_text;
+use arrayvec::ArrayVec;
+use inf_expressions::{Finding, Nodes, Operand, Root, least_of_both};
+use inf_names::symbols::Symbols;
+use inf_opcode::{Branch, Destination, Label, MOST_OPERANDS, Opcode, OpcodeRow};
+use inf_output::{Output, Simple};
+use inf_scanner::Place;
+use inf_symbol::locals::Locals;
+use inf_templates::simple_of;
+use inf_text::CharSet;
+use inf_unit::items::Item;
+use inf_unit::opcodes::opcode_of;
+use inf_unit::unit::{next_place, order};
+use inf_unit::unit_tokens::UnitTokens;
+use std::alloc::{AllocError, Global};
+
+/// What stands behind the operands of a line, or is no operand. Tokens are told by their places among those of the unit.
+#[derive(Clone, Copy, Debug, PartialEq, Eq)]
+pub struct Ends {
+    /// The name of the variable in which it stores.
+    pub store: Option<usize>,
+    /// The name of the label to which it branches, and where its test is to hold or not.
+    pub branch: Option<(usize, bool)>,
+    pub text: Option<usize>,
+    /// The name of the label to which it jumps.
+    pub jump: Option<usize>,
+}
+
+/// What an assembly line goes by beside its trees.
+#[derive(Clone, Copy)]
+pub(crate) struct Line<'a> {
+    pub alloc: Global,
+    pub set: CharSet,
+    pub tokens: &'a UnitTokens,
+    pub locals: &'a Locals,
+    pub ends: Ends,
+}
+
+/// The label of a name that is used.
+pub(crate) fn labelled(
+    name: &[u8],
+    labels: &mut Labels,
+    out: &mut Output,
+) -> Result<Label, AllocError>
+    requires { length name.now ≤ 32 }
+    ensures { IfOk result (λ label. ((label, labels.new), out.new) ≡ labelled name.now labels.old out.old) }
+{
+    let new = out.label();
+    labels.want(name, new)
+}
+
+/// The label of a name whose place is given.
+pub(crate) fn placed(
+    name: &[u8],
+    labels: &mut Labels,
+    out: &mut Output,
+) -> Result<Label, AllocError>
+    requires { length name.now ≤ 32 }
+    ensures { IfOk result (λ label. ((label, labels.new), out.new) ≡ placed name.now labels.old out.old) }
+{
+    let new = out.label();
+    labels.give(name, new)
+}
+
+/// What stands behind the operands, with one more.
+fn with_end(item: Item, ends: Ends) -> Ends
+    ensures { result ≡ with_end item ends }
+{
+    match item {
+        Item::Store(at) => Ends {
+            store: Some(at),
+            ..ends
+        },
+        Item::Branch(at, sense) => Ends {
+            branch: Some((at, sense)),
+            ..ends
+        },
+        Item::Text(at) => Ends {
+            text: Some(at),
+            ..ends
+        },
+        Item::Jump(at) => Ends {
+            jump: Some(at),
+            ..ends
+        },
+        _ => ends,
+    }
+}
+
+/// What stands behind the operands of a unit that has this.
+pub(crate) fn ends_of(items: &[Item]) -> Ends
+    ensures { result ≡ ends_of items.now }
+{
+    let mut ends = Ends {
+        store: None,
+        branch: None,
+        text: None,
+        jump: None,
+    };
+    for item in items {
+        ends = with_end(*item, ends);
+    }
+    ends
+}
+
+fn same(first: bool, second: bool) -> bool
+    ensures { result ≡ same first second }
+{
+    if first { second } else { !second }
+}
+
+/// The variable that an operand is.
+fn variable_of(operand: Option<Simple>) -> Option<u8>
+    ensures { result ≡ variable_of operand }
+{
+    match operand {
+        Some(Simple::Variable(variable)) => Some(variable),
+        _ => None,
+    }
+}
+
+/// The variable that the first of some trees is.
+fn first_variable(nodes: &Nodes, roots: &[Root]) -> Option<u8>
+    ensures { result ≡ first_variable (trees_from nodes.now roots.now) }
+{
+    match roots.first() {
+        Some(root) => variable_of(simple_of(nodes, root.place)),
+        None => None,
+    }
+}
+
+impl Ends {
+    /// Whether these are what an opcode takes.
+    fn fit(self, row: OpcodeRow) -> bool
+        ensures { result ≡ has_ends row self }
+    {
+        same(row.stores, self.store.is_some())
+            && same(row.branches, self.branch.is_some())
+            && same(row.has_text, self.text.is_some())
+    }
+
+    /// Whether these are those of a jump.
+    fn are_of_jump(self) -> bool
+        ensures { result ≡ fits_jump self }
+    {
+        self.jump.is_some() && self.store.is_none() && self.branch.is_none()
+    }
+}
+
+/// Whether an opcode that is no jump takes so many operands, of which the first is a variable or not, and these ends.
+fn fits_row(row: OpcodeRow, operands: usize, has_variable: bool, ends: Ends) -> bool
+    ensures { result ≡ fits_row row operands has_variable ends }
+{
+    let is_named = if row.names_variable {
+        has_variable
+    } else {
+        true
+    };
+    usize::from(row.least) <= operands
+        && operands <= usize::from(row.most)
+        && operands <= MOST_OPERANDS
+        && is_named
+        && ends.fit(row)
+}
+
+/// Whether an opcode takes these trees as operands and these ends.
+#[tactic(auto, unfolding(crate::specs::Assembly::fits))]
+fn fits(opcode: Opcode, nodes: &Nodes, roots: &[Root], ends: Ends) -> bool
+    ensures { result ≡ fits opcode (trees_from nodes.now roots.now) ends }
+{
+    let row = opcode.row();
+    if row.jumps {
+        return ends.are_of_jump();
+    }
+    let has_variable = first_variable(nodes, roots).is_some();
+    fits_row(row, roots.len(), has_variable, ends)
+}
+
+/// The variable that an operand is.
+fn stored_in(operand: Operand) -> Option<u8>
+    ensures { result ≡ stored_in operand }
+{
+    match operand {
+        Operand::Variable(variable) => Some(variable),
+        _ => None,
+    }
+}
+
+/// The variable of a name in which a line stores: `sp` is the stack, where no local has this name.
+fn store_variable(locals: &Locals, names: &Symbols<Place>, name: &[u8]) -> Option<u8>
+    requires { length name.now ≤ 32 }
+    ensures { result ≡ store_variable (listed locals.now) names.now name.now }
+{
+    if is_stack(name, locals.number(name)) {
+        Some(0)
+    } else {
+        stored_in(looked_name(locals, names, name))
+    }
+}
+
+impl Line<'_> {
+    /// The variable in which it stores, if it does. One that is none is an error of the line.
+    fn store(&self, names: &Symbols<Place>) -> Option<u8>
+        ensures there { is_some result ≡ is_some self.now.ends.store }
+        ensures value { result ≡ store_of (listed self.now.locals.now) names.now self.now.tokens.now self.now.ends.store }
+    {
+        let at = self.ends.store?;
+        let variable = store_variable(self.locals, names, self.tokens.bytes_at(at));
+        Some(variable.unwrap_or(0))
+    }
+
+    /// What is wrong with the name of the variable in which it stores.
+    fn store_finding(&self, names: &Symbols<Place>) -> Option<Finding>
+        ensures { result ≡ store_finding (listed self.now.locals.now) names.now self.now.tokens.now self.now.ends.store }
+    {
+        let at = self.ends.store?;
+        match store_variable(self.locals, names, self.tokens.bytes_at(at)) {
+            Some(_) => None,
+            None => Some(Finding::wrong_kind(order(at))),
+        }
+    }
+
+    /// What is wrong with its opcode, with what it has, or with where it stores. It begins at a place among its tokens.
+    pub(crate) fn finding(
+        &self,
+        names: &Symbols<Place>,
+        begun: usize,
+        nodes: &Nodes,
+        roots: &[Root],
+    ) -> Option<Finding>
+        ensures { let line = self.now in
+            result ≡ line_finding (listed line.locals.now) names.now line.tokens.now begun line.ends (trees_from nodes.now roots.now) }
+    {
+        let behind = next_place(begun);
+        let stores = self.store_finding(names);
+        let is_fit = match opcode_of(self.tokens.bytes_at(behind)) {
+            Some(opcode) => fits(opcode, nodes, roots, self.ends),
+            None => false,
+        };
+        if is_fit {
+            return stores;
+        }
+        let wrong = Finding {
+            order: order(behind),
+            number: WRONG_OPCODE,
+        };
+        least_of_both(stores, Some(wrong))
+    }
+}
+
+/// The operands that some trees are, which are eight at most.
+fn operands_in(nodes: &Nodes, roots: &[Root]) -> ArrayVec<Simple, MOST_OPERANDS>
+    requires { length roots.now ≤ 8 }
+    ensures value { result.items ≡ operands_in (trees_from nodes.now roots.now) }
+    ensures count { length result.items ≡ length roots.now }
+{
+    let mut operands = ArrayVec::new();
+    for root in roots {
+        operands.push(simple_of(nodes, root.place).unwrap_or(Simple::Variable(0)));
+    }
+    operands
+}
+
+/// Where a branch goes, by the name behind `?`.
+fn destination(
+    name: &[u8],
+    labels: &mut Labels,
+    out: &mut Output,
+) -> Result<Destination, AllocError>
+    requires { length name.now ≤ 32 }
+    ensures { (sense : Bool) → IfOk result (λ to.
+        ((Some (record { sense = sense; target = to }), labels.new), out.new) ≡ branched_to name.now sense labels.old out.old) }
+{
+    if name.eq_ignore_ascii_case(b"rtrue") {
+        Ok(Destination::ReturnTrue)
+    } else if name.eq_ignore_ascii_case(b"rfalse") {
+        Ok(Destination::ReturnFalse)
+    } else {
+        Ok(Destination::To(labelled(name, labels, out)?))
+    }
+}
+
+/// The branch of a line, if it has one.
+#[tactic(auto, unfolding(crate::specs::Assembly::branched))]
+fn branch_of(
+    line: Line<'_>,
+    labels: &mut Labels,
+    out: &mut Output,
+) -> Result<Option<Branch>, AllocError>
+    ensures value { IfOk result (λ branch. ((branch, labels.new), out.new) ≡ branched line.entry.tokens.now line.entry.ends.branch labels.old out.old) }
+    ensures there { IfOk result (λ branch. is_some branch ≡ is_some line.entry.ends.branch) }
+{
+    let Some((at, sense)) = line.ends.branch else {
+        return Ok(None);
+    };
+    let target = destination(line.tokens.bytes_at(at), labels, out)?;
+    Ok(Some(Branch { sense, target }))
+}
+
+/// The instruction of some trees whose first names a variable.
+#[tactic(auto, using(crate::proofs::Fitting::takes_others))]
+fn lay_naming(
+    opcode: Opcode,
+    nodes: &Nodes,
+    roots: &[Root],
+    store: Option<u8>,
+    branch: Option<Branch>,
+    out: &mut Output,
+) -> Result<(), AllocError>
+    requires few { length roots.now ≤ 8 }
+    requires takes { TakesVariable opcode (length roots.now - 1) (is_some store) (is_some branch) }
+    ensures { OnOk result (out.new ≡ named_first opcode (trees_from nodes.now roots.now) store branch out.old) }
+{
+    let Some((first, others)) = roots.split_first() else {
+        return Ok(());
+    };
+    let variable = variable_of(simple_of(nodes, first.place)).unwrap_or(0);
+    let operands = operands_in(nodes, others);
+    out.instruct_naming(opcode, variable, &operands, store, branch)
+}
+
+/// The instruction of some trees, whose first names a variable or not.
+#[tactic(auto, using(crate::proofs::Fitting::takes_count), unfolding(crate::specs::Assembly::instructed))]
+fn lay_parts(
+    names_variable: bool,
+    opcode: Opcode,
+    nodes: &Nodes,
+    roots: &[Root],
+    store: Option<u8>,
+    branch: Option<Branch>,
+    out: &mut Output,
+) -> Result<(), AllocError>
+    requires few { length roots.now ≤ 8 }
+    requires named { names_variable ≡ true → TakesVariable opcode (length roots.now - 1) (is_some store) (is_some branch) }
+    requires plain { names_variable ≡ false → Takes opcode (length roots.now) (is_some store) (is_some branch) }
+    ensures { OnOk result (out.new ≡ instructed names_variable opcode (trees_from nodes.now roots.now) store branch out.old) }
+{
+    if names_variable {
+        return lay_naming(opcode, nodes, roots, store, branch, out);
+    }
+    let operands = operands_in(nodes, roots);
+    out.instruct(opcode, &operands, store, branch)
+}
+
+/// The instruction of some trees, with what its opcode takes beside them.
+#[tactic(auto, using(crate::proofs::Fitting::few_roots))]
+fn lay_instructed(
+    line: Line<'_>,
+    opcode: Opcode,
+    nodes: &Nodes,
+    roots: &[Root],
+    labels: &mut Labels,
+    out: &mut Output,
+) -> Result<(), AllocError>
+    requires jumps { (row_of opcode).jumps ≡ false }
+    requires text { (row_of opcode).has_text ≡ false }
+    requires fits { let trees = trees_from nodes.now roots.now in
+        fits_row (row_of opcode) (length trees) (is_some (first_variable trees)) line.ends ≡ true }
+    ensures { OnOk result ((labels.new, out.new)
+        ≡ line_instructed (listed line.entry.locals.now) line.entry.tokens.now opcode line.entry.ends (trees_from nodes.now roots.now) labels.old out.old) }
+{
+    let branch = branch_of(line, labels, out)?;
+    let store = line.store(&out.names);
+    let names_variable = opcode.row().names_variable;
+    lay_parts(names_variable, opcode, nodes, roots, store, branch, out)
+}
+
+/// Whether an opcode of a row prints a text, and takes nothing else.
+fn prints(row: OpcodeRow) -> bool
+    ensures { result ≡ prints row }
+{
+    row.has_text && !row.jumps && !row.stores && !row.branches && row.least == 0
+}
+
+/// The opcode itself, where it prints a text.
+#[tactic(auto, using(crate::proofs::Fitting::prints_text))]
+fn printing_of(opcode: Opcode) -> Option<Opcode>
+    ensures value { result ≡ printing_of opcode }
+    ensures prints { IfSome result PrintsText }
+{
+    if prints(opcode.row()) {
+        Some(opcode)
+    } else {
+        None
+    }
+}
+
+/// The text of an opcode that prints one.
+fn lay_text(line: Line<'_>, opcode: Opcode, out: &mut Output) -> Result<(), AllocError>
+    ensures { OnOk result (out.new ≡ some_printed line.entry.set line.entry.tokens.now opcode line.entry.ends.text out.old) }
+{
+    let Some(at) = line.ends.text else {
+        return Ok(());
+    };
+    match printing_of(opcode) {
+        Some(opcode) => print_text(line.alloc, line.set, line.tokens, at, opcode, out),
+        None => Ok(()),
+    }
+}
+
+/// A jump to the label of a name.
+fn lay_jump(line: Line<'_>, labels: &mut Labels, out: &mut Output) -> Result<(), AllocError>
+    ensures { OnOk result ((labels.new, out.new) ≡ jumped_on line.entry.tokens.now line.entry.ends.jump labels.old out.old) }
+{
+    let Some(at) = line.ends.jump else {
+        return Ok(());
+    };
+    let label = labelled(line.tokens.bytes_at(at), labels, out)?;
+    out.jump(label)
+}
+
+/// A line of an opcode that takes what it has.
+#[tactic(auto, using(crate::proofs::Fitting::fits_as_row))]
+fn lay_fit(
+    line: Line<'_>,
+    opcode: Opcode,
+    nodes: &Nodes,
+    roots: &[Root],
+    labels: &mut Labels,
+    out: &mut Output,
+) -> Result<(), AllocError>
+    requires { fits opcode (trees_from nodes.now roots.now) line.ends ≡ true }
+    ensures { OnOk result ((labels.new, out.new)
+        ≡ line_laid_by (row_of opcode).jumps (row_of opcode).has_text line.entry.set (listed line.entry.locals.now) line.entry.tokens.now opcode line.entry.ends (trees_from nodes.now roots.now) labels.old out.old) }
+{
+    let row = opcode.row();
+    if row.jumps {
+        return lay_jump(line, labels, out);
+    }
+    if row.has_text {
+        return lay_text(line, opcode, out);
+    }
+    lay_instructed(line, opcode, nodes, roots, labels, out)
+}
+
+/// A line without an error.
+#[tactic(auto, unfolding(crate::specs::Assembly::line_laid))]
+pub(crate) fn lay_line(
+    line: Line<'_>,
+    opcode: Option<Opcode>,
+    nodes: &Nodes,
+    roots: &[Root],
+    labels: &mut Labels,
+    out: &mut Output,
+) -> Result<(), AllocError>
+    ensures { OnOk result ((labels.new, out.new)
+        ≡ line_laid line.entry.set (listed line.entry.locals.now) line.entry.tokens.now opcode line.entry.ends (trees_from nodes.now roots.now) labels.old out.old) }
+{
+    let Some(opcode) = opcode else {
+        return Ok(());
+    };
+    if !fits(opcode, nodes, roots, line.ends) {
+        return Ok(());
+    }
+    lay_fit(line, opcode, nodes, roots, labels, out)
+}

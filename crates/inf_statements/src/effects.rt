@@ -1,0 +1,259 @@
+//! What the statements of a routine do, and what is wrong with them beside their expressions.
+ghost use Rattle.std.specs.Prelude.{◌≡◌, ◌≤◌, ◌+◌, OnOk, length, map};
+ghost use Rattle.inf_expressions.specs.Forests.{trees_in};
+ghost use Rattle.inf_expressions.specs.Findings.{wrong_kind};
+ghost use Rattle.inf_unit.specs.Units.{next_place, order};
+ghost use Rattle.inf_statements.specs.Assembly.{ends_of};
+ghost use Rattle.inf_statements.specs.Labels.{is_given};
+ghost use Rattle.inf_statements.specs.Effects.{given_twice, jump_laid, name_behind, only_if, place_laid, site_finding, statement_code, statement_finding, statement_laid, unless_some, wanted_by};
+ghost use Rattle.inf_statements.specs.Sites.{site};
+ghost use Rattle.inf_statements.specs.Statements.{statement_in, style_of, tree_in, trees_from};
+
+use crate::assembly::{Line, ends_of, labelled, lay_line, placed};
+use crate::constructs::Constructs;
+use crate::labels::Labels;
+use crate::printing::{Printing, print_items};
+use crate::statements::{
+    Statement, lay_expression, lay_give, lay_jump, lay_move, lay_one, lay_return, lay_spaces,
+    lay_style, plain, statement_in, style_of,
+};
+use inf_expressions::{Finding, Forest, Nodes, Root, Wanted};
+use inf_names::symbols::Symbols;
+use inf_opcode::{Label, Opcode};
+use inf_output::Output;
+use inf_scanner::Place;
+use inf_symbol::locals::Locals;
+use inf_templates::Tasks;
+use inf_text::CharSet;
+use inf_unit::items::Item;
+use inf_unit::opcodes::opcode_of;
+use inf_unit::unit::{next_place, order};
+use inf_unit::unit_tokens::UnitTokens;
+use std::alloc::{AllocError, Global};
+
+/// The number of the message `Wrong opcode or operands`.
+pub const WRONG_OPCODE: u8 = 15;
+
+/// The number of the message `Label .. is given twice`.
+pub const GIVEN_TWICE: u8 = 16;
+
+/// The number of the message `No loop or switch to leave or continue`.
+pub const NOTHING_TO_LEAVE: u8 = 17;
+
+/// The number of the message `default must come once and last`.
+pub const MISPLACED_DEFAULT: u8 = 24;
+
+/// What a statement goes by beside its trees.
+#[derive(Clone, Copy)]
+pub struct Site<'a> {
+    pub alloc: Global,
+    /// The character set of the source.
+    pub set: CharSet,
+    pub tokens: &'a UnitTokens,
+    /// Where it begins among its tokens.
+    pub begun: usize,
+    /// What it has beside its expressions.
+    pub items: &'a [Item],
+    pub locals: &'a Locals,
+    /// The statements that hold it.
+    pub constructs: &'a Constructs,
+}
+
+/// A finding of a number at a token, unless there is something.
+fn unless_some(found: Option<Label>, order: u32, number: u8) -> Option<Finding>
+    ensures { result ≡ unless_some found (record { order = order; number = number }) }
+{
+    match found {
+        Some(_) => None,
+        None => Some(Finding { order, number }),
+    }
+}
+
+impl Site<'_> {
+    /// The name behind its first token.
+    fn name(&self) -> &[u8]
+        ensures value { result.now ≡ name_behind (site self.now) }
+        ensures few { length result.now ≤ 32 }
+    {
+        self.tokens.bytes_at(next_place(self.begun))
+    }
+
+    /// What it is.
+    pub fn statement(&self) -> Statement
+        ensures { result ≡ statement_in (site self.now).tokens (site self.now).begun (site self.now).items }
+    {
+        statement_in(self.tokens, self.begun, self.items)
+    }
+
+    /// It as an assembly line.
+    fn line(&self) -> Line<'_>
+        ensures { let s = self.now in result ≡ record { alloc = s.alloc; set = s.set; tokens = s.tokens; locals = s.locals; ends = ends_of s.items.now } }
+    {
+        Line {
+            alloc: self.alloc,
+            set: self.set,
+            tokens: self.tokens,
+            locals: self.locals,
+            ends: ends_of(self.items),
+        }
+    }
+
+    /// What is wrong with its label: its place was given before.
+    fn label_finding(&self, labels: &Labels) -> Option<Finding>
+        ensures { let s = site self.now in
+            result ≡ only_if (is_given (name_behind s) labels.now) (given_twice (order (next_place s.begun))) }
+    {
+        if !labels.is_given(self.name()) {
+            return None;
+        }
+        Some(Finding {
+            order: order(next_place(self.begun)),
+            number: GIVEN_TWICE,
+        })
+    }
+
+    /// What is wrong with its style.
+    fn style_finding(&self) -> Option<Finding>
+        ensures { let s = site self.now in
+            result ≡ unless_some (style_of (name_behind s)) (wrong_kind (order (next_place s.begun))) }
+    {
+        match style_of(self.name()) {
+            Some(_) => None,
+            None => Some(Finding::wrong_kind(order(next_place(self.begun)))),
+        }
+    }
+
+    /// What is wrong with a statement beside its expressions, which is no assembly line.
+    #[tactic(auto, unfolding(crate::specs::Effects::statement_finding))]
+    pub fn finding(&self, statement: Statement, labels: &Labels) -> Option<Finding>
+        ensures { result ≡ statement_finding (site self.now) labels.now statement }
+    {
+        let first = order(self.begun);
+        match statement {
+            Statement::Break => {
+                unless_some(self.constructs.left_to(false), first, NOTHING_TO_LEAVE)
+            }
+            Statement::Continue => {
+                unless_some(self.constructs.left_to(true), first, NOTHING_TO_LEAVE)
+            }
+            Statement::Place => self.label_finding(labels),
+            Statement::Style => self.style_finding(),
+            _ => None,
+        }
+    }
+
+    /// What is wrong with an assembly line beside its operands, by their trees, with names that are only looked up.
+    pub fn line_finding(
+        &self,
+        names: &Symbols<Place>,
+        nodes: &Nodes,
+        roots: &[Root],
+    ) -> Option<Finding>
+        ensures { result ≡ site_finding (site self.now) names.now (trees_from nodes.now roots.now) }
+    {
+        self.line().finding(names, self.begun, nodes, roots)
+    }
+
+    /// What it prints goes by this; it returns or not.
+    fn printing(&self, returns: bool) -> Printing<'_>
+        ensures { result ≡ record { alloc = self.now.alloc; set = self.now.set; tokens = self.now.tokens; returns = returns } }
+    {
+        Printing {
+            alloc: self.alloc,
+            set: self.set,
+            tokens: self.tokens,
+            returns,
+        }
+    }
+
+    /// The code of a statement that has no named label.
+    fn lay_code(
+        &self,
+        statement: Statement,
+        forest: &Forest,
+        tasks: &mut Tasks,
+        out: &mut Output,
+    ) -> Result<(), AllocError>
+        ensures { OnOk result (out.new ≡ statement_code (site self.now) (map tree_in (trees_in forest.now)) statement out.old) }
+    {
+        match statement {
+            Statement::Empty | Statement::Place | Statement::Jump | Statement::Assembly => Ok(()),
+            Statement::Expression => lay_expression(forest, tasks, out),
+            Statement::Print => print_items(self.printing(false), self.items, forest, tasks, out),
+            Statement::PrintReturn => {
+                print_items(self.printing(true), self.items, forest, tasks, out)
+            }
+            Statement::Return => lay_return(forest, tasks, out),
+            Statement::NewLine => plain(Opcode::NewLine, out),
+            Statement::Quit => plain(Opcode::Quit, out),
+            Statement::ReturnTrue => plain(Opcode::Rtrue, out),
+            Statement::ReturnFalse => plain(Opcode::Rfalse, out),
+            Statement::Break => lay_jump(self.constructs.left_to(false), out),
+            Statement::Continue => lay_jump(self.constructs.left_to(true), out),
+            Statement::Give => lay_give(self.items, forest, tasks, out),
+            Statement::Move => lay_move(forest, tasks, out),
+            Statement::Remove => {
+                lay_one(Opcode::RemoveObj, &forest.nodes, &forest.roots, tasks, out)
+            }
+            Statement::Spaces => lay_spaces(forest, tasks, out),
+            Statement::Style => lay_style(self.name(), out),
+        }
+    }
+
+    /// A jump to the label of its name.
+    fn lay_jump(&self, labels: &mut Labels, out: &mut Output) -> Result<(), AllocError>
+        ensures { OnOk result ((labels.new, out.new) ≡ jump_laid (name_behind (site self.now)) labels.old out.old) }
+    {
+        let label = labelled(self.name(), labels, out)?;
+        out.jump(label)
+    }
+
+    /// The place of the label of its name.
+    fn lay_place(&self, labels: &mut Labels, out: &mut Output) -> Result<(), AllocError>
+        ensures { OnOk result ((labels.new, out.new) ≡ place_laid (name_behind (site self.now)) labels.old out.old) }
+    {
+        let label = placed(self.name(), labels, out)?;
+        out.mark(label)
+    }
+
+    /// What a statement without an error does.
+    #[tactic(auto, unfolding(crate::specs::Effects::statement_laid))]
+    pub fn lay(
+        &self,
+        statement: Statement,
+        forest: &Forest,
+        labels: &mut Labels,
+        tasks: &mut Tasks,
+        out: &mut Output,
+    ) -> Result<(), AllocError>
+        ensures { OnOk result ((labels.new, out.new)
+            ≡ statement_laid (site self.now) statement (map tree_in (trees_in forest.now)) labels.old out.old) }
+    {
+        match statement {
+            Statement::Jump => self.lay_jump(labels, out),
+            Statement::Place => self.lay_place(labels, out),
+            Statement::Assembly => {
+                let opcode = opcode_of(self.name());
+                lay_line(
+                    self.line(),
+                    opcode,
+                    &forest.nodes,
+                    &forest.roots,
+                    labels,
+                    out,
+                )
+            }
+            _ => self.lay_code(statement, forest, tasks, out),
+        }
+    }
+}
+
+/// What a statement wants of its expressions.
+pub fn wanted_by(statement: Statement) -> Wanted
+    ensures { result ≡ wanted_by statement }
+{
+    match statement {
+        Statement::Assembly => Wanted::Operand,
+        _ => Wanted::Value,
+    }
+}

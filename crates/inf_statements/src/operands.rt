@@ -1,0 +1,254 @@
+//! What the leaves of a unit stand for.
+ghost use Rattle.std.specs.Prelude.{◌≡◌, ◌≤◌, [], ◌∷◌, ◌++◌, List, IfOk, IfSome, length, option_map};
+ghost use Rattle.inf_symbol.specs.LocalList.{listed};
+ghost use Rattle.inf_unit.specs.NameTokens.{named};
+ghost use Rattle.inf_statements.specs.Operands.{Settled, all_looked, found_operand, function_of, is_stack, leaf_named, leaves_named, looked, looked_alone, looked_name, operand_by, referring, settled, settled_alone, settled_as, settled_leaf, settled_name, standing, stores_named};
+
+use inf_area::Target;
+use inf_expressions::{Function, Operand};
+use inf_gathering::gathering::Leaf;
+use inf_names::meanings::{Function as NamedFunction, Meaning};
+use inf_names::symbols::{Found, Symbols};
+use inf_output::Output;
+use inf_scanner::Place;
+use inf_symbol::locals::Locals;
+use inf_unit::items::Item;
+use inf_unit::unit_tokens::{NameToken, UnitTokens};
+use std::alloc::{AllocError, Global};
+
+fn function_of(function: NamedFunction) -> Function
+    ensures { result ≡ function_of function }
+{
+    match function {
+        NamedFunction::Child => Function::Child,
+        NamedFunction::Parent => Function::Parent,
+        NamedFunction::Sibling => Function::Sibling,
+        NamedFunction::Children => Function::Children,
+        NamedFunction::Random => Function::Random,
+        NamedFunction::Indirect => Function::Indirect,
+    }
+}
+
+/// What a name stands for whose value is known, or that is a variable or a function.
+fn standing(meaning: Meaning) -> Option<Operand>
+    ensures { result ≡ standing meaning }
+{
+    match meaning {
+        Meaning::Variable(number) => Some(Operand::Variable(number)),
+        Meaning::Attribute(number) | Meaning::Property { number, .. } => {
+            Some(Operand::Known(number as u16))
+        }
+        Meaning::Number(number)
+        | Meaning::IndividualProperty(number)
+        | Meaning::Object(number)
+        | Meaning::Class(number)
+        | Meaning::FakeAction(number) => Some(Operand::Known(number)),
+        Meaning::Function(function) => Some(Operand::Function(function_of(function))),
+        Meaning::Text(_)
+        | Meaning::Word(_)
+        | Meaning::LowString(_)
+        | Meaning::Array(_)
+        | Meaning::Routine(_) => None,
+    }
+}
+
+/// A reference by a name's number among the names.
+fn referring(number: Option<usize>) -> Operand
+    ensures { result ≡ referring number }
+{
+    Operand::Later(Target::Name(number.unwrap_or(0)))
+}
+
+fn operand_by(known: Option<Operand>, number: Option<usize>) -> Operand
+    ensures { result ≡ operand_by known number }
+{
+    match known {
+        Some(operand) => operand,
+        None => referring(number),
+    }
+}
+
+/// What a name stands for, by what looking for it finds, and its number among the names.
+fn found_operand(found: Found<Place>, number: Option<usize>) -> Operand
+    ensures { result ≡ found_operand found number }
+{
+    match found {
+        Found::System(meaning) | Found::Declared(meaning, _) => {
+            operand_by(standing(meaning), number)
+        }
+        Found::Used | Found::Unknown => referring(number),
+    }
+}
+
+/// What a name stands for, which is only looked up. A local hides it.
+pub(crate) fn looked_name(locals: &Locals, names: &Symbols<Place>, name: &[u8]) -> Operand
+    requires { length name.now ≤ 35 }
+    ensures { result ≡ looked_name (listed locals.now) names.now name.now }
+{
+    match locals.number(name) {
+        Some(local) => Operand::Variable(local),
+        None => found_operand(names.look(name), None),
+    }
+}
+
+/// Whether a name, which is that of a local or not, is the stack in an assembly line.
+pub(crate) fn is_stack(name: &[u8], local: Option<u8>) -> bool
+    ensures { result ≡ is_stack name.now local }
+{
+    match local {
+        Some(_) => false,
+        None => name.eq_ignore_ascii_case(b"sp"),
+    }
+}
+
+/// What a name stands for that is an operand of an assembly line by itself, and is only looked up.
+fn looked_alone(locals: &Locals, names: &Symbols<Place>, name: &[u8]) -> Operand
+    requires { length name.now ≤ 35 }
+    ensures { result ≡ looked_alone (listed locals.now) names.now name.now }
+{
+    if is_stack(name, locals.number(name)) {
+        Operand::Variable(0)
+    } else {
+        looked_name(locals, names, name)
+    }
+}
+
+/// What a leaf of a unit with these tokens stands for, where its name is only looked up.
+fn looked(locals: &Locals, names: &Symbols<Place>, tokens: &UnitTokens, leaf: Leaf) -> Operand
+    ensures { result ≡ looked (listed locals.now) names.now tokens.now leaf }
+{
+    match leaf {
+        Leaf::Name(at) => looked_name(locals, names, tokens.bytes_at(at)),
+        Leaf::Alone(at) => looked_alone(locals, names, tokens.bytes_at(at)),
+        Leaf::Number(number) => Operand::Known(number),
+        Leaf::Char(zscii) => Operand::Known(u16::from(zscii.code())),
+        Leaf::Word(_) | Leaf::Text(_) | Leaf::Action(_) | Leaf::System(_) => Operand::Unknown,
+    }
+}
+
+/// What the leaves of a unit with these tokens stand for, where their names are only looked up.
+pub fn all_looked(
+    alloc: Global,
+    locals: &Locals,
+    names: &Symbols<Place>,
+    tokens: &UnitTokens,
+    leaves: &[Leaf],
+) -> Result<Vec<Operand>, AllocError>
+    ensures { IfOk result (λ operands. operands.items ≡ all_looked (listed locals.now) names.now tokens.now leaves.now) }
+{
+    let mut operands = Vec::with_capacity(alloc, leaves.len())?;
+    for leaf in leaves {
+        operands.push(looked(locals, names, tokens, *leaf))?;
+    }
+    Ok(operands)
+}
+
+/// What a name that was used stands for; nothing, where it is one too many.
+fn settled_as(found: Option<(Found<Place>, Option<usize>)>) -> Operand
+    ensures { result ≡ settled_as found }
+{
+    match found {
+        Some((found, number)) => found_operand(found, number),
+        None => Operand::Known(0),
+    }
+}
+
+/// What a name stands for, which is used, where it is no local.
+fn settled_name(
+    locals: &Locals,
+    name: Option<NameToken<'_>>,
+    out: &mut Output,
+) -> Result<Operand, AllocError>
+    requires { IfSome name (λ n. length n.bytes.now ≤ 32) }
+    ensures { IfOk result (λ operand. (out.new, operand) ≡ settled_name (listed locals.now) (option_map named name.entry) out.old) }
+{
+    let Some(name) = name else {
+        return Ok(Operand::Known(0));
+    };
+    match locals.number(name.bytes) {
+        Some(local) => Ok(Operand::Variable(local)),
+        None => Ok(settled_as(out.refer(name.bytes, name.place)?)),
+    }
+}
+
+/// What a name stands for that is an operand of an assembly line by itself, and is used.
+fn settled_alone(
+    locals: &Locals,
+    tokens: &UnitTokens,
+    at: usize,
+    out: &mut Output,
+) -> Result<Operand, AllocError>
+    ensures { IfOk result (λ operand. (out.new, operand) ≡ settled_alone (listed locals.now) tokens.now at out.old) }
+{
+    let name = tokens.bytes_at(at);
+    if is_stack(name, locals.number(name)) {
+        return Ok(Operand::Variable(0));
+    }
+    settled_name(locals, tokens.name_at(at), out)
+}
+
+/// What a leaf of a unit with these tokens stands for, whose name is used.
+fn settled_leaf(
+    locals: &Locals,
+    tokens: &UnitTokens,
+    leaf: Leaf,
+    out: &mut Output,
+) -> Result<Operand, AllocError>
+    ensures { IfOk result (λ operand. (out.new, operand) ≡ settled_leaf (listed locals.now) tokens.now leaf out.old) }
+{
+    match leaf {
+        Leaf::Name(at) => settled_name(locals, tokens.name_at(at), out),
+        Leaf::Alone(at) => settled_alone(locals, tokens, at, out),
+        Leaf::Number(number) => Ok(Operand::Known(number)),
+        Leaf::Char(zscii) => Ok(Operand::Known(u16::from(zscii.code()))),
+        Leaf::Word(_) | Leaf::Text(_) | Leaf::Action(_) | Leaf::System(_) => Ok(Operand::Unknown),
+    }
+}
+
+/// What the leaves of a unit with these tokens stand for, from left to right, whose names are used.
+pub fn settled(
+    alloc: Global,
+    locals: &Locals,
+    tokens: &UnitTokens,
+    leaves: &[Leaf],
+    out: &mut Output,
+) -> Result<Vec<Operand>, AllocError>
+    ensures { let before : Settled = record { out = out.old; operands = [] } in
+        IfOk result (λ operands. record { out = out.new; operands = operands.items } ≡ settled (listed locals.now) tokens.now leaves.now before) }
+{
+    let mut operands = Vec::with_capacity(alloc, leaves.len())?;
+    for leaf in leaves {
+        operands.push(settled_leaf(locals, tokens, *leaf, out)?)?;
+    }
+    Ok(operands)
+}
+
+/// A leaf of a unit with these tokens names its local.
+fn name_leaf(locals: &mut Locals, tokens: &UnitTokens, leaf: Leaf)
+    ensures { listed locals.new ≡ leaf_named tokens.now leaf (listed locals.old) }
+{
+    match leaf {
+        Leaf::Name(at) | Leaf::Alone(at) => locals.name(tokens.bytes_at(at)),
+        _ => {}
+    }
+}
+
+/// A unit with these tokens and leaves names its locals.
+pub fn name_locals(locals: &mut Locals, tokens: &UnitTokens, leaves: &[Leaf])
+    ensures { listed locals.new ≡ leaves_named tokens.now leaves.now (listed locals.old) }
+{
+    for leaf in leaves {
+        name_leaf(locals, tokens, *leaf);
+    }
+}
+
+/// A unit with these tokens names the locals in which it stores.
+pub fn name_stores(locals: &mut Locals, tokens: &UnitTokens, items: &[Item])
+    ensures { listed locals.new ≡ stores_named tokens.now items.now (listed locals.old) }
+{
+    for item in items {
+        if let Item::Store(at) = item {
+            locals.name(tokens.bytes_at(*at));
+        }
+    }
+}

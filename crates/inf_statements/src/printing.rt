@@ -1,0 +1,222 @@
+//! What is printed.
+ghost use Rattle.std.specs.Prelude.{◌≡◌, List, OnOk, false, map};
+ghost use Rattle.inf_expressions.specs.Forests.{trees_in};
+ghost use Rattle.inf_expressions.specs.Trees.{Tree};
+ghost use Rattle.inf_statements.specs.Printing.{called_with, ended, ends_behind, item_code, items_printed, rest_behind, rule_code, text_at, text_opcode, trees_behind, veneer_called};
+ghost use Rattle.inf_statements.specs.Statements.{PrintsText, printed, tree_in, trees_from};
+
+use crate::statements::{lay_one, plain, rest};
+use inf_expressions::{Forest, Nodes, Root};
+use inf_opcode::{Instruction, Opcode};
+use inf_output::{Output, Veneer};
+use inf_templates::{Argument, Tasks, lay_call, lay_routine_call};
+use inf_text::{CharSet, pack};
+use inf_unit::items::{Item, PrintRule};
+use inf_unit::texts::text_of;
+use inf_unit::unit_tokens::UnitTokens;
+use std::alloc::{AllocError, Global};
+
+/// The instruction that prints a text that is a token of the unit (Z-Machine Standard 1.1, section 4.8).
+pub(crate) fn print_text(
+    alloc: Global,
+    set: CharSet,
+    tokens: &UnitTokens,
+    at: usize,
+    opcode: Opcode,
+    out: &mut Output,
+) -> Result<(), AllocError>
+    requires { PrintsText opcode }
+    ensures { OnOk result (out.new ≡ printed opcode (text_at set tokens.now at) out.old) }
+{
+    let Some(token) = tokens.get(at) else {
+        return Ok(());
+    };
+    let Some(text) = text_of(alloc, set, &token)? else {
+        return Ok(());
+    };
+    let packed = pack(alloc, &text, None)?;
+    out.emit(&Instruction::with_text(opcode, packed.as_slice()))
+}
+
+/// The opcode that prints a text which other items follow, or none: the last of a statement that returns has its own.
+fn text_opcode(returns: bool, others: &[Item]) -> Opcode
+    ensures value { result ≡ text_opcode returns others.now }
+    ensures prints { PrintsText result }
+{
+    if returns && others.is_empty() {
+        Opcode::PrintRet
+    } else {
+        Opcode::Print
+    }
+}
+
+/// What ends a statement that returns and printed something other than a text last.
+fn end_items(ends: bool, out: &mut Output) -> Result<(), AllocError>
+    ensures { OnOk result (out.new ≡ ended ends out.old) }
+{
+    if !ends {
+        return Ok(());
+    }
+    plain(Opcode::NewLine, out)?;
+    plain(Opcode::Rtrue, out)
+}
+
+/// The first of some trees is called with the second.
+fn call_with(
+    nodes: &Nodes,
+    roots: &[Root],
+    tasks: &mut Tasks,
+    out: &mut Output,
+) -> Result<(), AllocError>
+    ensures { OnOk result (out.new ≡ called_with (trees_from nodes.now roots.now) out.old) }
+{
+    match roots {
+        [routine, value, ..] => {
+            let arguments = [Argument::Of(value.place)];
+            lay_call(
+                tasks,
+                nodes,
+                Argument::Of(routine.place),
+                &arguments,
+                None,
+                out,
+            )
+        }
+        _ => Ok(()),
+    }
+}
+
+/// A routine of the veneer is called with the first of some trees.
+fn call_veneer(
+    veneer: Veneer,
+    nodes: &Nodes,
+    roots: &[Root],
+    tasks: &mut Tasks,
+    out: &mut Output,
+) -> Result<(), AllocError>
+    ensures { OnOk result (out.new ≡ veneer_called veneer (trees_from nodes.now roots.now) out.old) }
+{
+    match roots.first() {
+        Some(root) => {
+            let argument = [Argument::Of(root.place)];
+            lay_routine_call(tasks, nodes, veneer, &argument, None, out)
+        }
+        None => Ok(()),
+    }
+}
+
+/// A value by a rule.
+#[tactic(auto, unfolding(crate::specs::Printing::rule_code))]
+fn print_by(
+    rule: PrintRule,
+    nodes: &Nodes,
+    roots: &[Root],
+    tasks: &mut Tasks,
+    out: &mut Output,
+) -> Result<(), AllocError>
+    ensures { OnOk result (out.new ≡ rule_code rule (trees_from nodes.now roots.now) out.old) }
+{
+    match rule {
+        PrintRule::Character => lay_one(Opcode::PrintChar, nodes, roots, tasks, out),
+        PrintRule::String => lay_one(Opcode::PrintPaddr, nodes, roots, tasks, out),
+        PrintRule::Address => lay_one(Opcode::PrintAddr, nodes, roots, tasks, out),
+        PrintRule::Object => lay_one(Opcode::PrintObj, nodes, roots, tasks, out),
+        PrintRule::ShortName => call_veneer(Veneer::ShortName, nodes, roots, tasks, out),
+        PrintRule::DefiniteArticle => {
+            call_veneer(Veneer::DefiniteArticle, nodes, roots, tasks, out)
+        }
+        PrintRule::CapitalArticle => call_veneer(Veneer::CapitalArticle, nodes, roots, tasks, out),
+        PrintRule::IndefiniteArticle => {
+            call_veneer(Veneer::IndefiniteArticle, nodes, roots, tasks, out)
+        }
+        PrintRule::EnglishNumber => call_veneer(Veneer::EnglishNumber, nodes, roots, tasks, out),
+        PrintRule::Routine => call_with(nodes, roots, tasks, out),
+    }
+}
+
+/// What stands behind the roots of an item.
+fn roots_behind(item: Item, roots: &[Root]) -> &[Root]
+    ensures { (nodes : List Tree) → trees_from nodes result.now ≡ trees_behind item (trees_from nodes roots.now) }
+{
+    match item {
+        Item::Value => rest(roots),
+        Item::Ruled(PrintRule::Routine) => rest(rest(roots)),
+        Item::Ruled(_) => rest(roots),
+        _ => roots,
+    }
+}
+
+/// Whether a statement that returns is to end a line behind an item.
+fn ends_behind(item: Item, returns: bool) -> bool
+    ensures { result ≡ ends_behind item returns }
+{
+    match item {
+        Item::Text(_) => false,
+        _ => returns,
+    }
+}
+
+/// What a statement prints goes by this.
+#[derive(Clone, Copy)]
+pub(crate) struct Printing<'a> {
+    pub alloc: Global,
+    pub set: CharSet,
+    pub tokens: &'a UnitTokens,
+    /// Whether it returns.
+    pub returns: bool,
+}
+
+/// One item, with others behind it.
+fn print_item(
+    printing: Printing<'_>,
+    item: Item,
+    others: &[Item],
+    nodes: &Nodes,
+    roots: &[Root],
+    tasks: &mut Tasks,
+    out: &mut Output,
+) -> Result<(), AllocError>
+    ensures { OnOk result (out.new
+        ≡ item_code printing.entry.set printing.entry.tokens.now printing.entry.returns others.now item (trees_from nodes.now roots.now) out.old) }
+{
+    match item {
+        Item::Text(at) => {
+            let opcode = text_opcode(printing.returns, others);
+            print_text(
+                printing.alloc,
+                printing.set,
+                printing.tokens,
+                at,
+                opcode,
+                out,
+            )
+        }
+        Item::Value => lay_one(Opcode::PrintNum, nodes, roots, tasks, out),
+        Item::Ruled(rule) => print_by(rule, nodes, roots, tasks, out),
+        _ => Ok(()),
+    }
+}
+
+/// What is printed, in order.
+pub(crate) fn print_items(
+    printing: Printing<'_>,
+    items: &[Item],
+    forest: &Forest,
+    tasks: &mut Tasks,
+    out: &mut Output,
+) -> Result<(), AllocError>
+    ensures { OnOk result (out.new
+        ≡ items_printed printing.entry.set printing.entry.tokens.now printing.entry.returns false items.now (map tree_in (trees_in forest.now)) out.old) }
+{
+    let nodes = &forest.nodes;
+    let mut roots = forest.roots.as_slice();
+    let mut left = items;
+    let mut ends = false;
+    while let Some((item, others)) = left.split_first() {
+        print_item(printing, *item, others, nodes, roots, tasks, out)?;
+        ends = ends_behind(*item, printing.returns);
+        roots = roots_behind(*item, roots);
+        left = others;
+    }
+    end_items(ends, out)
+}

@@ -1,0 +1,423 @@
+//! What statements are, and the code of those that need nothing beside their trees.
+ghost use Rattle.std.specs.Prelude.{◌≡◌, List, OnOk, Some, map, false};
+ghost use Rattle.inf_expressions.specs.Forests.{trees_in};
+ghost use Rattle.inf_expressions.specs.Nodes.{tree_at};
+ghost use Rattle.inf_expressions.specs.Trees.{Tree};
+ghost use Rattle.inf_output.specs.Output.{Takes};
+ghost use Rattle.inf_templates.specs.Meaning.{Meaning};
+ghost use Rattle.inf_templates.specs.Tasks.{part_of};
+ghost use Rattle.inf_unit.specs.Tokens.{spelled};
+ghost use Rattle.inf_statements.specs.Statements.{alone, are_several, attribute_code, attribute_opcode, attributes_changed, attributes_given, jumped_to, mark_statement, moved, one_worked, plain, rest, returned, returned_by, spaced, statement_in, statement_of_kind, style_of, styled, styled_by, switched, tested, text_statement, tree_in, trees_from, unless, word_statement};
+
+use crate::cases::SWITCHED;
+use inf_expressions::{Forest, Nodes, Root};
+use inf_opcode::{Label, Opcode};
+use inf_output::{Output, Simple, Veneer};
+use inf_scanner::{Mark, TokenKind};
+use inf_templates::{
+    Argument, Tasks, lay_alone, lay_branch, lay_instruction, lay_routine_call, lay_value, simple_of,
+};
+use inf_unit::items::Item;
+use inf_unit::tokens::{Spelled, is_word};
+use inf_unit::unit_tokens::UnitTokens;
+use std::alloc::AllocError;
+
+/// The variable for values that nobody wants.
+const TEMP: u8 = 255;
+
+/// What a statement is, told by its first token.
+#[derive(Clone, Copy, Debug, PartialEq, Eq)]
+pub enum Statement {
+    /// A semicolon alone.
+    Empty,
+    /// An expression without result: the first token is no keyword.
+    Expression,
+    Print,
+    /// `print_ret`, and a text alone.
+    PrintReturn,
+    Return,
+    NewLine,
+    Quit,
+    ReturnTrue,
+    ReturnFalse,
+    Break,
+    Continue,
+    Jump,
+    /// The place of a label: `.` and its name.
+    Place,
+    Give,
+    Move,
+    Remove,
+    Spaces,
+    Style,
+    /// A line of assembly, which begins with `@`.
+    Assembly,
+}
+
+/// What a statement is that begins with a token, by its word.
+fn word_statement(token: &Spelled<'_>) -> Statement
+    ensures { result ≡ word_statement (spelled token.now) }
+{
+    if is_word(token, b"print") {
+        Statement::Print
+    } else if is_word(token, b"print_ret") {
+        Statement::PrintReturn
+    } else if is_word(token, b"return") {
+        Statement::Return
+    } else if is_word(token, b"new_line") {
+        Statement::NewLine
+    } else if is_word(token, b"quit") {
+        Statement::Quit
+    } else if is_word(token, b"rtrue") {
+        Statement::ReturnTrue
+    } else if is_word(token, b"rfalse") {
+        Statement::ReturnFalse
+    } else if is_word(token, b"break") {
+        Statement::Break
+    } else if is_word(token, b"continue") {
+        Statement::Continue
+    } else if is_word(token, b"jump") {
+        Statement::Jump
+    } else if is_word(token, b"give") {
+        Statement::Give
+    } else if is_word(token, b"move") {
+        Statement::Move
+    } else if is_word(token, b"remove") {
+        Statement::Remove
+    } else if is_word(token, b"spaces") {
+        Statement::Spaces
+    } else if is_word(token, b"style") {
+        Statement::Style
+    } else {
+        Statement::Expression
+    }
+}
+
+/// What a statement is that begins with a mark.
+fn mark_statement(mark: Mark) -> Statement
+    ensures { result ≡ mark_statement mark }
+{
+    match mark {
+        Mark::Dot => Statement::Place,
+        Mark::At => Statement::Assembly,
+        _ => Statement::Expression,
+    }
+}
+
+/// What a statement is that begins with a text and has this.
+fn text_statement(items: &[Item]) -> Statement
+    ensures { result ≡ text_statement items.now }
+{
+    if items.is_empty() {
+        Statement::Expression
+    } else {
+        Statement::PrintReturn
+    }
+}
+
+/// What a statement is that begins with a token and has this.
+fn statement_of(token: &Spelled<'_>, items: &[Item]) -> Statement
+    ensures { result ≡ statement_of_kind token.now.kind (spelled token.now) items.now }
+{
+    match token.kind {
+        TokenKind::Name => word_statement(token),
+        TokenKind::Text => text_statement(items),
+        TokenKind::Mark(mark) => mark_statement(mark),
+        _ => Statement::Expression,
+    }
+}
+
+/// What a statement is that begins at a place among these tokens and has this.
+#[tactic(auto, unfolding(crate::specs::Statements::statement_in))]
+pub(crate) fn statement_in(tokens: &UnitTokens, begun: usize, items: &[Item]) -> Statement
+    ensures { result ≡ statement_in tokens.now begun items.now }
+{
+    match tokens.get(begun) {
+        Some(token) => statement_of(&token, items),
+        None => Statement::Empty,
+    }
+}
+
+/// An instruction of an opcode alone.
+pub(crate) fn plain(opcode: Opcode, out: &mut Output) -> Result<(), AllocError>
+    requires { Takes opcode 0 false false }
+    ensures { OnOk result (out.new ≡ plain opcode out.old) }
+{
+    out.instruct(opcode, &[], None, None)
+}
+
+/// What stands behind the first of some roots.
+pub(crate) fn rest(roots: &[Root]) -> &[Root]
+    ensures { (nodes : List Tree) → trees_from nodes result.now ≡ rest (trees_from nodes roots.now) }
+{
+    match roots.split_first() {
+        Some((_, others)) => others,
+        None => roots,
+    }
+}
+
+/// An instruction of the first of some trees as its operand.
+pub(crate) fn lay_one(
+    opcode: Opcode,
+    nodes: &Nodes,
+    roots: &[Root],
+    tasks: &mut Tasks,
+    out: &mut Output,
+) -> Result<(), AllocError>
+    requires { Takes opcode 1 false false }
+    ensures { OnOk result (out.new ≡ one_worked opcode (trees_from nodes.now roots.now) out.old) }
+{
+    match roots.first() {
+        Some(root) => {
+            let argument = [Argument::Of(root.place)];
+            lay_instruction(tasks, nodes, opcode, &argument, None, None, out)
+        }
+        None => Ok(()),
+    }
+}
+
+/// An expression without result.
+pub fn lay_expression(
+    forest: &Forest,
+    tasks: &mut Tasks,
+    out: &mut Output,
+) -> Result<(), AllocError>
+    ensures { OnOk result (out.new ≡ alone (map tree_in (trees_in forest.now)) out.old) }
+{
+    match forest.roots.first() {
+        Some(root) => lay_alone(tasks, &forest.nodes, root.place, out),
+        None => Ok(()),
+    }
+}
+
+/// A branch where an expression is not true.
+fn lay_unless(
+    forest: &Forest,
+    label: Label,
+    tasks: &mut Tasks,
+    out: &mut Output,
+) -> Result<(), AllocError>
+    ensures { OnOk result (out.new ≡ unless (map tree_in (trees_in forest.now)) label out.old) }
+{
+    match forest.roots.first() {
+        Some(root) => lay_branch(tasks, &forest.nodes, root.place, false, label, out),
+        None => Ok(()),
+    }
+}
+
+/// A branch, where something that has a condition is open, where an expression is not true.
+pub fn lay_test(
+    label: Option<Label>,
+    forest: &Forest,
+    tasks: &mut Tasks,
+    out: &mut Output,
+) -> Result<(), AllocError>
+    ensures { OnOk result (out.new ≡ tested label (map tree_in (trees_in forest.now)) out.old) }
+{
+    match label {
+        Some(label) => lay_unless(forest, label, tasks, out),
+        None => Ok(()),
+    }
+}
+
+/// What is switched on goes to its variable.
+pub fn lay_switched(forest: &Forest, tasks: &mut Tasks, out: &mut Output) -> Result<(), AllocError>
+    ensures { OnOk result (out.new ≡ switched (map tree_in (trees_in forest.now)) out.old) }
+{
+    match forest.roots.first() {
+        Some(root) => lay_value(tasks, &forest.nodes, root.place, SWITCHED, out),
+        None => Ok(()),
+    }
+}
+
+/// Returns what is simple: a number that is known as 1 or 0 has an instruction of its own.
+fn return_simple(operand: Simple, out: &mut Output) -> Result<(), AllocError>
+    ensures { (m : Meaning) → OnOk result (out.new ≡ returned_by (Some operand) m out.old) }
+{
+    match operand {
+        Simple::Known(1) => plain(Opcode::Rtrue, out),
+        Simple::Known(0) => plain(Opcode::Rfalse, out),
+        _ => out.instruct(Opcode::Ret, &[operand], None, None),
+    }
+}
+
+/// Returns the first of some trees; 1 where there is none. What needs code is returned from the stack.
+pub(crate) fn lay_return(
+    forest: &Forest,
+    tasks: &mut Tasks,
+    out: &mut Output,
+) -> Result<(), AllocError>
+    ensures { OnOk result (out.new ≡ returned (map tree_in (trees_in forest.now)) out.old) }
+{
+    let Some(root) = forest.roots.first() else {
+        return plain(Opcode::Rtrue, out);
+    };
+    if let Some(operand) = simple_of(&forest.nodes, root.place) {
+        return return_simple(operand, out);
+    }
+    lay_value(tasks, &forest.nodes, root.place, 0, out)?;
+    plain(Opcode::RetPopped, out)
+}
+
+/// `move`: the first of some trees goes into the second.
+pub(crate) fn lay_move(
+    forest: &Forest,
+    tasks: &mut Tasks,
+    out: &mut Output,
+) -> Result<(), AllocError>
+    ensures { OnOk result (out.new ≡ moved (map tree_in (trees_in forest.now)) out.old) }
+{
+    match forest.roots.as_slice() {
+        [a, b, ..] => {
+            let arguments = [Argument::Of(a.place), Argument::Of(b.place)];
+            lay_instruction(
+                tasks,
+                &forest.nodes,
+                Opcode::InsertObj,
+                &arguments,
+                None,
+                None,
+                out,
+            )
+        }
+        _ => Ok(()),
+    }
+}
+
+/// `spaces`: so many as the first of some trees says.
+pub(crate) fn lay_spaces(
+    forest: &Forest,
+    tasks: &mut Tasks,
+    out: &mut Output,
+) -> Result<(), AllocError>
+    ensures { OnOk result (out.new ≡ spaced (map tree_in (trees_in forest.now)) out.old) }
+{
+    match forest.roots.first() {
+        Some(root) => {
+            let argument = [Argument::Of(root.place)];
+            lay_routine_call(tasks, &forest.nodes, Veneer::Spaces, &argument, None, out)
+        }
+        None => Ok(()),
+    }
+}
+
+/// The opcode by which an attribute is given or taken away.
+fn attribute_opcode(item: Item) -> Opcode
+    ensures value { result ≡ attribute_opcode item }
+    ensures takes { Takes result 2 false false }
+{
+    match item {
+        Item::Set => Opcode::SetAttr,
+        _ => Opcode::ClearAttr,
+    }
+}
+
+/// The first of some trees is an attribute that an object is given or that is taken from it.
+fn lay_attribute(
+    opcode: Opcode,
+    object: Argument,
+    nodes: &Nodes,
+    roots: &[Root],
+    tasks: &mut Tasks,
+    out: &mut Output,
+) -> Result<(), AllocError>
+    requires { Takes opcode 2 false false }
+    ensures { OnOk result (out.new ≡ attribute_code opcode (part_of nodes.now object) (trees_from nodes.now roots.now) out.old) }
+{
+    match roots.first() {
+        Some(root) => {
+            let arguments = [object, Argument::Of(root.place)];
+            lay_instruction(tasks, nodes, opcode, &arguments, None, None, out)
+        }
+        None => Ok(()),
+    }
+}
+
+/// Attributes that an object is given or that are taken from it, one by one.
+fn lay_attributes(
+    object: Argument,
+    items: &[Item],
+    nodes: &Nodes,
+    roots: &[Root],
+    tasks: &mut Tasks,
+    out: &mut Output,
+) -> Result<(), AllocError>
+    ensures { OnOk result (out.new ≡ attributes_given (part_of nodes.now object) items.now (trees_from nodes.now roots.now) out.old) }
+{
+    let mut left = items;
+    let mut attributes = roots;
+    while let Some((item, others)) = left.split_first() {
+        let opcode = attribute_opcode(*item);
+        lay_attribute(opcode, object, nodes, attributes, tasks, out)?;
+        attributes = rest(attributes);
+        left = others;
+    }
+    Ok(())
+}
+
+/// Whether there are two or more.
+fn are_several(items: &[Item]) -> bool
+    ensures { result ≡ are_several items.now }
+{
+    matches!(items, [_, _, ..])
+}
+
+/// `give`: the first of some trees is an object. With several attributes one that needs code is worked out first.
+pub(crate) fn lay_give(
+    items: &[Item],
+    forest: &Forest,
+    tasks: &mut Tasks,
+    out: &mut Output,
+) -> Result<(), AllocError>
+    ensures { OnOk result (out.new ≡ attributes_changed items.now (map tree_in (trees_in forest.now)) out.old) }
+{
+    let nodes = &forest.nodes;
+    let Some((root, attributes)) = forest.roots.as_slice().split_first() else {
+        return Ok(());
+    };
+    let mut object = Argument::Of(root.place);
+    if are_several(items) && simple_of(nodes, root.place).is_none() {
+        lay_value(tasks, nodes, root.place, TEMP, out)?;
+        object = Argument::Is(Simple::Variable(TEMP));
+    }
+    lay_attributes(object, items, nodes, attributes, tasks, out)
+}
+
+/// The number of a style of text, by its name in any case (Z-Machine Standard 1.1, section 15, `set_text_style`).
+pub(crate) fn style_of(name: &[u8]) -> Option<u16>
+    ensures { result ≡ style_of name.now }
+{
+    if name.eq_ignore_ascii_case(b"roman") {
+        Some(0)
+    } else if name.eq_ignore_ascii_case(b"reverse") {
+        Some(1)
+    } else if name.eq_ignore_ascii_case(b"bold") {
+        Some(2)
+    } else if name.eq_ignore_ascii_case(b"underline") {
+        Some(4)
+    } else if name.eq_ignore_ascii_case(b"fixed") {
+        Some(8)
+    } else {
+        None
+    }
+}
+
+/// `style`: the style of a name.
+pub(crate) fn lay_style(name: &[u8], out: &mut Output) -> Result<(), AllocError>
+    ensures { OnOk result (out.new ≡ styled name.now out.old) }
+{
+    match style_of(name) {
+        Some(style) => out.instruct(Opcode::SetTextStyle, &[Simple::Known(style)], None, None),
+        None => Ok(()),
+    }
+}
+
+/// A jump to a label, if there is one.
+pub(crate) fn lay_jump(label: Option<Label>, out: &mut Output) -> Result<(), AllocError>
+    ensures { OnOk result (out.new ≡ jumped_to label out.old) }
+{
+    match label {
+        Some(label) => out.jump(label),
+        None => Ok(()),
+    }
+}

@@ -1,0 +1,29 @@
+//! The opcodes of assembly lines.
+ghost use Rattle.std.specs.Prelude.{◌≡◌};
+ghost use Rattle.inf_unit.specs.Opcodes.{opcode_of, takes_text};
+
+use inf_opcode::Opcode;
+
+/// The opcode of a name, in any case; none where it has a byte over 127, which no name of a source has.
+#[tactic(auto, unfolding(crate::specs::Opcodes::opcode_of))]
+pub fn opcode_of(name: &[u8]) -> Option<Opcode>
+    ensures { result ≡ opcode_of name.now }
+{
+    if !name.is_ascii() {
+        return None;
+    }
+    match str::from_utf8(name) {
+        Ok(name) => Opcode::by_name(name),
+        Err(_) => None,
+    }
+}
+
+/// Whether the opcode of a name takes a text of its own.
+pub(crate) fn takes_text(name: &[u8]) -> bool
+    ensures { result ≡ takes_text name.now }
+{
+    match opcode_of(name) {
+        Some(opcode) => opcode.row().has_text,
+        None => false,
+    }
+}
