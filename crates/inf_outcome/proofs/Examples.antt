@@ -15,7 +15,10 @@ use Rattle.inf_names.specs.SystemNames as system
 use Rattle.inf_output.specs.Output as output
 use Rattle.inf_templates.specs.Meaning as meaning
 use Rattle.inf_templates.specs.Parts as parts
+use Rattle.inf_statements.specs.Effects as effects
+use Rattle.inf_statements.specs.Statements as statements
 use Rattle.inf_unit.specs.Units as units
+use Rattle.inf_work.specs.Parts as work_parts
 use Rattle.inf_layout.proofs.Fixed.{story_is}
 use Rattle.inf_layout.proofs.StoryLaws.{story_length, bytes_tell_themselves}
 
@@ -28,23 +31,23 @@ unfolding digits system.system_names
 empty_source serial = record { final = _; is_read = record { turns = 10; leads = refl; ends = refl }; is_ending = refl }
 
 pub text_is_missing : TextIsMissing
-unfolding digits units.order output.laid output.instruction output.behind meaning.call_of parts.calling language.grammar language.known system.system_names
+unfolding digits units.order units.next_place output.laid output.instruction output.behind meaning.call_of parts.calling statements.statement_in effects.statement_laid effects.statement_finding work_parts.part_effect language.grammar language.known system.system_names
 text_is_missing serial = record { final = _; is_read = record { turns = 20; leads = refl; ends = refl }; is_ending = refl }
 
 pub names_are_undeclared : NamesAreUndeclared
-unfolding digits units.order output.laid output.instruction output.behind meaning.call_of parts.calling language.grammar language.known system.system_names
+unfolding digits units.order units.next_place output.laid output.instruction output.behind meaning.call_of parts.calling statements.statement_in effects.statement_laid effects.statement_finding work_parts.part_effect language.grammar language.known system.system_names
 names_are_undeclared serial = record { final = _; is_read = record { turns = 40; leads = refl; ends = refl }; is_ending = refl }
 
 pub files_are_included : FilesAreIncluded
-unfolding digits text_of piece_at escape_piece spelled spellings zscii_of zscii_of_unicode accented units.order output.laid output.instruction output.behind meaning.call_of parts.calling language.grammar language.known system.system_names
+unfolding digits text_of piece_at escape_piece spelled spellings zscii_of zscii_of_unicode accented units.order units.next_place output.laid output.instruction output.behind meaning.call_of parts.calling statements.statement_in effects.statement_laid effects.statement_finding work_parts.part_effect language.grammar language.known system.system_names
 files_are_included serial = record { final = _; is_read = record { turns = 40; leads = refl; ends = refl }; is_ending = refl }
 
 pub conditionals_choose : ConditionalsChoose
-unfolding digits text_of piece_at escape_piece spelled spellings zscii_of zscii_of_unicode accented units.order output.laid output.instruction output.behind meaning.call_of parts.calling language.grammar language.known system.system_names
+unfolding digits text_of piece_at escape_piece spelled spellings zscii_of zscii_of_unicode accented units.order units.next_place output.laid output.instruction output.behind meaning.call_of parts.calling statements.statement_in effects.statement_laid effects.statement_finding work_parts.part_effect language.grammar language.known system.system_names
 conditionals_choose serial = record { final = _; is_read = record { turns = 80; leads = refl; ends = refl }; is_ending = refl }
 
 pub sixteen_are_open : SixteenAreOpen
-unfolding digits text_of piece_at escape_piece spelled spellings zscii_of zscii_of_unicode accented units.order output.laid output.instruction output.behind meaning.call_of parts.calling language.grammar language.known system.system_names
+unfolding digits text_of piece_at escape_piece spelled spellings zscii_of zscii_of_unicode accented units.order units.next_place output.laid output.instruction output.behind meaning.call_of parts.calling statements.statement_in effects.statement_laid effects.statement_finding work_parts.part_effect language.grammar language.known system.system_names
 sixteen_are_open serial = record { final = _; is_read = record { turns = 120; leads = refl; ends = refl }; is_ending = refl }
 
 abbrev hello_bytes : List ℕ
@@ -61,7 +64,7 @@ hello_story serial six = (
 )
 
 pub hello_is_a_story : HelloIsAStory
-unfolding digits text_of piece_at escape_piece spelled spellings zscii_of zscii_of_unicode accented packed longest character_zs punctuation body units.order output.laid output.instruction output.behind meaning.call_of parts.calling language.grammar language.known system.system_names
+unfolding digits text_of piece_at escape_piece spelled spellings zscii_of zscii_of_unicode accented packed longest character_zs punctuation body units.order units.next_place output.laid output.instruction output.behind meaning.call_of parts.calling statements.statement_in effects.statement_laid effects.statement_finding work_parts.part_effect language.grammar language.known system.system_names
 hello_is_a_story serial six =
     let whole : story serial 0 (RoutineAt 0 ∷ []) (known hello_bytes) ≡ story_bytes serial 0 hello_bytes = story_is serial 0 (RoutineAt 0 ∷ []) (known hello_bytes) in
     let says = hello_story serial six in
