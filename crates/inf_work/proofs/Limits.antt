@@ -1,7 +1,7 @@
 -- No action changes what there may be of names and of code.
 use Rattle.std.proofs.Common.{◌≡◌, ℕ, List, [], ◌∷◌, ◌&&◌, Bool, true, false, cond, Option, Some, None, refl}
 use Rattle.std.specs.Prelude.{is_some, length, ◌==◌}
-use Rattle.inf_code.specs.Code.{size}
+use Rattle.inf_code.specs.Code.{place_behind}
 use Rattle.inf_characters.specs.declared.characters.CharSet.{CharSet}
 use Rattle.inf_characters.specs.declared.texts.TextItem.{TextItem}
 use Rattle.inf_scanner.specs.declared.tokens.Place.{Place}
@@ -203,7 +203,7 @@ header_with_same files first name h w =
     let d = routine_declared name w in
     let is_lost = is_some (header_fault files first (name_fault files name (declare_fault name.bytes w.output.names)) h) in
     out_same_then w.output d.output (opened (length h.locals) is_lost d.output)
-    (declared_keeps name.bytes name.place (meaning_of.Routine (size w.output.code.finished)) w.output) (opened_keeps (length h.locals) is_lost d.output)
+    (declared_keeps name.bytes name.place (meaning_of.Routine (place_behind w.output.code.finished)) w.output) (opened_keeps (length h.locals) is_lost d.output)
 
 header_of_same : (files : FileNames) (first : Place) (names : List Name) (w : Work) → SameLimits w (header_of files first names w)
 header_of_same files first [] w = (refl, refl)

@@ -19,6 +19,7 @@ use crate::operands::{all_looked, name_bytes, name_locals, settled};
 use crate::statements::{lay_statement, lay_unless};
 use inf_area::Value;
 use inf_assembler::{CloseFault, RoutineKind};
+use inf_cells::Scale;
 use inf_code::code::{Code, CodeLimits};
 use inf_expressions::{Finding, Forest, Operand, Wanted, build, constant, judge, least_of_both};
 use inf_gathering::gathering::Leaf;
@@ -79,19 +80,16 @@ pub struct Work {
 }
 
 /// No code and no names, of which there may be as many as the settings say.
-fn no_output(alloc: Global, settings: &Settings) -> Output
-    ensures { result ≡ no_output settings.now }
+fn no_output(alloc: Global, settings: &Settings) -> Result<Output, AllocError>
+    ensures { IfOk result (λ output. output ≡ no_output settings.now) }
 {
     let limits = CodeLimits {
         labels: settings.of(Setting::Labels) as usize,
         code: settings.of(Setting::Code) as usize,
         refs: settings.of(Setting::References) as usize,
     };
-    Output::new(
-        Code::new(alloc, limits),
-        no_symbols(alloc, settings),
-        NOWHERE,
-    )
+    let code = Code::new(alloc, limits, Scale::Four)?;
+    Ok(Output::new(code, no_symbols(alloc, settings), NOWHERE))
 }
 
 impl Work {
@@ -99,18 +97,18 @@ impl Work {
     ghost use Rattle.inf_unit.specs.Directives.{Include, Nothing, asked, asks, weight_of};
     ghost use Rattle.inf_work.specs.Works.{work};
 
-    /// Before the first unit of sources in a character set. It takes no memory until something is read.
-    pub fn new(alloc: Global, set: CharSet, settings: &Settings) -> Work
-        ensures { work result ≡ no_work set settings.now }
+    /// Before the first unit of sources in a character set.
+    pub fn new(alloc: Global, set: CharSet, settings: &Settings) -> Result<Work, AllocError>
+        ensures { IfOk result (λ w. work w ≡ no_work set settings.now) }
     {
-        Work {
+        Ok(Work {
             alloc,
             set,
             longest: settings.of(Setting::ExpressionNodes) as usize,
             unit: Unit::new(alloc),
             constructs: Vec::new(alloc),
             locals: Locals::new(),
-            output: no_output(alloc, settings),
+            output: no_output(alloc, settings)?,
             tasks: Tasks::new(alloc),
             report: Messages::new(alloc, true),
             asked: Asked::Nothing,
@@ -118,7 +116,7 @@ impl Work {
             is_system: false,
             waiting: Vec::new(alloc),
             is_passed_over: false,
-        }
+        })
     }
 
     /// Whether a directive asks something of the reading.
@@ -498,7 +496,7 @@ impl Work {
         ensures value { OnOk result (work self.new ≡ routine_declared (as_name name.now) (work self.old)) }
         ensures fault { IfOk result (λ refused. refused ≡ declare_fault (as_name name.now).bytes (work self.old).output.names) }
     {
-        let routine = Meaning::Routine(self.output.code.len());
+        let routine = Meaning::Routine(self.output.code.next_place());
         self.output.declare(name.bytes(), name.place, routine)
     }
 
