@@ -1,35 +1,50 @@
 -- Code, step by step: its finished routines stay while one is open, and this one stands behind them when it is closed.
 use Rattle.std.specs.Prelude.{Result, Ok, Err, OnOk, OnErr, ◌≤◌, Bool}
-use Rattle.std.proofs.Common.{◌≡◌, ℕ, ◌+◌, List, [], ◌∷◌, ◌++◌, length, take, Option, Some, None, refl, sym, ◌∙◌, ap, subst, arith, append_assoc, length-append, length-take}
-use Rattle.std.proofs.lemmas.List.{take_at, take-take, take_all, length-take-le}
+use Rattle.std.proofs.Common.{◌≡◌, ℕ, ◌+◌, ◌-◌, List, [], ◌∷◌, ◌++◌, length, take, drop, Option, Some, None, refl, sym, ◌∙◌, ap, subst, arith, append_assoc, length-append, length-take}
+use Rattle.std.proofs.lemmas.List.{take_at, take-take, take_all, length-take-le, length-drop, drop-append-le}
 use Rattle.inf_area.specs.Fixups.{Fixups}
+use Rattle.inf_cells.specs.declared.scale.Scale.{Scale}
 use Rattle.inf_opcode.specs.Cells.{long_bytes}
 use Rattle.inf_assembler.specs.declared.routines.Closed.{Closed}
 use Rattle.inf_assembler.specs.declared.routines.RoutineKind.{RoutineKind}
 use Rattle.inf_assembler.specs.Routines.{State, Contents, Stands, IsOpen, Holds, Closes, contents_of, fresh, closing, routine_fixups, body_bytes}
-use Rattle.inf_code.specs.Code.{IsCode, AreInOrder, cells_from, most, size, padded, routine_cells, whole_bytes, routine_limits, zeros_behind}
+use Rattle.inf_code.specs.Code.{IsCode, StandsFor, cells_from, first_routine, most, padded, place_behind, routine_cells, source_bytes, source_cells, whole_bytes, routine_limits, zeros_behind}
 use Rattle.inf_code.specs.declared.code.CodeLimits.{CodeLimits}
-use Rattle.inf_code.proofs.CodeLemmas.{StandsFor, size-cells_from, stands_for-closed}
+use Rattle.inf_code.proofs.CodeLemmas.{itself, size-stands_for, stands_for-closed}
 
 -- the bytes of the finished routines
 module _ (limits : CodeLimits) (finished : ℕ) (refs : Fixups) (bytes : List ℕ) (is_lost : Bool) (routine : Option State) (is : IsCode limits finished refs bytes is_lost routine) where
   pub length_finished : length (take finished bytes) ≡ finished
   length_finished = length-take-le finished bytes is.within
 
-  pub order_finished : AreInOrder 0 refs.list (length (take finished bytes))
-  order_finished = subst (λ n. AreInOrder 0 refs.list n) (sym length_finished) is.in_order
+  pub first_within : 8 ≤ finished
+  first_within = omega (arith, ap length is.front, length-take 8 (take finished bytes), length_finished)
 
-  pub size_finished : size (cells_from 0 refs.list (take finished bytes)) ≡ finished
-  size_finished =
-      let end : length (take finished bytes) ≡ 0 + length (take finished bytes) = omega arith in
-      size-cells_from 0 refs.list (take finished bytes) (subst (λ n. AreInOrder 0 refs.list n) end order_finished) ∙ length_finished
+  pub length_source : finished ≡ 8 + length (source_bytes finished bytes)
+  length_source = omega (arith, first_within, length-drop 8 (take finished bytes), length_finished)
+
+  pub size_finished : place_behind (source_cells finished refs bytes) ≡ finished
+  size_finished = omega (arith, size-stands_for 8 refs.list (source_bytes finished bytes) (source_cells finished refs bytes) is.stands, length_source)
+
+  -- with other bytes behind them
+  module _ (new : List ℕ) (same : take finished new ≡ take finished bytes) where
+    pub within_along : finished ≤ length new
+    within_along = omega (arith, ap length same, length_finished, length-take finished new)
+
+    pub front_along : take 8 (take finished new) ≡ first_routine
+    front_along = ap (take 8) same ∙ is.front
+
+    pub stands_along : StandsFor 8 refs.list (source_bytes finished new) (source_cells finished refs new)
+    stands_along = subst (λ xs. StandsFor 8 refs.list (drop 8 xs) (cells_from 8 refs.list (drop 8 xs))) (sym same) is.stands
 
   -- cut, and with nothing open
   pub front_cut : (cut : List ℕ) → cut ≡ take finished bytes → take finished cut ≡ take finished bytes
   front_cut cut e = ap (take finished) e ∙ take-take finished finished bytes (omega arith)
 
   pub code_cut : (lost : Bool) (cut : List ℕ) → cut ≡ take finished bytes → IsCode limits finished refs cut lost None
-  code_cut lost cut e = record { within = omega (arith, ap length e, length_finished); in_order = is.in_order; limit = is.limit; few = is.few; behind = tt }
+  code_cut lost cut e =
+      let same = front_cut cut e in
+      record { within = within_along cut same; front = front_along cut same; stands = stands_along cut same; limit = is.limit; few = is.few; behind = tt }
 
   -- with bytes behind them
   pub front_longer : (longer more : List ℕ) → longer ≡ take finished bytes ++ more → take finished longer ≡ take finished bytes
@@ -44,8 +59,9 @@ module _ (limits : CodeLimits) (finished : ℕ) (refs : Fixups) (bytes : List �
     code_opened lost open_now same =
         let start : opened.start ≡ finished = stands.start ∙ ap length at ∙ length_finished in
         record {
-          within = omega (arith, ap length front_opened, length_finished, length-take finished new);
-          in_order = is.in_order;
+          within = within_along new front_opened;
+          front = front_along new front_opened;
+          stands = stands_along new front_opened;
           limit = is.limit;
           few = is.few;
           behind = record { start = start; open_still = open_now; limits = same };
@@ -59,8 +75,9 @@ module _ (limits : CodeLimits) (finished : ℕ) (refs : Fixups) (bytes new : Lis
 
   pub code_emitted : IsCode limits finished refs new is_lost (Some longer)
   code_emitted = record {
-    within = omega (arith, ap length front_emitted, length-take finished new, length-take-le finished bytes is.within);
-    in_order = is.in_order;
+    within = within_along limits finished refs bytes is_lost (Some routine) is new front_emitted;
+    front = front_along limits finished refs bytes is_lost (Some routine) is new front_emitted;
+    stands = stands_along limits finished refs bytes is_lost (Some routine) is new front_emitted;
     limit = is.limit;
     few = is.few;
     behind = record { start = holds.start ∙ is.behind.start; open_still = holds.open_still; limits = holds.limits ∙ is.behind.limits };
@@ -75,57 +92,93 @@ code_or_same limits finished refs bytes new is_lost routine longer contents is (
     subst (λ xs. IsCode limits finished refs xs is_lost (Some longer)) (sym same.1) (subst (λ r. IsCode limits finished refs bytes is_lost (Some r)) (sym same.0) is)
 
 -- the open routine is closed, and filled up
-module _ (kind : RoutineKind) (limits : CodeLimits) (finished : ℕ) (refs listed : Fixups) (bytes written whole : List ℕ) (routine : State) (closed : Closed) (is_lost : Bool) (is : IsCode limits finished refs bytes is_lost (Some routine))
+module _ (scale : Scale) (kind : RoutineKind) (limits : CodeLimits) (finished : ℕ) (refs listed : Fixups) (bytes written whole : List ℕ) (routine : State) (closed : Closed) (is_lost : Bool) (is : IsCode limits finished refs bytes is_lost (Some routine))
     (closes : Closes kind routine.start (contents_of routine bytes) bytes refs closed written listed) where
-  pub front_closed : take finished written ≡ take finished bytes
-  front_closed =
-      let contents = contents_of routine bytes in
-      let start = is.behind.start in
-      let same : written ≡ take finished bytes ++ (contents.locals ∷ closes.body ++ closing kind contents) =
-      closes.bytes ∙ ap (λ n. take n bytes ++ contents.locals ∷ closes.body ++ closing kind contents) start
-      ∙ append_assoc (take finished bytes) (contents.locals ∷ closes.body) (closing kind contents) in
-      front_longer limits finished refs bytes is_lost (Some routine) is written _ same
+  abbrev contents : Contents
+  contents = contents_of routine bytes
 
-  pub code_closed : whole ≡ written ++ zeros_behind closed.len → StandsFor 0 listed.list whole (cells_from 0 refs.list (take finished bytes) ++ padded (routine_cells finished kind (contents_of routine bytes)))
+  written_is : written ≡ take finished bytes ++ (contents.locals ∷ closes.body ++ closing kind contents)
+  written_is =
+      closes.bytes ∙ ap (λ n. take n bytes ++ contents.locals ∷ closes.body ++ closing kind contents) is.behind.start
+      ∙ append_assoc (take finished bytes) (contents.locals ∷ closes.body) (closing kind contents)
+
+  pub front_closed : take finished written ≡ take finished bytes
+  front_closed = front_longer limits finished refs bytes is_lost (Some routine) is written _ written_is
+
+  long_enough : 8 ≤ length written
+  long_enough = omega (arith, first_within limits finished refs bytes is_lost (Some routine) is, within_along limits finished refs bytes is_lost (Some routine) is written front_closed)
+
+  pub code_closed : whole ≡ written ++ zeros_behind scale closed.len
+      → StandsFor 8 listed.list (drop 8 whole) (source_cells finished refs bytes ++ padded scale (routine_cells finished kind (contents_of routine bytes)))
   code_closed filled =
-      let contents = contents_of routine bytes in
       let start = is.behind.start in
       let body = closes.body in
-      let at : finished ≡ length (take finished bytes) = sym (length_finished limits finished refs bytes is_lost (Some routine) is) in
+      let eight : 8 ≤ length (take finished bytes) =
+      omega (arith, first_within limits finished refs bytes is_lost (Some routine) is, length_finished limits finished refs bytes is_lost (Some routine) is) in
       let body_is : body_bytes finished contents ≡ Some body = ap (λ n. body_bytes n contents) (sym start) ∙ closes.is in
       let listed_is : listed.list ≡ refs.list ++ routine_fixups finished contents = ap (λ (h : Fixups). h.list) closes.fixups ∙ ap (λ n. refs.list ++ routine_fixups n contents) start in
-      let written_is : written ≡ take finished bytes ++ contents.locals ∷ body ++ closing kind contents =
-      closes.bytes ∙ ap (λ n. take n bytes ++ contents.locals ∷ body ++ closing kind contents) start in
+      let source_is : drop 8 written ≡ source_bytes finished bytes ++ contents.locals ∷ body ++ closing kind contents =
+      ap (drop 8) written_is ∙ drop-append-le 8 (take finished bytes) (contents.locals ∷ body ++ closing kind contents) eight
+      ∙ sym (append_assoc (source_bytes finished bytes) (contents.locals ∷ body) (closing kind contents)) in
+      let whole_is : drop 8 whole ≡ drop 8 written ++ zeros_behind scale closed.len =
+      ap (drop 8) filled ∙ drop-append-le 8 written (zeros_behind scale closed.len) long_enough in
       let count : closed.len ≡ length (whole_bytes kind contents body) =
       omega (arith, closes.len, length-append (contents.locals ∷ body) (closing kind contents)) in
-      stands_for-closed kind contents body refs.list listed.list (take finished bytes) written whole finished closed.len at body_is is.in_order listed_is written_is count filled
+      stands_for-closed scale kind contents body 8 refs.list listed.list (source_bytes finished bytes) (drop 8 written) (drop 8 whole) (source_cells finished refs bytes) finished closed.len
+      (length_source limits finished refs bytes is_lost (Some routine) is) body_is is.stands listed_is source_is count whole_is
 
-  pub finished_closed : whole ≡ written ++ zeros_behind closed.len → cells_from 0 listed.list (take (length whole) whole) ≡ cells_from 0 refs.list (take finished bytes) ++ padded (routine_cells (size (cells_from 0 refs.list (take finished bytes))) kind (contents_of routine bytes))
+  pub finished_closed : whole ≡ written ++ zeros_behind scale closed.len
+      → source_cells (length whole) listed whole ≡ source_cells finished refs bytes ++ padded scale (routine_cells (place_behind (source_cells finished refs bytes)) kind (contents_of routine bytes))
   finished_closed filled =
-      let before = cells_from 0 refs.list (take finished bytes) in
-      ap (cells_from 0 listed.list) (take_all (length whole) whole (omega arith)) ∙ (code_closed filled).are
-      ∙ ap (λ n. before ++ padded (routine_cells n kind (contents_of routine bytes))) (sym (size_finished limits finished refs bytes is_lost (Some routine) is))
+      let before = source_cells finished refs bytes in
+      ap (λ xs. cells_from 8 listed.list (drop 8 xs)) (take_all (length whole) whole (omega arith)) ∙ (code_closed filled).are
+      ∙ ap (λ n. before ++ padded scale (routine_cells n kind (contents_of routine bytes))) (sym (size_finished limits finished refs bytes is_lost (Some routine) is))
 
-  pub code_after : (lost : Bool) → whole ≡ written ++ zeros_behind closed.len → length whole ≤ limits.code → IsCode limits (length whole) listed whole lost None
+  whole_front : whole ≡ written ++ zeros_behind scale closed.len → take 8 (take (length whole) whole) ≡ first_routine
+  whole_front filled =
+      let more = contents.locals ∷ closes.body ++ closing kind contents in
+      let zeros = zeros_behind scale closed.len in
+      let longer : whole ≡ take finished bytes ++ (more ++ zeros) = filled ∙ ap (λ xs. xs ++ zeros) written_is ∙ append_assoc (take finished bytes) more zeros in
+      ap (take 8) (take_all (length whole) whole (omega arith))
+      ∙ sym (take-take 8 finished whole (first_within limits finished refs bytes is_lost (Some routine) is))
+      ∙ ap (take 8) (front_longer limits finished refs bytes is_lost (Some routine) is whole _ longer) ∙ is.front
+
+  whole_stands : whole ≡ written ++ zeros_behind scale closed.len → StandsFor 8 listed.list (source_bytes (length whole) whole) (source_cells (length whole) listed whole)
+  whole_stands filled =
+      let stands = itself 8 listed.list (drop 8 whole) (source_cells finished refs bytes ++ padded scale (routine_cells finished kind (contents_of routine bytes))) (code_closed filled) in
+      subst (λ xs. StandsFor 8 listed.list (drop 8 xs) (cells_from 8 listed.list (drop 8 xs))) (sym (take_all (length whole) whole (omega arith))) stands
+
+  pub code_after : (lost : Bool) → whole ≡ written ++ zeros_behind scale closed.len → length whole ≤ limits.code → IsCode limits (length whole) listed whole lost None
   code_after lost filled few =
-      let end : 0 + length whole ≡ length whole = omega arith in
-      record { within = omega arith; in_order = subst (λ n. AreInOrder 0 listed.list n) end (code_closed filled).in_order; limit = ap (λ (h : Fixups). h.limit) closes.fixups ∙ is.limit; few = few; behind = tt }
+      record { within = omega arith; front = whole_front filled; stands = whole_stands filled; limit = ap (λ (h : Fixups). h.limit) closes.fixups ∙ is.limit; few = omega (arith, few); behind = tt }
 
--- so many bytes it has then
-pub closed_size : (kind : RoutineKind) (limits : CodeLimits) (finished : ℕ) (refs listed : Fixups) (bytes written : List ℕ) (routine : State) (closed : Closed) (is_lost : Bool) → IsCode limits finished refs bytes is_lost (Some routine)
+  -- so many bytes it has then
+  size_after : whole ≡ written ++ zeros_behind scale closed.len → place_behind (source_cells (length whole) listed whole) ≡ length whole
+  size_after filled =
+      let eight : 8 ≤ length whole = omega (arith, long_enough, ap length filled, length-append written (zeros_behind scale closed.len)) in
+      let all : length (take (length whole) whole) ≡ length whole = ap length (take_all (length whole) whole (omega arith)) in
+      omega (arith, size-stands_for 8 listed.list (source_bytes (length whole) whole) (source_cells (length whole) listed whole) (whole_stands filled), length-drop 8 (take (length whole) whole), all, eight)
+
+pub closed_size : (scale : Scale) (kind : RoutineKind) (limits : CodeLimits) (finished : ℕ) (refs listed : Fixups) (bytes written : List ℕ) (routine : State) (closed : Closed) (is_lost : Bool) (is : IsCode limits finished refs bytes is_lost (Some routine))
     → Closes kind routine.start (contents_of routine bytes) bytes refs closed written listed
-    → size (cells_from 0 refs.list (take finished bytes) ++ padded (routine_cells (size (cells_from 0 refs.list (take finished bytes))) kind (contents_of routine bytes))) ≡ length written + length (zeros_behind closed.len)
-closed_size kind limits finished refs listed bytes written routine closed is_lost is closes =
-    let whole = written ++ zeros_behind closed.len in
-    let same = finished_closed kind limits finished refs listed bytes written whole routine closed is_lost is closes refl in
-    let stands = code_closed kind limits finished refs listed bytes written whole routine closed is_lost is closes refl in
-    let all : take (length whole) whole ≡ whole = take_all (length whole) whole (omega arith) in
-    let end : length (take (length whole) whole) ≡ 0 + length (take (length whole) whole) = omega arith in
-    let order : AreInOrder 0 listed.list (0 + length (take (length whole) whole)) = subst (λ n. AreInOrder 0 listed.list n) (omega (arith, ap length all)) stands.in_order in
-    ap size (sym same) ∙ size-cells_from 0 listed.list (take (length whole) whole) order ∙ ap length all ∙ length-append written (zeros_behind closed.len)
+    → place_behind (source_cells finished refs bytes ++ padded scale (routine_cells (place_behind (source_cells finished refs bytes)) kind (contents_of routine bytes))) ≡ length written + length (zeros_behind scale closed.len)
+closed_size scale kind limits finished refs listed bytes written routine closed is_lost is closes =
+    let whole = written ++ zeros_behind scale closed.len in
+    ap place_behind (sym (finished_closed scale kind limits finished refs listed bytes written whole routine closed is_lost is closes refl))
+    ∙ size_after scale kind limits finished refs listed bytes written whole routine closed is_lost is closes refl ∙ length-append written (zeros_behind scale closed.len)
 
 -- what stands behind the finished routines is given up
 pub code_lost : (limits : CodeLimits) (finished : ℕ) (refs : Fixups) (bytes new : List ℕ) (is_lost lost : Bool) (routine : State) → IsCode limits finished refs bytes is_lost (Some routine)
     → take routine.start new ≡ take routine.start bytes → routine.start ≤ length new → (IsCode limits finished refs new lost None) × (take finished new ≡ take finished bytes)
 code_lost limits finished refs bytes new is_lost lost routine is front within =
-    (record { within = omega (arith, is.behind.start, within); in_order = is.in_order; limit = is.limit; few = is.few; behind = tt }, subst (λ n. take n new ≡ take n bytes) is.behind.start front)
+    let same : take finished new ≡ take finished bytes = subst (λ n. take n new ≡ take n bytes) is.behind.start front in (
+      record {
+        within = omega (arith, is.behind.start, within);
+        front = front_along limits finished refs bytes is_lost (Some routine) is new same;
+        stands = stands_along limits finished refs bytes is_lost (Some routine) is new same;
+        limit = is.limit;
+        few = is.few;
+        behind = tt;
+      },
+      same,
+    )

@@ -1,7 +1,11 @@
 -- Which limit is passed: the first that the assembler finds of its area is the first of the routines.
 use Rattle.std.specs.Prelude.{nat_lt}
-use Rattle.std.proofs.Common.{◌≡◌, ℕ, ◌+◌, ◌-◌, Bool, true, false, cond, List, [], ◌∷◌, ◌++◌, length, take, drop, Option, Some, None, refl, sym, ◌∙◌, ap, arith, length-append}
+use Rattle.std.proofs.Common.{◌≡◌, ℕ, ◌+◌, ◌-◌, Bool, true, false, cond, List, ◌∷◌, length, take, Option, Some, None, refl, sym, ◌∙◌, ap, arith, length-append}
 use Rattle.inf_area.specs.declared.fixups.Fixup.{Fixup}
+use Rattle.inf_area.specs.declared.targets.AreaName.TheVariants as name
+use Rattle.inf_cells.specs.declared.cells.Cell.{Cell as CodeCell}
+use Rattle.inf_cells.specs.Cells.{later_count}
+use Rattle.inf_cells.proofs.Joining.{length-fixups_of}
 use Rattle.inf_area.specs.Fixups.{Fixups}
 use Rattle.inf_opcode.specs.Cells.{Cell, long_bytes, label_count, fixup_count}
 use Rattle.inf_assembler.specs.declared.routines.CloseFault.{CloseFault}
@@ -11,25 +15,12 @@ use Rattle.inf_assembler.specs.declared.routines.Setting.{Setting}
 use Rattle.inf_assembler.specs.declared.routines.Setting.TheVariants as setting
 use Rattle.inf_assembler.specs.Routines.{State, Contents, contents_of, full_with, fault_of}
 use Rattle.inf_code.specs.declared.code.CodeLimits.{CodeLimits}
-use Rattle.inf_code.specs.Code.{CodeCell, Known, Awaited, known, size, IsCode, IsSpare, awaited, bytes_with, references_before, references_with, full_cells, left_by, fault_behind, first_fault, cells_from, most}
+use Rattle.inf_code.specs.Code.{IsCode, IsSpare, StandsFor, bytes_with, references_before, references_with, full_cells, left_by, fault_behind, first_fault, most, place_behind, source_bytes, source_cells}
 use Rattle.inf_code.proofs.CodeSteps.{size_finished}
 
--- each fixup is a reference that is awaited
-awaited-append : (cells others : List CodeCell) → awaited (cells ++ others) ≡ awaited cells + awaited others
-awaited-append [] others = omega arith
-awaited-append ((Known byte) ∷ cells) others = awaited-append cells others
-awaited-append ((Awaited target) ∷ cells) others = omega (arith, awaited-append cells others)
-
-awaited-known : (bytes : List ℕ) → awaited (known bytes) ≡ 0
-awaited-known [] = refl
-awaited-known (byte ∷ bytes) = awaited-known bytes
-
-pub awaited-cells_from : (place : ℕ) (fixups : List Fixup) (bytes : List ℕ) → awaited (cells_from place fixups bytes) ≡ length fixups
-awaited-cells_from place [] bytes = awaited-known bytes
-awaited-cells_from place (fixup ∷ fixups) bytes =
-    let front = take (fixup.place - place) bytes in
-    let rest = cells_from (fixup.place + 2) fixups (drop (fixup.place + 2 - place) bytes) in
-    omega (arith, awaited-append (known front) (Awaited fixup.target ∷ rest), awaited-known front, awaited-cells_from (fixup.place + 2) fixups (drop (fixup.place + 2 - place) bytes))
+-- each fixup is a reference that is known later
+pub later_stands_for : (place : ℕ) (fixups : List Fixup) (bytes : List ℕ) (cells : List CodeCell) → StandsFor place fixups bytes cells → later_count cells ≡ length fixups
+later_stands_for place fixups bytes cells stands = sym (length-fixups_of name.Code place cells) ∙ ap length stands.fixups_are
 
 -- where no limit would be passed, that of bytes is not
 pub code_is_free : (full : Bool) (rest : Option Setting) → cond full (Some setting.Code) rest ≡ None → cond full (Some setting.Code) None ≡ None
@@ -45,21 +36,21 @@ pub record Lists (is_lost : Bool) (limits : CodeLimits) (finished : List CodeCel
   pub limit : listed.limit ≡ (most is_lost limits).refs
   pub count : length listed.list ≡ references_before is_lost finished
 
-pub lists : (is_lost : Bool) (limits : CodeLimits) (finished : ℕ) (refs spare : Fixups) (bytes : List ℕ) (listed : Fixups) → refs.limit ≡ limits.refs → IsSpare spare → listed ≡ cond is_lost spare refs
-    → Lists is_lost limits (cells_from 0 refs.list (take finished bytes)) listed
-lists true limits finished refs spare bytes listed limit empty is =
+pub lists : (is_lost : Bool) (limits : CodeLimits) (finished : ℕ) (refs spare : Fixups) (bytes : List ℕ) (listed : Fixups) → StandsFor 8 refs.list (source_bytes finished bytes) (source_cells finished refs bytes) → refs.limit ≡ limits.refs → IsSpare spare
+    → listed ≡ cond is_lost spare refs → Lists is_lost limits (source_cells finished refs bytes) listed
+lists true limits finished refs spare bytes listed stands limit empty is =
     record { limit = ap (λ (f : Fixups). f.limit) (is ∙ empty); count = ap (λ (f : Fixups). length f.list) (is ∙ empty) }
-lists false limits finished refs spare bytes listed limit empty is =
+lists false limits finished refs spare bytes listed stands limit empty is =
     record {
       limit = ap (λ (f : Fixups). f.limit) is ∙ limit;
-      count = ap (λ (f : Fixups). length f.list) is ∙ sym (awaited-cells_from 0 refs.list (take finished bytes));
+      count = ap (λ (f : Fixups). length f.list) is ∙ sym (later_stands_for 8 refs.list (source_bytes finished bytes) (source_cells finished refs bytes) stands);
     }
 
 -- more in the open routine, and its end
 module _ (limits : CodeLimits) (finished : ℕ) (refs listed : Fixups) (bytes : List ℕ) (is_lost : Bool) (routine : State) (is : IsCode limits finished refs bytes is_lost (Some routine))
-    (kept : Lists is_lost limits (cells_from 0 refs.list (take finished bytes)) listed) where
+    (kept : Lists is_lost limits (source_cells finished refs bytes) listed) where
   abbrev before : List CodeCell
-  before = cells_from 0 refs.list (take finished bytes)
+  before = source_cells finished refs bytes
 
   abbrev contents : Contents
   contents = contents_of routine bytes
@@ -67,10 +58,10 @@ module _ (limits : CodeLimits) (finished : ℕ) (refs listed : Fixups) (bytes : 
   abbrev bound : CodeLimits
   bound = most is_lost limits
 
-  start_is : routine.start ≡ size before
+  start_is : routine.start ≡ place_behind before
   start_is = is.behind.start ∙ sym (size_finished limits finished refs bytes is_lost (Some routine) is)
 
-  pub full_is : (cells : List Cell) → full_with cells routine bytes listed ≡ full_cells is_lost (most is_lost limits) (cells_from 0 refs.list (take finished bytes)) cells (contents_of routine bytes)
+  pub full_is : (cells : List Cell) → full_with cells routine bytes listed ≡ full_cells is_lost (most is_lost limits) (source_cells finished refs bytes) cells (contents_of routine bytes)
   full_is cells =
       let stands = is.behind.open_still in
       let front = take routine.start bytes in
@@ -88,7 +79,7 @@ module _ (limits : CodeLimits) (finished : ℕ) (refs listed : Fixups) (bytes : 
   -- what is left of each limit, from what there is
   pub left_is : (bounds : CodeLimits) (labels code references listed_refs : ℕ) → bounds ≡ most is_lost limits → labels ≡ bounds.labels - routine.labels → code ≡ bounds.code - length bytes
       → listed_refs ≡ bounds.refs - length listed.list → references ≡ listed_refs - routine.fixups
-      → record { labels = labels; code = code; refs = references } ≡ left_by (most is_lost limits) is_lost (cells_from 0 refs.list (take finished bytes)) (contents_of routine bytes)
+      → record { labels = labels; code = code; refs = references } ≡ left_by (most is_lost limits) is_lost (source_cells finished refs bytes) (contents_of routine bytes)
   left_is bounds labels code references listed_refs bounds_are labels_are code_is listed_are refs_are =
       let stands = is.behind.open_still in
       let front = take routine.start bytes in
@@ -100,12 +91,12 @@ module _ (limits : CodeLimits) (finished : ℕ) (refs listed : Fixups) (bytes : 
       omega (arith, refs_are, listed_are, ap (λ (l : CodeLimits). l.refs) bounds_are, kept.count, stands.fixups) in
       rw (labels_left, code_left, refs_left) refl
 
-  pub end_is : (kind : RoutineKind) → fault_of routine.start kind (contents_of routine bytes) routine.limits listed ≡ fault_behind (most is_lost limits) (size (cells_from 0 refs.list (take finished bytes))) (references_before is_lost (cells_from 0 refs.list (take finished bytes))) (contents_of routine bytes)
+  pub end_is : (kind : RoutineKind) → fault_of routine.start kind (contents_of routine bytes) routine.limits listed ≡ fault_behind (most is_lost limits) (place_behind (source_cells finished refs bytes)) (references_before is_lost (source_cells finished refs bytes)) (contents_of routine bytes)
   end_is kind =
       ap (λ (l : Limits). fault_behind (record { labels = l.labels; code = l.code; refs = listed.limit }) routine.start (length listed.list) contents) is.behind.limits
       ∙ ap (λ n. fault_behind (record { labels = bound.labels; code = bound.code; refs = n }) routine.start (length listed.list) contents) kept.limit
       ∙ ap (λ n. fault_behind bound n (length listed.list) contents) start_is
-      ∙ ap (λ n. fault_behind bound (size before) n contents) kept.count
+      ∙ ap (λ n. fault_behind bound (place_behind before) n contents) kept.count
 
 -- the first of two, one of which is told
 pub first_none : (first later : Option CloseFault) → first ≡ None → later ≡ None → first_fault first later ≡ None

@@ -1,12 +1,14 @@
 -- The code of a story: finished routines, as bytes and the numbers that are known later, and the routine that is open.
-use Rattle.std.specs.Prelude.{◌≡◌, ℕ, ◌+◌, ◌-◌, ◌%◌, ◌≤◌, ◌<◌, ◌^◌, Bool, true, false, nat_lt, if◌then◌else◌, List, [], ◌∷◌, ◌++◌, length, map, take, drop, slice_get, Option, Some, None}
-use Rattle.std.specs.List.{flat_map}
-use Rattle.std.specs.Option.{unwrap_or}
+use Rattle.std.specs.Prelude.{◌≡◌, ℕ, ◌+◌, ◌-◌, ◌≤◌, ◌<◌, ◌^◌, Bool, true, false, nat_lt, if◌then◌else◌, List, [], ◌∷◌, ◌++◌, length, map, take, drop, Option, Some, None}
 use Rattle.inf_area.specs.declared.fixups.Fixup.{Fixup}
+use Rattle.inf_area.specs.declared.targets.AreaName.TheVariants as name
 use Rattle.inf_area.specs.declared.targets.Target.{Target}
-use Rattle.inf_area.specs.declared.targets.Target.TheVariants as target
 use Rattle.inf_area.specs.Fixups.{Fixups}
-use Rattle.inf_area.specs.Words.{word}
+use Rattle.inf_cells.specs.declared.cells.Cell.{Cell as CodeCell}
+use Rattle.inf_cells.specs.declared.cells.Cell.TheVariants as cell
+use Rattle.inf_cells.specs.declared.scale.Scale.{Scale}
+use Rattle.inf_cells.specs.Cells.{bytes_of, fixups_of, later_count, size_of}
+use Rattle.inf_cells.specs.Scales.{gap}
 use Rattle.inf_opcode.specs.Cells.{Cell, Of, long_bytes, label_count, fixup_count}
 use Rattle.inf_opcode.specs.declared.cells.Special.TheVariants.{Marks}
 use Rattle.inf_opcode.specs.declared.instructions.Label.{Label}
@@ -22,59 +24,52 @@ use Rattle.inf_assembler.specs.Places.{missing, twice_behind}
 use Rattle.inf_assembler.specs.Routines.{State, Contents, IsOpen, contents_of, fresh, with_cells, body_bytes, closing, routine_fixups, is_full, long_places, missing_fault, twice_fault, body_fault}
 use Rattle.inf_code.specs.declared.code.CodeLimits.{CodeLimits}
 
--- a byte, or the two bytes that a reference's number takes
-pub data CodeCell : Type 0 where
-  Known : (byte : ℕ) → CodeCell
-  Awaited : (target : Target) → CodeCell
-
 -- bytes as cells
 abbrev pub known : List ℕ → List CodeCell
-known bytes = map Known bytes
+known bytes = map cell.Byte bytes
 
--- the number of bytes of a cell, and of cells
-abbrev pub cell_size : CodeCell → ℕ
-cell_size (Known byte) = 1
-cell_size (Awaited target) = 2
+-- the zeros behind so many bytes that fill them up to the next packed address (Z-Machine Standard 1.1, section 1.2.3)
+abbrev pub zeros_behind : Scale → ℕ → List ℕ
+zeros_behind scale size = take (gap scale size) (0 ∷ 0 ∷ 0 ∷ 0 ∷ 0 ∷ 0 ∷ 0 ∷ [])
 
-abbrev pub size : List CodeCell → ℕ
-size [] = 0
-size (cell ∷ cells) = cell_size cell + size cells
-
--- the zeros behind so many bytes that fill them up to a multiple of 4
-abbrev pub zeros_behind : ℕ → List ℕ
-zeros_behind size = take ((4 - size % 4) % 4) (0 ∷ 0 ∷ 0 ∷ [])
-
-abbrev pub padding : ℕ → List CodeCell
-padding size = known (zeros_behind size)
+abbrev pub padding : Scale → ℕ → List CodeCell
+padding scale size = known (zeros_behind scale size)
 
 -- cells with these zeros
-abbrev pub padded : List CodeCell → List CodeCell
-padded cells = cells ++ padding (size cells)
+abbrev pub padded : Scale → List CodeCell → List CodeCell
+padded scale cells = cells ++ padding scale (size_of cells)
 
--- the number of what is known later, by a list of the numbers of names; 0 where the list is too short
-abbrev pub number_in : List ℕ → Target → ℕ
-number_in numbers (target.Name name) = unwrap_or (slice_get numbers name) 0
-number_in numbers _ = 0
+-- The first routine, which has no locals: it calls a routine that waits in two zeros, with which nothing is done that it returns, and quits; and zeros up to
+-- a packed address of each version (sections 5.2, 14).
+abbrev pub first_routine : List ℕ
+first_routine = 0x00 ∷ 0x8F ∷ 0 ∷ 0 ∷ 0xBA ∷ 0 ∷ 0 ∷ 0 ∷ []
 
--- the bytes of a cell, and of cells, whose references have these numbers
-abbrev pub cell_bytes : List ℕ → CodeCell → List ℕ
-cell_bytes numbers (Known byte) = byte ∷ []
-cell_bytes numbers (Awaited target) = word (number_in numbers target)
+-- the same, when it is known what it calls
+abbrev pub first_cells : Target → List CodeCell
+first_cells called = cell.Byte 0x00 ∷ cell.Byte 0x8F ∷ cell.Later called ∷ cell.Byte 0xBA ∷ cell.Byte 0 ∷ cell.Byte 0 ∷ cell.Byte 0 ∷ []
 
-abbrev pub code_bytes : List ℕ → List CodeCell → List ℕ
-code_bytes numbers cells = flat_map (cell_bytes numbers) cells
+-- where the routine behind finished ones begins, in bytes from the front of the code: behind the first routine and these
+abbrev pub place_behind : List CodeCell → ℕ
+place_behind finished = 8 + size_of finished
 
 -- What bytes with fixups stand for, from a place on: the bytes before the first fixup, its reference, and what is behind it.
 abbrev pub cells_from : ℕ → List Fixup → List ℕ → List CodeCell
 cells_from place [] bytes = known bytes
 cells_from place (fixup ∷ fixups) bytes =
     known (take (fixup.place - place) bytes)
-    ++ Awaited fixup.target ∷ cells_from (fixup.place + 2) fixups (drop (fixup.place + 2 - place) bytes)
+    ++ cell.Later fixup.target ∷ cells_from (fixup.place + 2) fixups (drop (fixup.place + 2 - place) bytes)
 
 -- that fixups stand one behind the other from a place on, each of two bytes, and end before an end
 abbrev pub AreInOrder : ℕ → List Fixup → ℕ → Type 0
 AreInOrder place [] end = place ≤ end
 AreInOrder place (fixup ∷ fixups) end = (place ≤ fixup.place) × AreInOrder (fixup.place + 2) fixups end
+
+-- that bytes with fixups, from a place on, stand for cells
+pub record StandsFor (place : ℕ) (fixups : List Fixup) (bytes : List ℕ) (cells : List CodeCell) : Type 0 where
+  pub in_order : AreInOrder place fixups (place + length bytes)
+  pub are : cells_from place fixups bytes ≡ cells
+  pub bytes_are : bytes_of cells ≡ bytes
+  pub fixups_are : fixups_of name.Code place cells ≡ fixups
 
 -- a routine that stands at a place, whose items have these bytes: its number of locals, these, and what returns where control
 -- runs past the last (Z-Machine Standard 1.1, section 5)
@@ -94,22 +89,27 @@ pub record Opened : Type 0 where
   pub contents : Contents
   pub is_lost : Bool
 
--- The routines of a story: what it may hold, whether its code has begun, the finished routines of its source, and the one
--- that is open, if any. Code begins with a first routine that the source does not have: it calls the source's Main.
+-- The routines of a story: what it may hold, what packed addresses are multiplied by, whether its code has begun, the finished routines of its source, and
+-- the one that is open, if any. Code begins with a first routine that the source does not have: it calls the source's Main.
 pub record Routines : Type 0 where
   pub limits : CodeLimits
+  pub scale : Scale
   pub has_begun : Bool
   pub finished : List CodeCell
   pub opened : Option Opened
 
 -- none, under these limits
-abbrev pub no_routines : CodeLimits → Routines
-no_routines limits = record { limits = limits; has_begun = false; finished = []; opened = None }
+abbrev pub no_routines : CodeLimits → Scale → Routines
+no_routines limits scale = record { limits = limits; scale = scale; has_begun = false; finished = []; opened = None }
 
--- What is left of the limits for the routines of the source. The first routine has 8 bytes and one reference; the addresses of
--- the property tables of the four objects that each story has are four more.
+-- The code with the first routine, which calls what is known then.
+abbrev pub code_cells : Target → List CodeCell → List CodeCell
+code_cells called finished = first_cells called ++ finished
+
+-- What is left of the limits for the routines of the source. The first routine has a reference; the addresses of the property tables of the four
+-- objects that each story has are four more.
 abbrev pub room : CodeLimits → CodeLimits
-room limits = record { labels = limits.labels; code = limits.code - 8; refs = limits.refs - 5 }
+room limits = record limits { refs = limits.refs - 5 }
 
 -- an instruction more in a routine, and in the one that is open
 abbrev pub with_instruction : Parts → Contents → Contents
@@ -127,15 +127,15 @@ abbrev pub with_label : Label → Option Opened → Option Opened
 with_label label None = None
 with_label label (Some o) = Some (record o { contents = with_mark label o.contents })
 
--- the cells that the open routine becomes behind so many bytes, filled up to a multiple of 4; none, where it is lost
-abbrev pub closed_cells : RoutineKind → ℕ → Option Opened → List CodeCell
-closed_cells kind place None = []
-closed_cells kind place (Some o) = if o.is_lost then [] else padded (routine_cells place kind o.contents)
+-- the cells that the open routine becomes at a place, filled up to a packed address; none, where it is lost
+abbrev pub closed_cells : Scale → RoutineKind → ℕ → Option Opened → List CodeCell
+closed_cells scale kind place None = []
+closed_cells scale kind place (Some o) = if o.is_lost then [] else padded scale (routine_cells place kind o.contents)
 
 -- the routines after the open one is closed
 abbrev pub with_closed : RoutineKind → Routines → Routines
 with_closed kind routines =
-    record routines { finished = routines.finished ++ closed_cells kind (size routines.finished) routines.opened; opened = None }
+    record routines { finished = routines.finished ++ closed_cells routines.scale kind (place_behind routines.finished) routines.opened; opened = None }
 
 -- the routines after the open one is given up
 abbrev pub with_none_open : Routines → Routines
@@ -146,19 +146,13 @@ abbrev pub open_in : List ℕ → Bool → Option State → Option Opened
 open_in bytes is_lost None = None
 open_in bytes is_lost (Some routine) = Some (record { contents = contents_of routine bytes; is_lost = is_lost })
 
--- the references of cells
-abbrev pub awaited : List CodeCell → ℕ
-awaited [] = 0
-awaited ((Known byte) ∷ cells) = awaited cells
-awaited ((Awaited target) ∷ cells) = 1 + awaited cells
-
 -- the bytes of finished routines and of an open one behind them, with every branch long, and their references
 abbrev pub bytes_with : List CodeCell → Contents → ℕ
-bytes_with finished contents = size finished + 1 + length (long_bytes contents.cells)
+bytes_with finished contents = place_behind finished + 1 + length (long_bytes contents.cells)
 
 -- a lost routine's references are counted alone
 abbrev pub references_before : Bool → List CodeCell → ℕ
-references_before is_lost finished = if is_lost then 0 else awaited finished
+references_before is_lost finished = if is_lost then 0 else later_count finished
 
 abbrev pub references_with : Bool → List CodeCell → Contents → ℕ
 references_with is_lost finished contents = references_before is_lost finished + fixup_count contents.cells
@@ -193,18 +187,18 @@ begun routines = begun_unless (full_begun routines) routines
 
 -- the bytes of code and the references of a story so far
 abbrev pub code_count : Routines → ℕ
-code_count routines = (if routines.has_begun then 8 else 0) + size routines.finished
+code_count routines = (if routines.has_begun then 8 else 0) + size_of routines.finished
 
 abbrev pub reference_count : Routines → ℕ
-reference_count routines = (if routines.has_begun then 5 else 4) + awaited routines.finished
+reference_count routines = (if routines.has_begun then 5 else 4) + later_count routines.finished
 
--- the first limit that another routine would pass behind so many bytes: it begins with the number of its locals, and code begins with it
+-- the first limit that another routine would pass at a place: it begins with the number of its locals, and code begins with it
 abbrev pub full_behind_bytes : CodeLimits → Bool → Bool → ℕ → Option Setting
 full_behind_bytes limits is_lost has_begun place =
     if nat_lt (most is_lost (room limits)).code (place + 1) then Some setting.Code else full_unless has_begun limits
 
 abbrev pub full_opened : Bool → Routines → Option Setting
-full_opened is_lost routines = full_behind_bytes routines.limits is_lost routines.has_begun (size routines.finished)
+full_opened is_lost routines = full_behind_bytes routines.limits is_lost routines.has_begun (place_behind routines.finished)
 
 -- another routine of so many locals is open, which is lost or not
 abbrev pub with_opened : ℕ → Bool → Routines → Routines
@@ -265,14 +259,14 @@ abbrev pub first_fault : Option CloseFault → Option CloseFault → Option Clos
 first_fault None later = later
 first_fault (Some fault) later = Some fault
 
-abbrev pub fault_end : CodeLimits → RoutineKind → List CodeCell → Option Opened → Option CloseFault
-fault_end limits kind finished None = None
-fault_end limits kind finished (Some o) =
-    first_fault (fault_behind (most o.is_lost limits) (size finished) (references_before o.is_lost finished) o.contents)
-    (zeros_fault o.is_lost limits.code (size (finished ++ padded (routine_cells (size finished) kind o.contents))))
+abbrev pub fault_end : CodeLimits → Scale → RoutineKind → List CodeCell → Option Opened → Option CloseFault
+fault_end limits scale kind finished None = None
+fault_end limits scale kind finished (Some o) =
+    first_fault (fault_behind (most o.is_lost limits) (place_behind finished) (references_before o.is_lost finished) o.contents)
+    (zeros_fault o.is_lost limits.code (place_behind (finished ++ padded scale (routine_cells (place_behind finished) kind o.contents))))
 
 abbrev pub fault_closed : RoutineKind → Routines → Option CloseFault
-fault_closed kind routines = fault_end (room routines.limits) kind routines.finished routines.opened
+fault_closed kind routines = fault_end (room routines.limits) routines.scale kind routines.finished routines.opened
 
 -- the limits of each routine
 abbrev pub routine_limits : CodeLimits → Limits
@@ -288,12 +282,20 @@ abbrev pub IsBehind : CodeLimits → ℕ → List ℕ → Option State → Type 
 IsBehind limits place bytes None = Unit {0}
 IsBehind limits place bytes (Some routine) = StandsBehind limits place bytes routine
 
--- what code is: finished routines of so many bytes, fixups in them, and an open routine, which is lost or not
+-- the bytes of the finished routines of the source, by those up to the open one: the first routine stands before them
+abbrev pub source_bytes : ℕ → List ℕ → List ℕ
+source_bytes finished bytes = drop 8 (take finished bytes)
+
+abbrev pub source_cells : ℕ → Fixups → List ℕ → List CodeCell
+source_cells finished refs bytes = cells_from 8 refs.list (source_bytes finished bytes)
+
+-- what code is: finished routines of so many bytes, the first one with them, fixups in them, and an open routine, which is lost or not
 pub record IsCode (limits : CodeLimits) (finished : ℕ) (refs : Fixups) (bytes : List ℕ) (is_lost : Bool) (routine : Option State) : Type 0 where
   pub within : finished ≤ length bytes
-  pub in_order : AreInOrder 0 refs.list finished
+  pub front : take 8 (take finished bytes) ≡ first_routine
+  pub stands : StandsFor 8 refs.list (source_bytes finished bytes) (source_cells finished refs bytes)
   pub limit : refs.limit ≡ limits.refs
-  pub few : finished ≤ limits.code
+  pub few : finished - 8 ≤ limits.code - 8
   pub behind : IsBehind (most is_lost limits) finished bytes routine
 
 -- no fixups, and any number of them may come

@@ -1,27 +1,36 @@
 //! The code of a story: its finished routines, and the one that is open.
-ghost use Rattle.std.specs.Prelude.{◌≡◌, ◌≤◌, ◌⊎◌, ◌++◌, ◌+◌, [], None, Some, MatchResult, OnOk, OnErr, false, if◌then◌else◌, length, nat_lt, take, true};
+ghost use Rattle.std.specs.Prelude.{◌≡◌, ◌≤◌, ◌⊎◌, ◌++◌, ◌+◌, [], None, Some, IfOk, MatchResult, OnOk, OnErr, false, if◌then◌else◌, length, nat_lt, take, true};
+ghost use Rattle.inf_area.specs.Fixups.{with_fixups};
+ghost use Rattle.inf_cells.specs.Cells.{bytes_of, fixups_of};
 ghost use Rattle.inf_opcode.specs.Instructions.{IsProper};
 ghost use Rattle.inf_opcode.specs.PartsOf.{parts_of};
 ghost use Rattle.inf_assembler.specs.declared.routines.Setting.{Setting};
 ghost use Rattle.inf_assembler.specs.declared.routines.Setting.TheVariants as code_setting;
 ghost use Rattle.inf_assembler.specs.declared.routines.CloseFault.TheVariants as close_fault;
 ghost use Rattle.inf_assembler.specs.Routines.{IsOpen, contents_of, refusal};
-ghost use Rattle.inf_code.specs.Code.{IsSpare, begun, code_count, fault_behind, fault_closed, reference_count, room, full_begun, full_behind_bytes, full_first, full_label, full_opened, full_with, left, most, size, number_in, code_bytes, with_closed, with_item, with_label, with_none_open, with_opened, zeros_behind};
+ghost use Rattle.inf_code.specs.Code.{IsSpare, begun, code_cells, code_count, fault_behind, fault_closed, reference_count, room, full_begun, full_behind_bytes, full_first, full_label, full_opened, full_with, left, most, place_behind, with_closed, with_item, with_label, with_none_open, with_opened, zeros_behind};
 
-use inf_area::{Area, FlatArea, Refs, Target};
+use inf_area::{AddFault, Area, AreaName, Fixup, PagedArea, Refs, Target};
 use inf_assembler::{CloseFault, GrowFault, Limits, Routine, RoutineKind, Setting};
+use inf_cells::Scale;
 use inf_opcode::{Instruction, Label};
-use std::alloc::Global;
+use std::alloc::{AllocError, Global};
 use std::marker::Model;
 
-/// The bytes of the first routine of each story, which calls `Main`, with the zeros behind it.
+/// The bytes of the first routine of each story, with the zeros behind it: no locals, `call_1n` of what is known later, and `quit`
+/// (Z-Machine Standard 1.1, sections 5.2 and 14).
+const FIRST_ROUTINE: [u8; 8] = [0x00, 0x8F, 0, 0, 0xBA, 0, 0, 0];
+
 const FIRST_ROUTINE_BYTES: usize = 8;
+
+/// Where in it the number of what it calls stands.
+const CALLED: usize = 2;
 
 /// The references of each story in tables: the addresses of the property tables of its first four objects.
 const TABLE_REFERENCES: usize = 4;
 
 /// These, and that of the first routine.
-const FIRST_REFERENCES: usize = 5;
+const FIRST_REFERENCES: usize = TABLE_REFERENCES + 1;
 
 /// What code may hold.
 #[derive(Clone, Copy, Debug, PartialEq, Eq)]
@@ -42,7 +51,7 @@ impl CodeLimits {
     {
         CodeLimits {
             labels: self.labels,
-            code: self.code.saturating_sub(FIRST_ROUTINE_BYTES),
+            code: self.code,
             refs: self.refs.saturating_sub(FIRST_REFERENCES),
         }
     }
@@ -75,7 +84,7 @@ impl CodeLimits {
         }
     }
 
-    /// The first limit that another routine, which is lost or not, would pass behind so many bytes.
+    /// The first limit that another routine, which is lost or not, would pass at a place.
     fn full_opened(self, is_lost: bool, has_begun: bool, place: usize) -> Option<Setting>
         ensures { result ≡ full_behind_bytes self is_lost has_begun place }
     {
@@ -86,16 +95,20 @@ impl CodeLimits {
     }
 }
 
-/// The routines of a story: the bytes of the finished ones, with zeros in place of each number that
-/// is known later, and the fixups where these go; and behind them the routine that is open, if any.
+/// The routines of a story: the bytes of the finished ones, with zeros in place of each number that is known later, and the fixups
+/// where these go; and behind them the routine that is open, if any.
+///
+/// Before those of the source stands a first routine, which calls `Main`. A place in code counts from its front, and so is one in the area.
 #[derive(Debug, Drop)]
 pub struct Code {
     limits: CodeLimits,
-    // Whether it has its first routine, which calls `Main`.
+    scale: Scale,
+    // Whether the first routine counts.
     has_begun: bool,
-    area: FlatArea,
+    area: PagedArea,
+    // Those of the routines of the source: what the first one calls is known at the end.
     refs: Refs,
-    // How many bytes the finished routines have.
+    // How many bytes the finished routines have, with the first one.
     finished: usize,
     // What stands behind these bytes where no routine is open is no longer used.
     routine: Option<Routine>,
@@ -105,12 +118,11 @@ pub struct Code {
 }
 
 impl Model for Code {
-    ghost use Rattle.std.specs.Prelude.{take};
-    ghost use Rattle.inf_code.specs.Code.{Routines, HasRoom, IsCode, IsSpare, cells_from, open_in, room};
+    ghost use Rattle.inf_code.specs.Code.{Routines, HasRoom, IsCode, IsSpare, open_in, room, source_cells};
 
     ghost Value = { Routines };
 
-    ghost view = { λ code. record { limits = code.limits; has_begun = code.has_begun; finished = cells_from 0 code.refs.list (take code.finished code.area); opened = open_in code.area code.is_lost code.routine } };
+    ghost view = { λ code. record { limits = code.limits; scale = code.scale; has_begun = code.has_begun; finished = source_cells code.finished code.refs code.area; opened = open_in code.area code.is_lost code.routine } };
 
     ghost invariant = { λ code. IsCode (room code.limits) code.finished code.refs code.area code.is_lost code.routine × (HasRoom code.has_begun code.limits × IsSpare code.spare) };
 }
@@ -118,25 +130,35 @@ impl Model for Code {
 impl Code {
     ghost use Rattle.inf_code.specs.Code.{Routines, no_routines};
 
-    /// No code, which may hold so much. It takes no memory until the first routine is opened.
-    pub fn new(alloc: Global, limits: CodeLimits) -> Code
-        ensures { result ≡ no_routines limits }
+    /// No code, which may hold so much, in a story whose packed addresses are multiplied by this.
+    pub fn new(alloc: Global, limits: CodeLimits, scale: Scale) -> Result<Code, AllocError>
+        ensures { IfOk result (λ code. code ≡ no_routines limits scale) }
     {
-        Code {
+        let mut area = PagedArea::new(alloc);
+        area.append(&FIRST_ROUTINE)?;
+        Ok(Code {
             limits,
+            scale,
             has_begun: false,
-            area: FlatArea::new(alloc),
+            area,
             refs: Refs::new(alloc, limits.room().refs),
-            finished: 0,
+            finished: FIRST_ROUTINE_BYTES,
             routine: None,
             is_lost: false,
             spare: Refs::new(alloc, usize::MAX),
-        }
+        })
     }
 
-    /// The number of bytes of the finished routines of the source: the place of the next.
-    pub fn len(&self) -> usize
-        ensures { result ≡ size self.now.finished }
+    /// What packed addresses are multiplied by.
+    pub fn scale(&self) -> Scale
+        ensures { result ≡ self.now.scale }
+    {
+        self.scale
+    }
+
+    /// Where the next routine of the source begins, in bytes from the front of the code.
+    pub fn next_place(&self) -> usize
+        ensures { result ≡ place_behind self.now.finished }
     {
         self.finished
     }
@@ -147,9 +169,9 @@ impl Code {
         ensures few { result ≤ self.now.limits.code }
     {
         if self.has_begun {
-            FIRST_ROUTINE_BYTES + self.finished
-        } else {
             self.finished
+        } else {
+            self.finished - FIRST_ROUTINE_BYTES
         }
     }
 
@@ -268,7 +290,7 @@ impl Code {
     }
 
     /// Closes the open routine, if there is one: it is the last of the finished ones, filled up with
-    /// zeros to a multiple of 4; but one that is lost is given up.
+    /// zeros to the next packed address; but one that is lost is given up.
     ///
     /// Where it is refused the finished routines are as they were, and the open one is given up. It is refused where a label is missing or
     /// stands twice, where a branch or jump is too far, where what returns at its end or the zeros behind it would pass the limit of bytes, or
@@ -290,7 +312,7 @@ impl Code {
             Ok(closed) => closed,
             Err(fault) => return Err(fault),
         };
-        if let Err(fault) = fill_up(&mut self.area, closed.len, self.limits.room().code) {
+        if let Err(fault) = fill_up(&mut self.area, closed.len, self.scale, self.limits.code) {
             self.refs.keep(before);
             return Err(fault);
         }
@@ -305,18 +327,21 @@ impl Code {
         self.routine = None;
     }
 
-    /// The bytes of the finished routines, with the numbers of the references filled in. A reference
-    /// whose number the list has not is 0.
-    pub fn fill(self, numbers: &[u16]) -> FlatArea
-        ensures { result ≡ code_bytes numbers.now self.finished }
+    /// The area of the code, whose first routine calls what a target is, and behind other fixups those of it. An open routine is given up.
+    pub fn into_area(self, called: Target, refs: &mut Refs) -> Result<PagedArea, AddFault>
+        ensures bytes { IfOk result (λ area. area ≡ bytes_of (code_cells called self.finished)) }
+        ensures fixups { OnOk result (refs.new
+            ≡ with_fixups (refs.old.list ++ fixups_of AreaName.Code 0 (code_cells called self.finished)) refs.old) }
     {
         let mut area = self.area;
-        let refs = self.refs;
         cut_back(&mut area, self.finished);
-        for fixup in refs.as_slice() {
-            area.patch_word(fixup.place, number_in(numbers, fixup.target));
-        }
-        area
+        refs.add(Fixup {
+            area: AreaName::Code,
+            place: CALLED,
+            target: called,
+        })?;
+        refs.extend(self.refs.as_slice())?;
+        Ok(area)
     }
 }
 
@@ -329,7 +354,7 @@ fn listed<'a>(is_lost: bool, spare: &'a Refs, refs: &'a Refs) -> &'a Refs
 
 /// Closes a routine that is lost, at the end of an area, and gives it up. What was to be listed of it is not kept.
 fn close_lost(
-    area: &mut FlatArea,
+    area: &mut PagedArea,
     spare: &mut Refs,
     routine: Routine,
     kind: RoutineKind,
@@ -347,18 +372,18 @@ fn close_lost(
     Ok(())
 }
 
-/// Appends the zeros behind a routine of this length that fill it up to a multiple of 4.
+/// Appends the zeros behind a routine of this length that fill it up to a packed address.
 ///
 /// It is refused where the area would have more bytes than its limit, and else only for want of memory; the area then stays as it was.
-fn fill_up(area: &mut FlatArea, len: usize, limit: usize) -> Result<(), CloseFault>
-    ensures ok { OnOk result (area.new ≡ area.old ++ zeros_behind len) }
+fn fill_up(area: &mut PagedArea, len: usize, scale: Scale, limit: usize) -> Result<(), CloseFault>
+    ensures ok { OnOk result (area.new ≡ area.old ++ zeros_behind scale len) }
     ensures room { OnOk result (length area.new ≤ limit) }
     ensures err { OnErr result (area.new ≡ area.old) }
-    ensures fault { let full = nat_lt limit (length area.old + length (zeros_behind len)) in
+    ensures fault { let full = nat_lt limit (length area.old + length (zeros_behind scale len)) in
         MatchResult result (λ _. full ≡ false) (λ fault. (fault ≡ close_fault.Memory) ⊎ ((full ≡ true) × (fault ≡ close_fault.Full code_setting.Code))) }
 {
-    let zeros: &[u8] = &[0, 0, 0];
-    let behind = &zeros[..(4 - len % 4) % 4];
+    let zeros: &[u8] = &[0, 0, 0, 0, 0, 0, 0];
+    let behind = &zeros[..scale.gap(len)];
     let end = area.len();
     if limit < end || limit - end < behind.len() {
         return Err(CloseFault::Full(Setting::Code));
@@ -369,19 +394,9 @@ fn fill_up(area: &mut FlatArea, len: usize, limit: usize) -> Result<(), CloseFau
     Ok(())
 }
 
-/// The number of what is known later, by the numbers of names; 0 where the list is too short.
-fn number_in(numbers: &[u16], target: Target) -> u16
-    ensures { result ≡ number_in numbers.now target }
-{
-    match target {
-        Target::Name(name) => numbers.get(name).copied().unwrap_or(0),
-        Target::Place(..) | Target::Part(..) | Target::Word(_) | Target::System(_) => 0,
-    }
-}
-
 /// Keeps the first bytes of an area, which has so many.
 #[tactic(auto, using(crate::proofs::CodeLemmas::cut_is))]
-fn cut_back(area: &mut FlatArea, len: usize)
+fn cut_back(area: &mut PagedArea, len: usize)
     requires { len ≤ length area.old }
     ensures { area.new ≡ take len area.old }
 {

@@ -1,12 +1,14 @@
 //! Routines written out, with the bytes that the Z-Machine Standard 1.1 gives for them.
 
 use crate::expecting::expect;
-use inf_area::Target;
+use inf_area::{AddFault, Area, AreaName, Fixup, PagedArea, Refs, Target};
 use inf_assembler::{CloseFault, GrowFault, RoutineKind, Setting};
+use inf_cells::Scale;
 use inf_code::code::{Code, CodeLimits};
 use inf_opcode::{Branch, Destination, Instruction, Label, Opcode, Operand};
-use std::alloc::Global;
+use std::alloc::{AllocError, Global};
 use std::process::Abort;
+use std::test::Fail;
 
 /// What is added to code.
 #[derive(Drop)]
@@ -42,7 +44,7 @@ enum Step {
     GivesUp,
     /// Code begins, or would pass this limit.
     Begins(Option<Setting>),
-    /// The finished routines have so many bytes.
+    /// Behind the first routine the finished ones have so many bytes.
     Len(usize),
     /// With the first routine there are so many bytes, and so many references.
     Counts(usize, usize),
@@ -135,7 +137,7 @@ fn take(rt: &impl Abort, alloc: Global, code: &mut Code, step: &Step, at: (&str,
         Fails(fault) => expect(rt, &at, &code.close(RoutineKind::Plain), &Err(*fault)),
         GivesUp => code.give_up(),
         Begins(full) => expect(rt, &at, &code.begin(), full),
-        Len(bytes) => expect(rt, &at, &code.len(), bytes),
+        Len(bytes) => expect(rt, &at, &code.next_place().saturating_sub(8), bytes),
         Counts(bytes, references) => {
             let counts = (code.count(), code.references());
             expect(rt, &at, &counts, &(*bytes, *references));
@@ -150,13 +152,13 @@ fn take_all(rt: &impl Abort, alloc: Global, code: &mut Code, case: &str, steps: 
     }
 }
 
-/// What a case shows, its steps, the numbers that are known at the end, and the bytes of the finished routines.
-const WRITTEN: [(&str, &[Step], &[u16], &[u8]); 6] = [
+/// What a case shows, its steps, the places of numbers that are known later with the numbers of their names, and the bytes behind the first routine.
+const WRITTEN: [(&str, &[Step], &[(usize, usize)], &[u8]); 6] = [
     (
-        "a call takes its number",
+        "a call waits for its number",
         &[Counts(0, 4), Adds(Whole(1)), Len(8), Counts(16, 6)],
-        &[5, 0x00F4],
-        &[0x01, 0xDA, 0x2F, 0x00, 0xF4, 0x01, 0xB0, 0x00],
+        &[(11, 1)],
+        &[0x01, 0xDA, 0x2F, 0x00, 0x00, 0x01, 0xB0, 0x00],
     ),
     (
         "a routine with no items is padded",
@@ -165,12 +167,11 @@ const WRITTEN: [(&str, &[Step], &[u16], &[u8]); 6] = [
         &[0x00, 0xB0, 0x00, 0x00],
     ),
     (
-        // The list has no number 2.
-        "each call takes its own number",
+        "each call waits for its own number",
         &[Adds(Whole(1)), Adds(Whole(0)), Adds(Whole(2)), Len(24)],
-        &[0x1234, 0xABCD],
+        &[(11, 1), (19, 0), (27, 2)],
         &[
-            0x01, 0xDA, 0x2F, 0xAB, 0xCD, 0x01, 0xB0, 0x00, 0x01, 0xDA, 0x2F, 0x12, 0x34, 0x01,
+            0x01, 0xDA, 0x2F, 0x00, 0x00, 0x01, 0xB0, 0x00, 0x01, 0xDA, 0x2F, 0x00, 0x00, 0x01,
             0xB0, 0x00, 0x01, 0xDA, 0x2F, 0x00, 0x00, 0x01, 0xB0, 0x00,
         ],
     ),
@@ -211,8 +212,8 @@ const WRITTEN: [(&str, &[Step], &[u16], &[u8]); 6] = [
             Counts(8, 5),
             Adds(Whole(0)),
         ],
-        &[0x1234],
-        &[0x01, 0xDA, 0x2F, 0x12, 0x34, 0x01, 0xB0, 0x00],
+        &[(11, 0)],
+        &[0x01, 0xDA, 0x2F, 0x00, 0x00, 0x01, 0xB0, 0x00],
     ),
     (
         "a routine that is given up leaves nothing",
@@ -235,20 +236,73 @@ const WRITTEN: [(&str, &[Step], &[u16], &[u8]); 6] = [
             // What is open at the end is no part of the code.
             Adds(Open(4)),
         ],
-        &[0x1234, 0xABCD],
+        &[(11, 0)],
         &[
-            0x01, 0xDA, 0x2F, 0x12, 0x34, 0x01, 0xB0, 0x00, 0x00, 0xBA, 0x00, 0x00,
+            0x01, 0xDA, 0x2F, 0x00, 0x00, 0x01, 0xB0, 0x00, 0x00, 0xBA, 0x00, 0x00,
         ],
     ),
 ];
 
-#[test]
-fn routines_are_written_out(rt: HostRuntime) {
-    for (case, steps, numbers, bytes) in WRITTEN {
-        let mut code = Code::new(rt.alloc(), ROOMY);
-        take_all(&rt, rt.alloc(), &mut code, case, steps);
-        expect(&rt, &case, &code.fill(numbers).as_slice(), &bytes);
+/// The bytes of an area.
+fn bytes_of(alloc: Global, area: &PagedArea) -> Result<Vec<u8>, AllocError> {
+    let mut bytes = Vec::new(alloc);
+    for place in 0..area.len() {
+        bytes.push(area.byte(place))?;
     }
+    Ok(bytes)
+}
+
+/// The area of some code and its fixups, where its first routine calls the place 8.
+fn handed_over(alloc: Global, code: Code) -> Result<(Vec<u8>, Refs), AddFault> {
+    let mut refs = Refs::new(alloc, 100);
+    let area = code.into_area(Target::Place(AreaName::Code, 8), &mut refs)?;
+    Ok((bytes_of(alloc, &area)?, refs))
+}
+
+/// A fixup of code.
+fn fixup(place: usize, target: Target) -> Fixup {
+    Fixup {
+        area: AreaName::Code,
+        place,
+        target,
+    }
+}
+
+/// Code of one case that is handed over.
+fn expect_written(
+    rt: &impl Abort,
+    case: &str,
+    (bytes, refs): &(Vec<u8>, Refs),
+    fixups: &[(usize, usize)],
+    behind: &[u8],
+) {
+    expect(
+        rt,
+        &case,
+        &bytes.get(..8),
+        &Some(&[0x00, 0x8F, 0, 0, 0xBA, 0, 0, 0][..]),
+    );
+    expect(rt, &case, &bytes.get(8..), &Some(behind));
+    expect(rt, &case, &refs.len(), &(fixups.len() + 1));
+    let called = fixup(2, Target::Place(AreaName::Code, 8));
+    expect(rt, &case, &refs.as_slice().first().copied(), &Some(called));
+    for (found, (place, name)) in refs.as_slice().iter().skip(1).zip(fixups) {
+        expect(rt, &case, found, &fixup(*place, routine(*name)));
+    }
+}
+
+#[test]
+fn routines_are_written_out(rt: HostRuntime) -> Result<(), Fail> {
+    let alloc = rt.alloc();
+    for (case, steps, fixups, bytes) in WRITTEN {
+        let mut code = Code::new(alloc, ROOMY, Scale::Four)?;
+        take_all(&rt, alloc, &mut code, case, steps);
+        let Ok(written) = handed_over(alloc, code) else {
+            return Err(Fail::new(alloc, "no memory")?);
+        };
+        expect_written(&rt, case, &written, fixups, bytes);
+    }
+    Ok(())
 }
 
 /// What a case shows, the most bytes and references, and the steps.
@@ -396,14 +450,15 @@ const LIMITED: [(&str, usize, usize, &[Step]); 13] = [
 ];
 
 #[test]
-fn each_limit_is_reached_and_not_passed(rt: HostRuntime) {
+fn each_limit_is_reached_and_not_passed(rt: HostRuntime) -> Result<(), Fail> {
     for (case, bytes, refs, steps) in LIMITED {
         let limits = CodeLimits {
             labels: 3,
             code: bytes,
             refs,
         };
-        let mut code = Code::new(rt.alloc(), limits);
+        let mut code = Code::new(rt.alloc(), limits, Scale::Four)?;
         take_all(&rt, rt.alloc(), &mut code, case, steps);
     }
+    Ok(())
 }

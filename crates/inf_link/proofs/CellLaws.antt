@@ -11,13 +11,15 @@ use Rattle.inf_area.specs.Words.{with_word, word}
 use Rattle.inf_cells.specs.declared.cells.Cell.{Cell}
 use Rattle.inf_cells.specs.declared.cells.Cell.TheVariants as cell
 use Rattle.inf_cells.specs.Cells.{bytes_of, fixups_of, size_of}
+use Rattle.inf_cells.proofs.Joining.{length-bytes_of}
 use Rattle.inf_link.specs.declared.areas.Areas.{Areas}
 use Rattle.inf_link.specs.Areas.{area_of, by_name, lengths, order, rank}
 use Rattle.inf_link.specs.Filling.{filled, with_number}
-use Rattle.inf_link.specs.FillingLaws.{AreApart, CellsComeOutAsNumbers, cells_contents, cells_fixups, cells_sizes, numbered}
+use Rattle.inf_link.specs.declared.header.HeaderFields.{HeaderFields}
+use Rattle.inf_link.specs.FillingLaws.{AreApart, CellsComeOutAsNumbers, cells_contents, cells_fixups, cells_sizes, cells_story, numbered}
 use Rattle.inf_link.specs.MemoryMaps.{map_of}
-use Rattle.inf_link.specs.Stories.{filled_areas, story_of}
-use Rattle.inf_link.specs.Targets.{number_of}
+use Rattle.inf_link.specs.Stories.{filled_areas, story, story_of}
+use Rattle.inf_link.specs.Targets.{Lookup, number_of}
 use Rattle.inf_link.proofs.Apart.{Apart, IsIn, all_apart, area_of-step, filled-any_order, in_same, in_same_back, rank-same, step}
 use Rattle.inf_link.proofs.Names.{area_of-by_name, by_name-same}
 
@@ -196,15 +198,29 @@ filled-cells number cells =
     ∙ ap (filled_area number (cells_fixups cells) area) (area_of-by_name (λ n. bytes_of (area_of n cells)) area)
     ∙ filled_area-areas number cells area 0 order order_rises (has_each area))
 
-length-bytes_of : (cells : List Cell) → length (bytes_of cells) ≡ size_of cells
-length-bytes_of [] = refl
-length-bytes_of ((cell.Byte byte) ∷ cells) = omega (arith, length-bytes_of cells)
-length-bytes_of ((cell.Later target) ∷ cells) = omega (arith, length-bytes_of cells)
-
-sizes-cells : (cells : Areas (List Cell)) → lengths (cells_contents cells) ≡ cells_sizes cells
+pub sizes-cells : (cells : Areas (List Cell)) → lengths (cells_contents cells) ≡ cells_sizes cells
 sizes-cells cells =
     by_name-same (λ area. length (area_of area (cells_contents cells))) (λ area. size_of (area_of area cells))
     (λ area. ap length (area_of-by_name (λ n. bytes_of (area_of n cells)) area) ∙ length-bytes_of (area_of area cells))
+
+length-numbered : (number : Target → ℕ) (cells : List Cell) → length (numbered number cells) ≡ size_of cells
+length-numbered number [] = refl
+length-numbered number ((cell.Byte byte) ∷ cells) = omega (arith, length-numbered number cells)
+length-numbered number ((cell.Later target) ∷ cells) = omega (arith, length-numbered number cells)
+
+-- what is known later takes as many bytes as was kept for it
+pub sizes-numbered : (number : Target → ℕ) (cells : Areas (List Cell)) → lengths (by_name (λ name. numbered number (area_of name cells))) ≡ cells_sizes cells
+sizes-numbered number cells =
+    by_name-same (λ area. length (area_of area (by_name (λ name. numbered number (area_of name cells))))) (λ area. size_of (area_of area cells))
+    (λ area. ap length (area_of-by_name (λ name. numbered number (area_of name cells)) area) ∙ length-numbered number (area_of area cells))
+
+-- with their fixups in the order of the cells
+pub cells_in_order : (cells : Areas (List Cell)) (targets : Lookup) (fields : HeaderFields) → story (cells_contents cells) (cells_fixups cells) targets fields ≡ cells_story cells targets fields
+unfolding filled_areas
+cells_in_order cells targets fields =
+    let numbers = λ (sizes : Areas ℕ). number_of targets fields.scale (map_of sizes fields.scale).bases in
+    ap (λ areas. story_of areas fields)
+    (filled-cells (numbers (lengths (cells_contents cells))) cells ∙ ap (λ sizes. by_name (λ area. numbered (numbers sizes) (area_of area cells))) (sizes-cells cells))
 
 pub cells_come_out_as_numbers : CellsComeOutAsNumbers
 unfolding filled_areas

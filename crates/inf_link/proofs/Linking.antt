@@ -5,18 +5,17 @@ use Rattle.inf_link.specs.declared.areas.Areas.{Areas}
 use Rattle.inf_link.specs.declared.header.HeaderFields.{HeaderFields}
 use Rattle.inf_link.specs.declared.link.Sizes.{Sizes}
 use Rattle.inf_link.specs.declared.memory_map.MemoryMap.{MemoryMap}
-use Rattle.inf_link.specs.declared.targets.Targets.{Targets}
 use Rattle.inf_link.specs.Areas.{lengths}
 use Rattle.inf_link.specs.Bodies.{body}
 use Rattle.inf_link.specs.Filling.{filled}
 use Rattle.inf_link.specs.Header.{header}
 use Rattle.inf_link.specs.MemoryMaps.{map_of}
 use Rattle.inf_link.specs.Stories.{filled_areas, sizes, story, story_of}
-use Rattle.inf_link.specs.Targets.{number_of}
+use Rattle.inf_link.specs.Targets.{Lookup, number_of}
 use Rattle.inf_link.proofs.Fillings.{lengths-filled}
 
 -- areas, filled, where they lie as this map tells
-pub filled-map : (contents areas : Areas (List ℕ)) (fixups : List Fixup) (targets : Targets) (fields : HeaderFields) (sizes : Areas ℕ) (map : MemoryMap)
+pub filled-map : (contents areas : Areas (List ℕ)) (fixups : List Fixup) (targets : Lookup) (fields : HeaderFields) (sizes : Areas ℕ) (map : MemoryMap)
     → sizes ≡ lengths contents → map ≡ map_of sizes fields.scale → areas ≡ filled (number_of targets fields.scale map.bases) fixups contents
     → areas ≡ filled_areas contents fixups targets fields
 unfolding filled_areas
@@ -25,12 +24,12 @@ filled-map contents areas fixups targets fields sizes map are_sizes is_map are_f
     ∙ ap (λ m. filled (number_of targets fields.scale m.bases) fixups contents) is_map
     ∙ ap (λ s. filled (number_of targets fields.scale (map_of s fields.scale).bases) fixups contents) are_sizes
 
-pub lengths-filled_areas : (contents : Areas (List ℕ)) (fixups : List Fixup) (targets : Targets) (fields : HeaderFields) → lengths (filled_areas contents fixups targets fields) ≡ lengths contents
+pub lengths-filled_areas : (contents : Areas (List ℕ)) (fixups : List Fixup) (targets : Lookup) (fields : HeaderFields) → lengths (filled_areas contents fixups targets fields) ≡ lengths contents
 unfolding filled_areas
 lengths-filled_areas contents fixups targets fields = lengths-filled (number_of targets fields.scale (map_of (lengths contents) fields.scale).bases) fixups contents
 
 -- a header and the bytes behind it
-pub story-parts : (contents areas : Areas (List ℕ)) (fixups : List Fixup) (targets : Targets) (fields : HeaderFields) (sizes : Areas ℕ) (map : MemoryMap) (behind : List ℕ)
+pub story-parts : (contents areas : Areas (List ℕ)) (fixups : List Fixup) (targets : Lookup) (fields : HeaderFields) (sizes : Areas ℕ) (map : MemoryMap) (behind : List ℕ)
     → sizes ≡ lengths contents → map ≡ map_of sizes fields.scale → areas ≡ filled_areas contents fixups targets fields → behind ≡ body fields.scale areas
     → header fields map.bases behind ++ behind ≡ story contents fixups targets fields
 unfolding story_of
@@ -43,7 +42,7 @@ story-parts contents areas fixups targets fields sizes map behind are_sizes is_m
     ∙ ap (λ bytes. header fields (map_of (lengths done) fields.scale).bases bytes ++ bytes) whole
 
 -- how many bytes the parts have
-pub sizes-parts : (contents areas : Areas (List ℕ)) (fixups : List Fixup) (targets : Targets) (fields : HeaderFields) (measured : Areas ℕ) (map : MemoryMap) (bytes : List ℕ) (code strings story : ℕ)
+pub sizes-parts : (contents areas : Areas (List ℕ)) (fixups : List Fixup) (targets : Lookup) (fields : HeaderFields) (measured : Areas ℕ) (map : MemoryMap) (bytes : List ℕ) (code strings story : ℕ)
     → measured ≡ lengths contents → map ≡ map_of measured fields.scale → areas ≡ filled_areas contents fixups targets fields
     → code ≡ length areas.code → strings ≡ length areas.strings → story ≡ length bytes
     → record { code = code; strings = strings; readable = map.bases.code; story = story } ≡ sizes contents fields bytes

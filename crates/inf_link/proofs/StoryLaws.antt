@@ -6,13 +6,13 @@ use Rattle.inf_area.specs.declared.targets.AreaName.TheVariants as name
 use Rattle.inf_area.specs.Words.{word}
 use Rattle.inf_link.specs.declared.areas.Areas.{Areas}
 use Rattle.inf_link.specs.declared.header.HeaderFields.{HeaderFields}
-use Rattle.inf_link.specs.declared.header.Scale.{Scale}
-use Rattle.inf_link.specs.declared.header.Scale.TheVariants as scale
+use Rattle.inf_cells.specs.declared.scale.Scale.{Scale}
+use Rattle.inf_cells.specs.declared.scale.Scale.TheVariants as scale
 use Rattle.inf_link.specs.Areas.{area_of, is_packed, lengths, order, rank}
 use Rattle.inf_link.specs.Bodies.{body, joined, padded, up_to}
 use Rattle.inf_link.specs.Header.{header, header_back, header_front, header_size, number_bytes}
 use Rattle.inf_link.specs.MemoryMaps.{base_of, begin, end_of, map_of}
-use Rattle.inf_link.specs.Scales.{aligned, gap, scale_number}
+use Rattle.inf_cells.specs.Scales.{aligned, gap, scale_number}
 use Rattle.inf_link.specs.Stories.{story_of}
 use Rattle.inf_link.specs.StoryLaws.{AreasStandAtTheirBases, HasAt, StoriesTellThemselves, TellsItself}
 use Rattle.inf_link.proofs.Names.{area_of-by_name}

@@ -2,9 +2,9 @@
 use Rattle.std.specs.Prelude.{ℕ, List, [], ◌∷◌, ◌++◌, length, replicate, if◌then◌else◌}
 use Rattle.inf_area.specs.declared.targets.AreaName.{AreaName}
 use Rattle.inf_link.specs.declared.areas.Areas.{Areas}
-use Rattle.inf_link.specs.declared.header.Scale.{Scale}
+use Rattle.inf_cells.specs.declared.scale.Scale.{Scale}
 use Rattle.inf_link.specs.Areas.{area_of, is_packed, order}
-use Rattle.inf_link.specs.Scales.{gap}
+use Rattle.inf_cells.specs.Scales.{gap}
 
 -- Bytes with zeros behind them up to the next place that has a packed address. They stand behind a header of 64 bytes, which is a
 -- multiple of 4 and of 8.

@@ -9,11 +9,10 @@ use Rattle.inf_cells.specs.declared.cells.Cell.TheVariants as cell
 use Rattle.inf_cells.specs.Cells.{bytes_of, fixups_of, size_of}
 use Rattle.inf_link.specs.declared.areas.Areas.{Areas}
 use Rattle.inf_link.specs.declared.header.HeaderFields.{HeaderFields}
-use Rattle.inf_link.specs.declared.targets.Targets.{Targets}
 use Rattle.inf_link.specs.Areas.{area_of, by_name, order}
 use Rattle.inf_link.specs.MemoryMaps.{map_of}
 use Rattle.inf_link.specs.Stories.{story, story_of}
-use Rattle.inf_link.specs.Targets.{number_of}
+use Rattle.inf_link.specs.Targets.{Lookup, number_of}
 
 -- that two fixups do not overlap
 abbrev pub AreApart : Fixup → Fixup → Type 0
@@ -25,7 +24,7 @@ HaveSameFixups fixups others = (fixup : Fixup) → Contains fixups fixup ↔ Con
 
 -- fixups of which no two overlap give the same story in each order
 abbrev pub FixupsAreFilledInAnyOrder : Type 0
-FixupsAreFilledInAnyOrder = (contents : Areas (List ℕ)) (fixups others : List Fixup) (targets : Targets) (fields : HeaderFields)
+FixupsAreFilledInAnyOrder = (contents : Areas (List ℕ)) (fixups others : List Fixup) (targets : Lookup) (fields : HeaderFields)
     → AllPairs AreApart fixups → AllPairs AreApart others → HaveSameFixups fixups others
     → story contents others targets fields ≡ story contents fixups targets fields
 
@@ -46,13 +45,13 @@ numbered number (cell.Byte byte ∷ cells) = byte ∷ numbered number cells
 numbered number (cell.Later target ∷ cells) = word (number target) ++ numbered number cells
 
 -- the story of areas of cells: by their sizes it is known where each begins, by that the number of each cell, and by that the bytes
-abbrev pub cells_story : Areas (List Cell) → Targets → HeaderFields → List ℕ
+abbrev pub cells_story : Areas (List Cell) → Lookup → HeaderFields → List ℕ
 cells_story cells targets fields =
     let number = number_of targets fields.scale (map_of (cells_sizes cells) fields.scale).bases in
     story_of (by_name (λ name. numbered number (area_of name cells))) fields
 
 -- areas that were written as cells give the story of the cells, in whatever order their fixups are filled
 abbrev pub CellsComeOutAsNumbers : Type 0
-CellsComeOutAsNumbers = (cells : Areas (List Cell)) (fixups : List Fixup) (targets : Targets) (fields : HeaderFields)
+CellsComeOutAsNumbers = (cells : Areas (List Cell)) (fixups : List Fixup) (targets : Lookup) (fields : HeaderFields)
     → AllPairs AreApart fixups → HaveSameFixups (cells_fixups cells) fixups
     → story (cells_contents cells) fixups targets fields ≡ cells_story cells targets fields

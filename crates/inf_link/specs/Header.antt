@@ -4,8 +4,8 @@ use Rattle.std.specs.List.{flat_map}
 use Rattle.inf_area.specs.Words.{word}
 use Rattle.inf_link.specs.declared.areas.Areas.{Areas}
 use Rattle.inf_link.specs.declared.header.HeaderFields.{HeaderFields}
-use Rattle.inf_link.specs.declared.header.Scale.{Scale}
-use Rattle.inf_link.specs.Scales.{scale_number, version}
+use Rattle.inf_cells.specs.declared.scale.Scale.{Scale}
+use Rattle.inf_cells.specs.Scales.{scale_number, version}
 
 -- the header's size, where the areas begin
 abbrev pub header_size : ℕ

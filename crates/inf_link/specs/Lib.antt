@@ -1,5 +1,4 @@
 pub mod Areas
-pub mod Scales
 pub mod Header
 pub mod MemoryMaps
 pub mod Targets

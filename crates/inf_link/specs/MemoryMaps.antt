@@ -2,13 +2,13 @@
 use Rattle.std.specs.Prelude.{ℕ, ◌+◌, List, [], ◌∷◌, take, if◌then◌else◌, nat_lt, Option, Some, None}
 use Rattle.inf_area.specs.declared.targets.AreaName.{AreaName}
 use Rattle.inf_link.specs.declared.areas.Areas.{Areas}
-use Rattle.inf_link.specs.declared.header.Scale.{Scale}
+use Rattle.inf_cells.specs.declared.scale.Scale.{Scale}
 use Rattle.inf_link.specs.declared.link.LinkFault.{LinkFault}
 use Rattle.inf_link.specs.declared.link.LinkFault.TheVariants as link_fault
 use Rattle.inf_link.specs.declared.memory_map.MemoryMap.{MemoryMap}
 use Rattle.inf_link.specs.Areas.{area_of, by_name, is_packed, order, rank}
 use Rattle.inf_link.specs.Header.{header_size}
-use Rattle.inf_link.specs.Scales.{aligned, most_bytes}
+use Rattle.inf_cells.specs.Scales.{aligned, most_bytes}
 
 -- where an area begins behind so many bytes
 abbrev pub begin : Scale → AreaName → ℕ → ℕ

@@ -6,13 +6,12 @@ use Rattle.inf_link.specs.declared.header.HeaderFields.{HeaderFields}
 use Rattle.inf_link.specs.declared.link.LinkFault.{LinkFault}
 use Rattle.inf_link.specs.declared.link.LinkFault.TheVariants as link_fault
 use Rattle.inf_link.specs.declared.link.Sizes.{Sizes}
-use Rattle.inf_link.specs.declared.targets.Targets.{Targets}
 use Rattle.inf_link.specs.Areas.{lengths}
 use Rattle.inf_link.specs.Bodies.{body}
 use Rattle.inf_link.specs.Filling.{filled}
 use Rattle.inf_link.specs.Header.{header}
 use Rattle.inf_link.specs.MemoryMaps.{map_of}
-use Rattle.inf_link.specs.Targets.{number_of}
+use Rattle.inf_link.specs.Targets.{Lookup, number_of}
 
 -- a story's bytes, and how many of them are what
 pub record Linked : Type 0 where
@@ -20,7 +19,7 @@ pub record Linked : Type 0 where
   pub sizes : Sizes
 
 -- areas with zeros at their fixups, filled with the numbers of these
-unfoldable pub filled_areas : Areas (List ℕ) → List Fixup → Targets → HeaderFields → Areas (List ℕ)
+unfoldable pub filled_areas : Areas (List ℕ) → List Fixup → Lookup → HeaderFields → Areas (List ℕ)
 filled_areas contents fixups targets fields =
     filled (number_of targets fields.scale (map_of (lengths contents) fields.scale).bases) fixups contents
 
@@ -31,7 +30,7 @@ story_of contents fields =
     header fields (map_of (lengths contents) fields.scale).bases behind ++ behind
 
 -- the story of areas with zeros at their fixups
-abbrev pub story : Areas (List ℕ) → List Fixup → Targets → HeaderFields → List ℕ
+abbrev pub story : Areas (List ℕ) → List Fixup → Lookup → HeaderFields → List ℕ
 story contents fixups targets fields = story_of (filled_areas contents fixups targets fields) fields
 
 -- how many bytes it and its parts have

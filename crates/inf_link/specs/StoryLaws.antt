@@ -3,11 +3,11 @@ use Rattle.std.specs.Prelude.{◌≡◌, ℕ, ◌/◌, ◌%◌, List, length, ta
 use Rattle.inf_area.specs.declared.targets.AreaName.{AreaName}
 use Rattle.inf_link.specs.declared.areas.Areas.{Areas}
 use Rattle.inf_link.specs.declared.header.HeaderFields.{HeaderFields}
-use Rattle.inf_link.specs.declared.header.Scale.{Scale}
+use Rattle.inf_cells.specs.declared.scale.Scale.{Scale}
 use Rattle.inf_link.specs.Areas.{area_of, lengths}
 use Rattle.inf_link.specs.Header.{number_bytes}
 use Rattle.inf_link.specs.MemoryMaps.{base_of, map_of}
-use Rattle.inf_link.specs.Scales.{scale_number}
+use Rattle.inf_cells.specs.Scales.{scale_number}
 use Rattle.inf_link.specs.Stories.{story_of}
 
 -- bytes in the midst of others, from a place on

@@ -12,14 +12,34 @@ use Rattle.inf_area.specs.declared.targets.Target.TheVariants as target
 use Rattle.inf_area.specs.declared.targets.Value.{Value}
 use Rattle.inf_area.specs.declared.targets.Value.TheVariants as value
 use Rattle.inf_link.specs.declared.areas.Areas.{Areas}
-use Rattle.inf_link.specs.declared.header.Scale.{Scale}
+use Rattle.inf_cells.specs.declared.scale.Scale.{Scale}
 use Rattle.inf_link.specs.declared.targets.Targets.{Targets}
 use Rattle.inf_link.specs.Areas.{area_of}
-use Rattle.inf_link.specs.Scales.{scale_number}
+use Rattle.inf_cells.specs.Scales.{scale_number}
 
 -- the text of a word: six bytes
 abbrev pub Text : Type 0
 Text = List ℕ
+
+-- What targets are looked up in: what each name of the source stands for, where the parts of areas begin, the texts of the
+-- words, and the number of the last object.
+pub record Lookup : Type 0 where
+  pub names : List Value
+  pub property_tables : List ℕ
+  pub individual_tables : List ℕ
+  pub verbs : List ℕ
+  pub words : List Text
+  pub last_object : ℕ
+
+abbrev pub lookup : Targets → Lookup
+lookup targets = record {
+  names = targets.names.items;
+  property_tables = targets.property_tables.items;
+  individual_tables = targets.individual_tables.items;
+  verbs = targets.verbs.items;
+  words = targets.words.items;
+  last_object = targets.last_object;
+}
 
 abbrev pub is_below : Text → Text → Bool
 is_below a b = is_lt (slice_cmp nat_cmp a b)
@@ -40,13 +60,13 @@ abbrev pub place_number : Scale → Areas ℕ → AreaName → ℕ → ℕ
 place_number scale bases area place = (area_of area bases + place) / divisor scale area
 
 -- where the parts of an area begin, in bytes from its front
-abbrev pub part_of : Targets → AreaName → List ℕ
-part_of targets name.PropertyTables = targets.property_tables.items
-part_of targets name.IndividualTables = targets.individual_tables.items
-part_of targets name.Grammar = targets.verbs.items
+abbrev pub part_of : Lookup → AreaName → List ℕ
+part_of targets name.PropertyTables = targets.property_tables
+part_of targets name.IndividualTables = targets.individual_tables
+part_of targets name.Grammar = targets.verbs
 part_of targets other = []
 
-abbrev pub system_number : Targets → Scale → Areas ℕ → SystemConstant → ℕ
+abbrev pub system_number : Lookup → Scale → Areas ℕ → SystemConstant → ℕ
 system_number targets scale bases constant.GrammarTable = bases.grammar
 system_number targets scale bases constant.ActionsTable = bases.actions
 system_number targets scale bases constant.PreactionsTable = bases.parsing_routines
@@ -64,20 +84,20 @@ place_found scale bases area None = 0
 place_found scale bases area (Some place) = place_number scale bases area place
 
 -- What a target is that is no name. The dictionary's words begin behind 7 bytes and have 9 each (section 13.2).
-abbrev pub direct_number : Targets → Scale → Areas ℕ → Target → ℕ
+abbrev pub direct_number : Lookup → Scale → Areas ℕ → Target → ℕ
 direct_number targets scale bases (target.Name number) = 0
 direct_number targets scale bases (target.Place area place) = place_number scale bases area place
 direct_number targets scale bases (target.Part area part) = place_found scale bases area (slice_get (part_of targets area) part)
-direct_number targets scale bases (target.Word text) = bases.dictionary + 7 + 9 * rank_of text targets.words.items
+direct_number targets scale bases (target.Word text) = bases.dictionary + 7 + 9 * rank_of text targets.words
 direct_number targets scale bases (target.System asked) = system_number targets scale bases asked
 
 -- what stands for a name, if there is such a name
-abbrev pub value_found : Targets → Scale → Areas ℕ → Option Value → ℕ
+abbrev pub value_found : Lookup → Scale → Areas ℕ → Option Value → ℕ
 value_found targets scale bases None = 0
 value_found targets scale bases (Some (value.Known number)) = number
 value_found targets scale bases (Some (value.Later target)) = direct_number targets scale bases target
 
 -- the number of a target, where areas begin at these places
-abbrev pub number_of : Targets → Scale → Areas ℕ → Target → ℕ
-number_of targets scale bases (target.Name number) = value_found targets scale bases (slice_get targets.names.items number) % 65536
+abbrev pub number_of : Lookup → Scale → Areas ℕ → Target → ℕ
+number_of targets scale bases (target.Name number) = value_found targets scale bases (slice_get targets.names number) % 65536
 number_of targets scale bases other = direct_number targets scale bases other % 65536

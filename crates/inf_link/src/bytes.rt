@@ -4,8 +4,8 @@ ghost use Rattle.inf_link.specs.Areas.{contents};
 ghost use Rattle.inf_link.specs.Bodies.{body, joined, padded};
 
 use crate::areas::Areas;
-use crate::header::Scale;
 use inf_area::Area;
+use inf_cells::Scale;
 use std::alloc::{AllocError, Global};
 
 /// Appends the bytes of an area.

@@ -4,13 +4,13 @@ ghost use Rattle.std.specs.Ordering.{nat_cmp};
 ghost use Rattle.std.specs.Cmp.Lexicographic.{slice_cmp};
 ghost use Rattle.std.specs.List.Sorted.{IsSorted};
 ghost use Rattle.inf_link.specs.Areas.{contents};
-ghost use Rattle.inf_link.specs.Targets.{number_of};
+ghost use Rattle.inf_link.specs.Targets.{lookup, number_of};
 ghost use Rattle.inf_link.specs.Filling.{filled, with_filled, with_number};
 
 use crate::areas::Areas;
-use crate::header::Scale;
 use crate::targets::Targets;
 use inf_area::{Area, AreaName, Fixup};
+use inf_cells::Scale;
 
 /// Writes a number over the two bytes at a place of an area, if both lie within.
 fn fill_at<A: Area>(area: &mut A, place: usize, number: u16)
@@ -56,7 +56,7 @@ impl<A: Area> Areas<A> {
         bases: &Areas<usize>,
     )
         requires sorted { IsSorted (slice_cmp nat_cmp) targets.now.words.items }
-        ensures { contents A.bytes self.new ≡ filled (number_of targets.now scale bases.now) fixups.now (contents A.bytes self.old) }
+        ensures { contents A.bytes self.new ≡ filled (number_of (lookup targets.now) scale bases.now) fixups.now (contents A.bytes self.old) }
     {
         for fixup in fixups {
             let number = targets.number(scale, bases, fixup.target);

@@ -1,10 +1,10 @@
 //! The header of a story (Z-Machine Standard 1.1, section 11.1).
 ghost use Rattle.std.specs.Prelude.{◌≡◌, ◌++◌, ◌+◌, ◌<◌, OnOk};
 ghost use Rattle.std.specs.List.{flat_map};
-ghost use Rattle.inf_link.specs.Scales.{most_bytes, scale_number, version};
 ghost use Rattle.inf_link.specs.Header.{checksum, header, header_back, header_front, number_bytes};
 
 use crate::areas::Areas;
+use inf_cells::Scale;
 use std::alloc::AllocError;
 
 /// The number of bytes of a header, behind which the areas stand.
@@ -12,48 +12,6 @@ pub const HEADER_SIZE: usize = 64;
 
 /// The bytes of a header behind the checksum, all of which are 0.
 const HEADER_REST: [u8; 34] = [0; 34];
-
-/// What a packed address is multiplied by (Z-Machine Standard 1.1, section 1.2.3), by which the version of a story is told, too.
-#[derive(Clone, Copy, Debug, PartialEq, Eq)]
-pub enum Scale {
-    /// That of version 5.
-    Four,
-    /// That of version 8.
-    Eight,
-}
-
-impl Scale {
-    /// The number.
-    pub fn number(self) -> usize
-        ensures value { result ≡ scale_number self }
-        ensures positive { 0 < result }
-    {
-        match self {
-            Scale::Four => 4,
-            Scale::Eight => 8,
-        }
-    }
-
-    /// The version of the Z-machine.
-    pub fn version(self) -> u8
-        ensures { result ≡ version self }
-    {
-        match self {
-            Scale::Four => 5,
-            Scale::Eight => 8,
-        }
-    }
-
-    /// The most bytes that a story has (Z-Machine Standard 1.1, section 1.1.4).
-    pub fn most_bytes(self) -> usize
-        ensures { result ≡ most_bytes self }
-    {
-        match self {
-            Scale::Four => 262_144,
-            Scale::Eight => 524_288,
-        }
-    }
-}
 
 /// What a header tells beside the places of areas, the length and the checksum.
 #[derive(Clone, Copy, Debug, PartialEq, Eq)]

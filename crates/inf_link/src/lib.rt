@@ -12,7 +12,8 @@ mod memory_map;
 mod targets;
 
 pub use areas::Areas;
-pub use header::{HeaderFields, Scale};
+pub use header::HeaderFields;
+pub use inf_cells::Scale;
 pub use laws::{
     areas_stand_at_their_bases, cells_come_out_as_numbers, fixups_are_filled_in_any_order,
     stories_tell_themselves,

@@ -3,15 +3,16 @@ ghost use Rattle.std.specs.Prelude.{◌≡◌, ◌⊎◌, None, Some, IfOk, Matc
 ghost use Rattle.inf_link.specs.Areas.{contents, lengths};
 ghost use Rattle.inf_link.specs.Filling.{filled};
 ghost use Rattle.inf_link.specs.MemoryMaps.{too_long};
-ghost use Rattle.inf_link.specs.Targets.{number_of};
+ghost use Rattle.inf_link.specs.Targets.{lookup, number_of};
 ghost use Rattle.inf_link.specs.declared.link.LinkFault.TheVariants.{Memory};
 
 use crate::areas::Areas;
 use crate::bytes::body;
-use crate::header::{HEADER_SIZE, HeaderFields, Scale, append_header};
+use crate::header::{HEADER_SIZE, HeaderFields, append_header};
 use crate::memory_map::MemoryMap;
 use crate::targets::Targets;
 use inf_area::{Area, Refs};
+use inf_cells::Scale;
 use std::alloc::{AllocError, Global};
 use std::marker::Model;
 
@@ -68,6 +69,13 @@ impl Story {
         self.bytes.as_slice()
     }
 
+    /// Its bytes.
+    pub fn into_bytes(self) -> Vec<u8>
+        ensures { result.items ≡ self.bytes }
+    {
+        self.bytes
+    }
+
     /// How many bytes it and its parts have.
     pub fn sizes(&self) -> Sizes
         ensures { result ≡ self.now.sizes }
@@ -89,6 +97,7 @@ pub struct Link<A> {
 
 impl<A: Area + Drop> Link<A> {
     ghost use Rattle.inf_link.specs.Stories.{refusal, sizes, story};
+    ghost use Rattle.inf_link.specs.Targets.{lookup};
 
     /// What a story is made of. It takes no memory.
     pub fn new(
@@ -112,7 +121,7 @@ impl<A: Area + Drop> Link<A> {
     /// The story. Refuses first where code would begin at an address over 65,534, then where the story would be longer than one of
     /// its version may be, then where no memory is left. A fixup that does not lie within its area is left out.
     pub fn link(self) -> Result<Story, LinkFault>
-        ensures bytes { IfOk result (λ s. s.bytes ≡ story (contents A.bytes self.areas) self.refs.list self.targets self.fields) }
+        ensures bytes { IfOk result (λ s. s.bytes ≡ story (contents A.bytes self.areas) self.refs.list (lookup self.targets) self.fields) }
         ensures sizes { IfOk result (λ s. s.sizes ≡ sizes (contents A.bytes self.areas) self.fields s.bytes) }
         ensures fault { let long = too_long (lengths (contents A.bytes self.areas)) self.fields.scale in
             MatchResult result (λ _. long ≡ None) (λ fault. fault ≡ refusal long) }
@@ -148,7 +157,7 @@ fn filled<A: Area>(
     scale: Scale,
     bases: &Areas<usize>,
 ) -> Areas<A>
-    ensures { contents A.bytes result ≡ filled (number_of targets scale bases.now) refs.list (contents A.bytes areas) }
+    ensures { contents A.bytes result ≡ filled (number_of (lookup targets) scale bases.now) refs.list (contents A.bytes areas) }
 {
     let mut areas = areas;
     let mut targets = targets;

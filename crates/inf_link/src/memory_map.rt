@@ -1,11 +1,12 @@
 //! Where the areas of a story begin (Z-Machine Standard 1.1, section 1.1).
 ghost use Rattle.std.specs.Prelude.{◌≡◌, ◌+◌, ◌<◌, ◌≤◌, ◌^◌, None, Some, MatchResult};
-ghost use Rattle.inf_link.specs.Scales.{aligned, most_bytes};
+ghost use Rattle.inf_cells.specs.Scales.{aligned, most_bytes};
 ghost use Rattle.inf_link.specs.MemoryMaps.{map_of, too_long};
 
 use crate::areas::Areas;
-use crate::header::{HEADER_SIZE, Scale};
+use crate::header::HEADER_SIZE;
 use crate::link::LinkFault;
+use inf_cells::Scale;
 
 /// The last address at which code may begin, since what stands before it is read by addresses of two bytes.
 const MOST_READABLE: u128 = 65_534;

@@ -3,11 +3,11 @@ ghost use Rattle.std.specs.Prelude.{◌≡◌, ◌%◌, ◌<◌, ◌≤◌, IfSo
 ghost use Rattle.std.specs.Ordering.{nat_cmp};
 ghost use Rattle.std.specs.Cmp.Lexicographic.{slice_cmp};
 ghost use Rattle.std.specs.List.Sorted.{IsSorted};
-ghost use Rattle.inf_link.specs.Targets.{direct_number, divisor, is_below, number_of, part_of, place_number, rank_of, system_number};
+ghost use Rattle.inf_link.specs.Targets.{direct_number, divisor, is_below, lookup, number_of, part_of, place_number, rank_of, system_number};
 
 use crate::areas::Areas;
-use crate::header::Scale;
 use inf_area::{AreaName, SystemConstant, Target, Value};
+use inf_cells::Scale;
 
 /// Where the words of the dictionary begin in it, in bytes (Z-Machine Standard 1.1, section 13.2).
 const FIRST_WORD: u128 = 7;
@@ -73,7 +73,7 @@ fn place_number(scale: Scale, bases: &Areas<usize>, area: AreaName, place: usize
 impl Targets {
     /// The places of the parts of an area.
     fn parts(&self, area: AreaName) -> &[usize]
-        ensures { result.now ≡ part_of self.now area }
+        ensures { result.now ≡ part_of (lookup self.now) area }
     {
         match area {
             AreaName::PropertyTables => &self.property_tables,
@@ -85,7 +85,7 @@ impl Targets {
 
     /// What the story as a whole is asked for.
     fn system_number(&self, scale: Scale, bases: &Areas<usize>, constant: SystemConstant) -> u128
-        ensures { result ≡ system_number self.now scale bases.now constant }
+        ensures { result ≡ system_number (lookup self.now) scale bases.now constant }
     {
         match constant {
             SystemConstant::GrammarTable => bases.grammar as u128,
@@ -103,7 +103,7 @@ impl Targets {
 
     /// The number of a part of an area.
     fn part_number(&self, scale: Scale, bases: &Areas<usize>, area: AreaName, part: usize) -> u128
-        ensures { result ≡ direct_number self.now scale bases.now (Target.Part area part) }
+        ensures { result ≡ direct_number (lookup self.now) scale bases.now (Target.Part area part) }
     {
         match self.parts(area).get(part) {
             Some(place) => place_number(scale, bases, area, *place),
@@ -114,7 +114,7 @@ impl Targets {
     /// The number of a target that is no name.
     fn direct_number(&self, scale: Scale, bases: &Areas<usize>, target: Target) -> u128
         requires sorted { IsSorted (slice_cmp nat_cmp) self.now.words.items }
-        ensures { result ≡ direct_number self.now scale bases.now target }
+        ensures { result ≡ direct_number (lookup self.now) scale bases.now target }
     {
         match target {
             Target::Name(_) => 0,
@@ -131,7 +131,7 @@ impl Targets {
     /// The number of a target, where areas begin at these places and the words are in rising order.
     pub fn number(&self, scale: Scale, bases: &Areas<usize>, target: Target) -> u16
         requires sorted { IsSorted (slice_cmp nat_cmp) self.now.words.items }
-        ensures { result ≡ number_of self.now scale bases.now target }
+        ensures { result ≡ number_of (lookup self.now) scale bases.now target }
     {
         let number = match target {
             Target::Name(name) => match self.names.get(name) {

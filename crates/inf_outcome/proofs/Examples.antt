@@ -1,14 +1,25 @@
 -- The definitions at worked examples.
-use Rattle.std.proofs.Common.{◌≡◌, ℕ, ◌/◌, ◌%◌, List, [], ◌∷◌, length, refl, sym, ap, ◌∙◌, arith, subst}
+use Rattle.std.proofs.Common.{◌≡◌, ℕ, ◌/◌, List, [], ◌∷◌, length, map, refl, ◌∙◌, subst}
+use Rattle.inf_area.specs.declared.targets.AreaName.TheVariants as area
+use Rattle.inf_area.specs.declared.targets.Target.TheVariants as target
+use Rattle.inf_area.specs.declared.targets.Value.{Value}
+use Rattle.inf_area.specs.declared.targets.Value.TheVariants as value
+use Rattle.inf_cells.specs.declared.cells.Cell.{Cell}
+use Rattle.inf_cells.specs.declared.scale.Scale.TheVariants as scale
 use Rattle.std.specs.Fmt.{digits}
 use Rattle.inf_characters.specs.Characters.{accented, zscii_of, zscii_of_unicode}
 use Rattle.inf_text.specs.Packing.{packed, longest, character_zs, punctuation}
 use Rattle.inf_characters.specs.Reading.{escape_piece, piece_at, spelled, spellings, text_of}
-use Rattle.inf_layout.specs.Addresses.{RoutineAt}
 use Rattle.inf_code.specs.Code.{known}
-use Rattle.inf_layout.specs.Fixed.{repeated, fixed_bytes, body_bytes, story_bytes}
-use Rattle.inf_layout.specs.Story.{body, story}
-use Rattle.inf_layout.specs.StoryLaws.{HasWordAt, TellsItself}
+use Rattle.inf_link.specs.declared.header.HeaderFields.{HeaderFields}
+use Rattle.inf_link.specs.Areas.{lengths}
+use Rattle.inf_link.specs.FillingLaws.{cells_sizes}
+use Rattle.inf_link.specs.Header.{number_bytes}
+use Rattle.inf_link.specs.MemoryMaps.{map_of}
+use Rattle.inf_link.specs.StoryLaws.{HasAt}
+use Rattle.inf_story.specs.Stories.{story, too_long}
+use Rattle.inf_story.specs.Tables as tables
+use Rattle.inf_story.proofs.Told.{story_tells}
 use Rattle.inf_outcome.specs.Examples.{ConditionalsChoose, EmptySource, FilesAreIncluded, HelloIsAStory, NamesAreUndeclared, NoSource, SixteenAreOpen, TextIsMissing}
 use Rattle.inf_grammar.specs.Language as language
 use Rattle.inf_names.specs.SystemNames as system
@@ -19,8 +30,6 @@ use Rattle.inf_statements.specs.Effects as effects
 use Rattle.inf_statements.specs.Statements as statements
 use Rattle.inf_unit.specs.Units as units
 use Rattle.inf_work.specs.Parts as work_parts
-use Rattle.inf_layout.proofs.Fixed.{story_is}
-use Rattle.inf_layout.proofs.StoryLaws.{story_length, bytes_tell_themselves}
 
 pub no_source : NoSource
 unfolding digits
@@ -50,29 +59,28 @@ pub sixteen_are_open : SixteenAreOpen
 unfolding digits text_of piece_at escape_piece spelled spellings zscii_of zscii_of_unicode accented units.order units.next_place output.laid output.instruction output.behind meaning.call_of parts.calling statements.statement_in effects.statement_laid effects.statement_finding work_parts.part_effect language.grammar language.known system.system_names
 sixteen_are_open serial = record { final = _; is_read = record { turns = 120; leads = refl; ends = refl }; is_ending = refl }
 
-abbrev hello_bytes : List ℕ
-hello_bytes = 0x00 ∷ 0xB2 ∷ 0x35 ∷ 0x51 ∷ 0xC6 ∷ 0x85 ∷ 0xB0 ∷ 0x00 ∷ []
+-- the code of the routine: no locals, `print`, `rtrue`, and a zero
+abbrev hello_code : List Cell
+hello_code = known (0x00 ∷ 0xB2 ∷ 0x35 ∷ 0x51 ∷ 0xC6 ∷ 0x85 ∷ 0xB0 ∷ 0x00 ∷ [])
 
-hello_size : length (body_bytes 0 hello_bytes) ≡ 912
-unfolding repeated fixed_bytes system.system_names
+abbrev fields : List ℕ → HeaderFields
+fields serial = record { release = 1; serial = serial; scale = scale.Four }
+
+abbrev hello : List ℕ → List ℕ
+hello serial = story (fields serial) 8 (value.Later (target.Place area.Code 8) ∷ []) hello_code []
+
+hello_size : (map_of (cells_sizes (tables.areas 8 hello_code [])) scale.Four).end ≡ 976
+unfolding packed longest character_zs tables.low_strings tables.abbreviations tables.property_defaults tables.objects tables.property_tables tables.class_numbers tables.globals tables.dictionary
 hello_size = refl
 
-hello_story : (serial : List ℕ) → length serial ≡ 6 → TellsItself (story_bytes serial 0 hello_bytes) × (length (story_bytes serial 0 hello_bytes) ≡ 976)
-hello_story serial six = (
-  bytes_tell_themselves serial 0 hello_bytes six,
-  omega (arith, story_length serial 0 hello_bytes six, hello_size),
-)
-
 pub hello_is_a_story : HelloIsAStory
-unfolding digits text_of piece_at escape_piece spelled spellings zscii_of zscii_of_unicode accented packed longest character_zs punctuation body units.order units.next_place output.laid output.instruction output.behind meaning.call_of parts.calling statements.statement_in effects.statement_laid effects.statement_finding work_parts.part_effect language.grammar language.known system.system_names
+unfolding digits text_of piece_at escape_piece spelled spellings zscii_of zscii_of_unicode accented packed longest character_zs punctuation units.order units.next_place output.laid output.instruction output.behind meaning.call_of parts.calling statements.statement_in effects.statement_laid effects.statement_finding work_parts.part_effect language.grammar language.known system.system_names too_long tables.low_strings tables.abbreviations tables.property_defaults tables.objects tables.property_tables tables.class_numbers tables.globals tables.dictionary
 hello_is_a_story serial six =
-    let whole : story serial 0 (RoutineAt 0 ∷ []) (known hello_bytes) ≡ story_bytes serial 0 hello_bytes = story_is serial 0 (RoutineAt 0 ∷ []) (known hello_bytes) in
-    let says = hello_story serial six in
-    let P : ℕ → Type 0 = λ n. HasWordAt 0x1A (story_bytes serial 0 hello_bytes) ((n / 4) % 65536) in
-    let Q : List ℕ → Type 0 = λ bytes. HasWordAt 0x1A bytes 244 in
+    let says = story_tells (fields serial) 8 (value.Later (target.Place area.Code 8) ∷ []) hello_code [] six in
+    let size : length (hello serial) ≡ 976 = says.as_mapped ∙ hello_size in
     record {
-      story = story serial 0 (RoutineAt 0 ∷ []) (known hello_bytes);
+      story = hello serial;
       is_outcome = record { final = _; is_read = record { turns = 20; leads = refl; ends = refl }; is_ending = refl };
-      size = ap length whole ∙ says.1;
-      length_word = subst Q (sym whole) (subst P says.1 says.0.length_word);
+      size = size;
+      length_word = subst (λ n. HasAt 0x1A (hello serial) (number_bytes (n / 4))) size says.length_word;
     }

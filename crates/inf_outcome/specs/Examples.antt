@@ -2,7 +2,8 @@
 use Rattle.std.specs.Prelude.{◌≡◌, ℕ, List, [], ◌++◌, length, codes, if◌then◌else◌, true, zero, suc, Some, None}
 use Rattle.std.specs.Str.{bytes_eq}
 use Rattle.inf_characters.specs.declared.characters.CharSet.TheVariants as set
-use Rattle.inf_layout.specs.StoryLaws.{HasWordAt}
+use Rattle.inf_link.specs.Header.{number_bytes}
+use Rattle.inf_link.specs.StoryLaws.{HasAt}
 use Rattle.inf_settings.specs.Settings.{defaults}
 use Rattle.inf_token.specs.Files.{Sources}
 use Rattle.inf_session.specs.Choices.{Choices}
@@ -73,7 +74,7 @@ pub record IsHello (serial : List ℕ) : Type 0 where
   pub story : List ℕ
   pub is_outcome : IsOutcome (only (codes "[ Main; print \"hello\"; ];")) plain serial name (record { messages = codes "Errors: 0, warnings: 0\n"; story = Some story; status = status.Success })
   pub size : length story ≡ 976
-  pub length_word : HasWordAt 0x1A story 244
+  pub length_word : HasAt 0x1A story (number_bytes 244)
 
 abbrev pub HelloIsAStory : Type 0
 HelloIsAStory = (serial : List ℕ) → length serial ≡ 6 → IsHello serial

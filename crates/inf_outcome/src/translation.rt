@@ -34,7 +34,7 @@ pub fn translate<F: Files, M: Sink>(
     setup: Setup<'_>,
     files: &mut F,
     name: &str,
-    serial: &[u8],
+    serial: &[u8; 6],
     messages: &mut M,
 ) -> Result<Compiled, Fault>
     requires { 0 < length name.now }
@@ -89,7 +89,7 @@ pub fn translate<F: Files, M: Sink>(
 fn read_out<F: Files, M: Sink>(
     mut session: Session<'_>,
     files: &mut F,
-    serial: &[u8],
+    serial: &[u8; 6],
     messages: &mut M,
 ) -> (OpenFiles, Result<Compiled, Fault>)
     requires is_open { length session.open_files.outer < F.depth files.old }

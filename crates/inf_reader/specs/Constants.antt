@@ -1,20 +1,37 @@
 -- Worked examples of constants, in sources by the name `t.inf`.
-use Rattle.std.specs.Prelude.{◌≡◌, ℕ, List, [], ◌∷◌, codes, map}
+use Rattle.std.specs.Prelude.{◌≡◌, ℕ, ◌+◌, ◌/◌, List, [], ◌∷◌, codes, Option, Some, None}
+use Rattle.std.specs.List.{flat_map}
+use Rattle.inf_area.specs.Words.{word}
+use Rattle.inf_area.specs.declared.targets.Target.TheVariants as target
+use Rattle.inf_cells.specs.declared.cells.Cell.{Cell}
+use Rattle.inf_cells.specs.declared.cells.Cell.TheVariants as cell
+use Rattle.inf_names.specs.Symbols.{Named, meaning_in, standing_at}
+use Rattle.inf_names.specs.declared.meanings.Meaning.{Meaning}
+use Rattle.inf_names.specs.declared.meanings.Meaning.TheVariants as meaning
+use Rattle.inf_scanner.specs.declared.tokens.Place.{Place}
 use Rattle.inf_characters.specs.declared.characters.CharSet.TheVariants as set
 use Rattle.inf_settings.specs.Settings.{defaults}
-use Rattle.inf_layout.specs.Addresses.{number_of}
-use Rattle.inf_code.specs.Code.{code_bytes}
 use Rattle.inf_work.specs.Actions.{Work}
-use Rattle.inf_unit.specs.Names.{values}
 use Rattle.inf_reader.specs.Reading.{compiled}
 
 -- what is compiled of a source
 abbrev pub work_of : List ℕ → Work
 work_of source = (compiled set.Latin1 defaults (codes "t.inf" ∷ []) source).work
 
+-- the number of a name: of a constant its number, of a routine its packed address, where the code begins at 960
+abbrev pub number_of : Option Meaning → ℕ
+number_of (Some (meaning.Number number)) = number
+number_of (Some (meaning.Routine place)) = (960 + place) / 4
+number_of other = 0
+
+abbrev pub cell_bytes : List (Named Place) → Cell → List ℕ
+cell_bytes names (cell.Byte byte) = byte ∷ []
+cell_bytes names (cell.Later (target.Name number)) = word (number_of (meaning_in (standing_at number names)))
+cell_bytes names (cell.Later other) = word 0
+
 -- the bytes of its code, with the numbers of its names, and the lines of its messages
 abbrev pub bytes_of : List ℕ → List ℕ
-bytes_of source = let w = work_of source in code_bytes (map number_of (values w.output.names.names)) w.output.code.finished
+bytes_of source = let w = work_of source in flat_map (cell_bytes w.output.names.names) w.output.code.finished
 
 abbrev pub lines_of : List ℕ → List ℕ
 lines_of source = (work_of source).report.lines

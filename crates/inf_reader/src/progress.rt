@@ -1,5 +1,5 @@
 //! What is read of a source, and what was compiled of it: token by token.
-ghost use Rattle.std.specs.Prelude.{◌≡◌, OnOk};
+ghost use Rattle.std.specs.Prelude.{◌≡◌, IfOk, OnOk};
 ghost use Rattle.inf_report.specs.Meant.{located};
 ghost use Rattle.inf_unit.specs.Tokens.{spelled};
 ghost use Rattle.inf_reader.specs.Handing.{hash};
@@ -38,16 +38,16 @@ impl Progress {
     ghost use Rattle.inf_reader.specs.Standing.{reading, standing};
     ghost use Rattle.inf_work.specs.Works.{work};
 
-    /// Before the first token of sources in a character set. It takes no memory until something is read.
-    pub fn new(alloc: Global, set: CharSet, settings: &Settings) -> Progress
-        ensures { standing result ≡ begun_stand set settings.now }
+    /// Before the first token of sources in a character set.
+    pub fn new(alloc: Global, set: CharSet, settings: &Settings) -> Result<Progress, AllocError>
+        ensures { IfOk result (λ progress. standing progress ≡ begun_stand set settings.now) }
     {
-        Progress {
+        Ok(Progress {
             alloc,
             reader: Reader::new(alloc),
             actions: Vec::new(alloc),
-            work: Work::new(alloc, set, settings),
-        }
+            work: Work::new(alloc, set, settings)?,
+        })
     }
 
     /// Whether there is nothing left to read.

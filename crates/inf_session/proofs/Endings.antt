@@ -2,24 +2,39 @@
 use Rattle.std.specs.Prelude.{not, ◌&&◌, ◌==◌, Result, Ok, Err, IfOk}
 use Rattle.std.proofs.Common.{◌≡◌, ℕ, [], Bool, true, false, cond, List, ◌++◌, append_assoc, Option, Some, None, refl, sym, ap, subst, ◌∙◌}
 use Rattle.std.proofs.lemmas.Bool.{eqb-true}
-use Rattle.inf_layout.specs.Story.{is_too_long}
+use Rattle.inf_area.specs.declared.targets.Value.{Value}
+use Rattle.inf_code.specs.Code.{Routines}
+use Rattle.inf_link.specs.declared.link.LinkFault.{LinkFault}
+use Rattle.inf_link.specs.declared.link.LinkFault.TheVariants as link_fault
+use Rattle.inf_story.specs.Names.{values_of}
+use Rattle.inf_story.specs.Stories.{too_long}
 use Rattle.inf_work.specs.Actions.{Work, begun_at}
 use Rattle.inf_unit.proofs.Cases.{of_both}
 use Rattle.inf_unit.specs.Messages.{FileNames, Reported}
-use Rattle.inf_unit.specs.Names.{main_of, values, with_all_undeclared}
+use Rattle.inf_unit.specs.Names.{main_of, with_all_undeclared}
 use Rattle.inf_report.specs.Reports.{Counts, closing, closing_lines}
 use Rattle.inf_symbol.specs.Sinks.{Takes}
 use Rattle.inf_session.specs.Delivered.{Delivers, EndsClean, IsClean}
 use Rattle.inf_session.specs.declared.compiled.Compiled.{Compiled}
-use Rattle.inf_session.specs.Ending.{Ending, begun, finished, is_clean, laid, refused}
+use Rattle.inf_session.specs.Ending.{Ending, begun, fields_of, finished, is_clean, laid, linked, named, refused}
 use Rattle.inf_session.specs.Session.{first_place}
 use Rattle.inf_session.specs.declared.compiled.Status.TheVariants as status
 
 abbrev HasNone : Ending → Type 0
 HasNone e = e.status ≡ status.Errors → e.story ≡ None
 
+linked_none : (serial : List ℕ) (files : FileNames) (main : ℕ) (names : List Value) (code : Routines) (r : Reported) (long : Option LinkFault) → HasNone (linked serial files main names code r long)
+linked_none serial files main names code r None = λ e. cc
+linked_none serial files main names code r (Some link_fault.ReadableTooLong) = λ _. refl
+linked_none serial files main names code r (Some link_fault.StoryTooLong) = λ _. refl
+linked_none serial files main names code r (Some link_fault.Memory) = λ _. refl
+
+named_none : (serial : List ℕ) (files : FileNames) (main : ℕ) (code : Routines) (r : Reported) (names : Option (List Value)) → HasNone (named serial files main code r names)
+named_none serial files main code r None = λ _. refl
+named_none serial files main code r (Some names) = linked_none serial files main names code r (too_long (fields_of serial code) main code.finished [])
+
 laid_none : (serial : List ℕ) (files : FileNames) (main : ℕ) (w : Work) (r : Reported) → HasNone (laid serial files main w r)
-laid_none serial files main w r = of_both HasNone (is_too_long main (values w.output.names.names) w.output.code.finished) _ _ (λ _ _. refl) (λ _ e. cc)
+laid_none serial files main w r = named_none serial files main w.output.code r (values_of w.output.names.names)
 
 begun_none : (serial : List ℕ) (files : FileNames) (w : Work) (r : Reported) (main : Option ℕ) → HasNone (begun serial files w r main)
 begun_none serial files w r None = λ _. refl
@@ -43,9 +58,18 @@ closing_clean lines true errors warnings e = absurd (cc-false e)
 closing_clean lines false errors warnings e =
     record { before = lines; warnings = warnings; is = ap (λ n. lines ++ closing n warnings) (eqb-true errors 0 e) }
 
+linked_clean : (serial : List ℕ) (files : FileNames) (main : ℕ) (names : List Value) (code : Routines) (r : Reported) → is_clean r ≡ true → (long : Option LinkFault) → CleanIf (linked serial files main names code r long)
+linked_clean serial files main names code r clean None = λ _. closing_clean r.lines r.counts.is_over r.counts.errors r.counts.warnings clean
+linked_clean serial files main names code r clean (Some link_fault.ReadableTooLong) = λ e. cc
+linked_clean serial files main names code r clean (Some link_fault.StoryTooLong) = λ e. cc
+linked_clean serial files main names code r clean (Some link_fault.Memory) = λ e. cc
+
+named_clean : (serial : List ℕ) (files : FileNames) (main : ℕ) (code : Routines) (r : Reported) → is_clean r ≡ true → (names : Option (List Value)) → CleanIf (named serial files main code r names)
+named_clean serial files main code r clean None = λ e. cc
+named_clean serial files main code r clean (Some names) = linked_clean serial files main names code r clean (too_long (fields_of serial code) main code.finished [])
+
 laid_clean : (serial : List ℕ) (files : FileNames) (main : ℕ) (w : Work) (r : Reported) → is_clean r ≡ true → CleanIf (laid serial files main w r)
-laid_clean serial files main w r clean =
-    of_both CleanIf (is_too_long main (values w.output.names.names) w.output.code.finished) _ _ (λ _ e. cc) (λ _ _. closing_clean r.lines r.counts.is_over r.counts.errors r.counts.warnings clean)
+laid_clean serial files main w r clean = named_clean serial files main w.output.code r clean (values_of w.output.names.names)
 
 begun_clean : (serial : List ℕ) (files : FileNames) (w : Work) (r : Reported) (main : Option ℕ) → CleanIf (begun serial files w r main)
 begun_clean serial files w r None = λ e. cc

@@ -33,7 +33,7 @@ pub struct Compiled {
 pub(crate) fn conclude<M: Sink>(
     alloc: Global,
     names: &Stack,
-    serial: &[u8],
+    serial: &[u8; 6],
     work: Work,
     messages: &mut M,
 ) -> Result<Compiled, Fault>

@@ -1,23 +1,25 @@
 //! What comes at the end of a compilation.
-ghost use Rattle.std.specs.Prelude.{◌≡◌, IfOk, IfSome, OnOk, Some, is_none};
-ghost use Rattle.inf_layout.specs.Story.{story, is_too_long, most_bytes};
-ghost use Rattle.inf_report.specs.Messages.{NoMain, StoryTooLong};
+ghost use Rattle.std.specs.Prelude.{◌≡◌, [], IfOk, OnOk, Some};
+ghost use Rattle.inf_report.specs.Meant.{meant};
+ghost use Rattle.inf_story.specs.Stories.{too_long};
 ghost use Rattle.inf_unit.specs.Messages.{with_closing, with_error, with_fatal};
-ghost use Rattle.inf_unit.specs.Names.{main_of, values, with_all_undeclared};
+ghost use Rattle.inf_unit.specs.Names.{main_of, with_all_undeclared};
 ghost use Rattle.inf_work.specs.Actions.{begun_at};
 ghost use Rattle.inf_work.specs.Works.{work as work_of};
-ghost use Rattle.inf_session.specs.Ending.{begun, finished, first_line, is_clean, laid, missing, refused, seen};
+ghost use Rattle.inf_session.specs.Ending.{begun, fields_of, finished, first_line, is_clean, laid, linked, missing, refused, seen};
 ghost use Rattle.inf_session.specs.Session.{first_place};
 
 use crate::compiled::Status;
+use inf_area::{PagedArea, Value};
 use inf_code::code::Code;
-use inf_layout::layout::{MOST_BYTES, story};
 use inf_lexer::{Place, Stack};
+use inf_link::HeaderFields;
 use inf_names::symbols::Symbols;
 use inf_output::Output;
 use inf_report::messages::{Location, Message};
+use inf_story::{LinkFault, Story, story, values_of};
 use inf_unit::messages::{Messages, location};
-use inf_unit::names::{main_of, numbers_of, tell_undeclared};
+use inf_unit::names::{main_of, tell_undeclared};
 use inf_work::work::Work;
 use std::alloc::{AllocError, Global};
 
@@ -30,6 +32,9 @@ pub struct Ending {
     pub status: Status,
 }
 
+/// The release of a story.
+const RELEASE: u16 = 1;
+
 /// Where the messages about a whole source stand.
 pub(crate) const FIRST_LINE: Place = Place { file: 0, line: 1 };
 
@@ -38,7 +43,7 @@ pub(crate) const FIRST_LINE: Place = Place { file: 0, line: 1 };
 pub(crate) fn finish(
     alloc: Global,
     files: &Stack,
-    serial: &[u8],
+    serial: &[u8; 6],
     mut work: Work,
 ) -> Result<Ending, AllocError>
     ensures { IfOk result (λ t. seen t ≡ finished serial.now files.now.names (work_of work)) }
@@ -60,13 +65,13 @@ fn tell_last(files: &Stack, work: &mut Work) -> Result<(), AllocError>
 fn finish_told(
     alloc: Global,
     files: &Stack,
-    serial: &[u8],
+    serial: &[u8; 6],
     work: Work,
 ) -> Result<Ending, AllocError>
     ensures { IfOk result (λ t. seen t ≡ begun serial.now files.now.names (work_of work) work.report (main_of work.output.names)) }
 {
     let Some(main) = main_of(&work.output.names) else {
-        return without_main(files, report_of(work));
+        return failed(files, report_of(work), &Message::NoMain);
     };
     if !is_clean(&work.report) {
         return refused(report_of(work));
@@ -81,13 +86,26 @@ fn is_clean(report: &Messages) -> bool
     !report.is_over() && report.errors() == 0
 }
 
-/// The outcome of a compilation without a routine `Main`.
-fn without_main(files: &Stack, mut report: Messages) -> Result<Ending, AllocError>
+/// The outcome of a compilation with an error about the whole source.
+fn failed(files: &Stack, mut report: Messages, message: &Message<'_>) -> Result<Ending, AllocError>
     ensures { let line = first_line files.now.names in
-        IfOk result (λ t. seen t ≡ refused (with_error line line NoMain report)) }
+        IfOk result (λ t. seen t ≡ refused (with_error line line (meant message.now) report)) }
 {
     let at = location(files, FIRST_LINE);
-    report.error(at, at, &Message::NoMain)?;
+    report.error(at, at, message)?;
+    refused(report)
+}
+
+/// The outcome of a compilation with a fatal error about the whole source.
+fn given_up(
+    files: &Stack,
+    mut report: Messages,
+    message: &Message<'_>,
+) -> Result<Ending, AllocError>
+    ensures { IfOk result (λ t. seen t ≡ refused (with_fatal (first_line files.now.names) (meant message.now) report)) }
+{
+    let at = location(files, FIRST_LINE);
+    report.fatal(at, message)?;
     refused(report)
 }
 
@@ -107,61 +125,62 @@ fn parts_of(work: Work) -> (Symbols<Place>, Code, Messages)
     (names, code, report)
 }
 
-/// Ends the compilation of a source without an error, in which the routine at a place is called
-/// first. A story that would be too long is a fatal error.
+/// Ends the compilation of a source without an error, in which the routine at a place is called first. A name that is no number in a story is an
+/// error.
 fn laid(
     alloc: Global,
     files: &Stack,
-    serial: &[u8],
+    serial: &[u8; 6],
     main: usize,
     work: Work,
 ) -> Result<Ending, AllocError>
     ensures { IfOk result (λ t. seen t ≡ laid serial.now files.now.names main (work_of work) work.report) }
 {
     let (names, code, report) = parts_of(work);
-    match story_of(alloc, serial, main, &names, code)? {
-        Some(story) => compiled(story, report),
-        None => too_long(files, report),
+    match values_of(alloc, &names)? {
+        Some(names) => linked(alloc, files, *serial, main, names, code, report),
+        None => failed(files, report, &Message::NotConstant),
     }
 }
 
-/// The outcome of a compilation whose story would be too long.
-fn too_long(files: &Stack, mut report: Messages) -> Result<Ending, AllocError>
-    ensures { IfOk result (λ t. seen t ≡ refused (with_fatal (first_line files.now.names) (StoryTooLong most_bytes) report)) }
+/// Ends it with its story. One that would be too long is a fatal error.
+fn linked(
+    alloc: Global,
+    files: &Stack,
+    serial: [u8; 6],
+    main: usize,
+    names: Vec<Value>,
+    code: Code,
+    report: Messages,
+) -> Result<Ending, AllocError>
+    ensures { IfOk result (λ t. seen t ≡ linked serial files.now.names main names.items code report (too_long (fields_of serial code) main code.finished [])) }
 {
-    let at = location(files, FIRST_LINE);
-    report.fatal(at, &Message::StoryTooLong(MOST_BYTES as u32))?;
-    refused(report)
+    let scale = code.scale();
+    let fields = HeaderFields {
+        release: RELEASE,
+        serial,
+        scale,
+    };
+    match story(alloc, fields, main, names, code, PagedArea::new(alloc)) {
+        Ok(story) => compiled(story, report),
+        Err(LinkFault::ReadableTooLong) => given_up(files, report, &Message::ReadableTooLong),
+        Err(LinkFault::StoryTooLong) => {
+            let most = scale.most_bytes() as u32;
+            given_up(files, report, &Message::StoryTooLong(most))
+        }
+        Err(LinkFault::Memory) => Err(AllocError),
+    }
 }
-
 /// The outcome of a compilation without an error.
-fn compiled(story: Vec<u8>, mut report: Messages) -> Result<Ending, AllocError>
-    ensures { IfOk result (λ t. seen t ≡ record { messages = (with_closing report).lines; story = Some story.items; status = Status.Success }) }
+fn compiled(story: Story, mut report: Messages) -> Result<Ending, AllocError>
+    ensures { IfOk result (λ t. seen t ≡ record { messages = (with_closing report).lines; story = Some story.bytes; status = Status.Success }) }
 {
     report.close()?;
     Ok(Ending {
         messages: report.into_lines(),
-        story: Some(story),
+        story: Some(story.into_bytes()),
         status: Status::Success,
     })
-}
-
-/// The story of some code, in which the routine at a place is called first, and the names stand for their
-/// numbers; or none where it would be too long.
-fn story_of(
-    alloc: Global,
-    serial: &[u8],
-    main: usize,
-    names: &Symbols<Place>,
-    code: Code,
-) -> Result<Option<Vec<u8>>, AllocError>
-    ensures long { IfOk result (λ o. is_none o ≡ is_too_long main (values names.now.names) code.finished) }
-    ensures bytes { IfOk result (λ o. IfSome o (λ v.
-        v.items ≡ story serial.now main (values names.now.names) code.finished)) }
-{
-    let numbers = numbers_of(alloc, names)?;
-    let routines = code.fill(numbers.as_slice());
-    story(alloc, serial, main, routines.as_slice())
 }
 
 /// The outcome of a compilation with an error or a fatal one.

@@ -227,7 +227,7 @@ impl<'a> Session<'a> {
     /// The faults are those of `translate`, but for that of reading and that of the story.
     pub fn finish<M: Sink>(
         self,
-        serial: &[u8],
+        serial: &[u8; 6],
         messages: &mut M,
     ) -> (OpenFiles, Result<Compiled, Fault>)
         ensures files { result.0 ≡ self.entry.open_files }

@@ -36,7 +36,7 @@ impl Setup<'_> {
     {
         let mut report = Messages::new(alloc, self.has_warnings);
         report.full(files, FIRST_LINE, self.tables_full())?;
-        let mut progress = Progress::new(alloc, self.set, self.settings);
+        let mut progress = Progress::new(alloc, self.set, self.settings)?;
         progress.work.report = report;
         Ok(progress)
     }

@@ -1,10 +1,15 @@
 -- The definitions at examples, by evaluation: the bytes of whole routines.
-use Rattle.std.proofs.Common.{◌≡◌, ℕ, false, List, [], ◌∷◌, None, Some, refl}
+use Rattle.std.proofs.Common.{◌≡◌, ℕ, false, List, [], ◌∷◌, None, Some, get_or, refl}
+use Rattle.std.specs.List.{flat_map}
 use Rattle.inf_area.specs.declared.targets.Target.TheVariants.{Name}
+use Rattle.inf_area.specs.Words.{word}
 use Rattle.inf_opcode.specs.declared.opcodes.Opcode.TheVariants as opcode
 use Rattle.inf_assembler.specs.declared.routines.RoutineKind.TheVariants.{Plain}
 use Rattle.inf_code.specs.declared.code.CodeLimits.{CodeLimits}
-use Rattle.inf_code.specs.Code.{code_bytes, no_routines, with_closed, with_opened}
+use Rattle.inf_cells.specs.declared.cells.Cell.{Cell}
+use Rattle.inf_cells.specs.declared.cells.Cell.TheVariants as cell
+use Rattle.inf_cells.specs.declared.scale.Scale.TheVariants.{Four}
+use Rattle.inf_code.specs.Code.{no_routines, with_closed, with_opened}
 use Rattle.inf_names.specs.Symbols.{no_names}
 use Rattle.inf_names.specs.SystemNames.{system_names}
 use Rattle.inf_expressions.specs.declared.operators.Operand.TheVariants.{Known, Variable, Later}
@@ -27,11 +32,16 @@ limits = record { labels = 1000; code = 262144; refs = 50000 }
 -- a routine of so many locals is open
 abbrev begun : ℕ → Out
 begun locals =
-    record { code = with_opened locals false (no_routines limits); names = no_names 10000 false; first = record { file = 0; line = 1 }; next = 0; past = None; kept = None }
+    record { code = with_opened locals false (no_routines limits Four); names = no_names 10000 false; first = record { file = 0; line = 1 }; next = 0; past = None; kept = None }
 
 -- its bytes, where names stand for these numbers
+abbrev cell_bytes : List ℕ → Cell → List ℕ
+cell_bytes numbers (cell.Byte byte) = byte ∷ []
+cell_bytes numbers (cell.Later (Name name)) = word (get_or numbers name 0)
+cell_bytes numbers (cell.Later other) = word 0
+
 abbrev bytes_with : List ℕ → ℕ → Code → List ℕ
-bytes_with numbers locals code = code_bytes numbers (with_closed Plain (code (begun locals)).code).finished
+bytes_with numbers locals code = flat_map (cell_bytes numbers) (with_closed Plain (code (begun locals)).code).finished
 
 abbrev bytes : ℕ → Code → List ℕ
 bytes locals code = bytes_with [] locals code
@@ -142,7 +152,7 @@ class_test = refl
 
 -- Where code has room for one byte more, and a routine for no label, that of labels is told first, and of the bytes alone theirs.
 abbrev short : Out
-short = record (begun 0) { code = with_opened 0 false (no_routines (record { labels = 0; code = 10; refs = 50 })) }
+short = record (begun 0) { code = with_opened 0 false (no_routines (record { labels = 0; code = 10; refs = 50 }) Four) }
 
 pub bytes_passed : full (new_line (new_line short)) ≡ Some setting.Code
 unfolding laid instruction

@@ -1,8 +1,9 @@
 //! Routines of expressions.
 use crate::expressions::{HERE, trees};
 use crate::words::{add_bytes, number_or, word};
-use inf_area::FlatArea;
+use inf_area::{Area, AreaName, PagedArea, Refs, Target};
 use inf_assembler::RoutineKind;
+use inf_cells::Scale;
 use inf_code::code::{Code, CodeLimits};
 use inf_expressions::{Forest, Root};
 use inf_names::symbols::Symbols;
@@ -183,6 +184,23 @@ fn numbers(alloc: Global, names: &Symbols<Place>) -> Result<Vec<u16>, AllocError
     Ok(numbers)
 }
 
+/// The area of some code, with the numbers of names in their places.
+fn filled(alloc: Global, code: Code, numbers: &[u16]) -> Result<PagedArea, AllocError> {
+    let mut refs = Refs::new(alloc, usize::MAX);
+    let Ok(mut area) = code.into_area(Target::Place(AreaName::Code, 8), &mut refs) else {
+        return Err(AllocError);
+    };
+    for fixup in refs.as_slice() {
+        if let Target::Name(name) = fixup.target {
+            let number = numbers.get(name).copied().unwrap_or(0);
+            if fixup.place.saturating_add(1) < area.len() {
+                area.patch_word(fixup.place, number);
+            }
+        }
+    }
+    Ok(area)
+}
+
 /// Closes the routine, and tells of its bytes and names.
 fn told_of(alloc: Global, out: Output) -> Result<String, AllocError> {
     if let Some(limit) = out.full() {
@@ -193,7 +211,7 @@ fn told_of(alloc: Global, out: Output) -> Result<String, AllocError> {
     if let Err(fault) = code.close(RoutineKind::Plain) {
         return format!(in alloc; "{fault:?}");
     }
-    let area: FlatArea = code.fill(&numbers(alloc, &names)?);
+    let area = filled(alloc, code, &numbers(alloc, &names)?)?;
     let mut told = String::from_str(alloc, "bytes")?;
     add_bytes(alloc, &mut told, &area)?;
     add_names(alloc, &mut told, &names)?;
@@ -210,9 +228,10 @@ pub(crate) fn answer(alloc: Global, way: &str, spelled: &str) -> Result<String, 
     };
     let mut names = Symbols::new(alloc, most_names, false);
     let forest = trees(alloc, &mut names, spelled)?;
+    let code = Code::new(alloc, limits, Scale::Four)?;
     let mut laying = Laying {
         tasks: Tasks::new(alloc),
-        out: Output::new(Code::new(alloc, limits), names, HERE),
+        out: Output::new(code, names, HERE),
     };
     laying.out.open(alloc, 15, false)?;
     laying.lay(alloc, way, &forest)?;

@@ -1,5 +1,5 @@
 //! The words of a line, and bytes as they are told.
-use inf_area::{Area, FlatArea};
+use inf_area::{Area, PagedArea};
 use std::alloc::{AllocError, Global};
 
 /// The word at a place, or an empty one.
@@ -12,13 +12,13 @@ pub(crate) fn number_or(text: &str, place: usize, other: usize) -> usize {
     word(text, place).parse().unwrap_or(other)
 }
 
-/// Adds the bytes of an area.
+/// Adds the bytes of an area of code behind its first routine.
 pub(crate) fn add_bytes(
     alloc: Global,
     told: &mut String,
-    area: &FlatArea,
+    area: &PagedArea,
 ) -> Result<(), AllocError> {
-    for at in 0..area.len() {
+    for at in 8..area.len() {
         told.push_str(format!(in alloc; " {:02X}", area.byte(at))?.as_str())?;
     }
     Ok(())

@@ -1,12 +1,11 @@
 -- The names of a source one by one.
-use Rattle.std.proofs.Common.{◌≡◌, ◌<◌, ◌+◌, ℕ, suc, zero, List, [], ◌∷◌, ◌++◌, drop, take, map, length, refl, sym, ap, ◌∙◌, arith}
+use Rattle.std.proofs.Common.{◌≡◌, ◌<◌, ◌+◌, ℕ, suc, zero, List, [], ◌∷◌, drop, length, refl, sym, ap, ◌∙◌, arith}
 use Rattle.std.specs.Prelude.{Option, Some, None}
 use Rattle.inf_scanner.specs.declared.tokens.Place.{Place}
-use Rattle.inf_layout.specs.Addresses.{number_of}
 use Rattle.inf_names.specs.Symbols.{Named, Standing, IsDeclared, IsUsed, standing_at, use_in}
 use Rattle.inf_report.specs.Messages.{Undeclared}
 use Rattle.inf_unit.specs.Messages.{FileNames, Reported, location, with_error}
-use Rattle.inf_unit.specs.Names.{value_among, value_in, values, with_all_undeclared, with_undeclared}
+use Rattle.inf_unit.specs.Names.{with_all_undeclared, with_undeclared}
 
 -- what is told of the first use of a name, if it was not declared
 abbrev pub told_of : FileNames → Option (List ℕ × Place) → Reported → Reported
@@ -28,15 +27,3 @@ pub told_step : (files : FileNames) (names : List (Named Place)) (number : ℕ) 
 told_step files names number r lt =
     let next : number + 1 ≡ suc number = omega arith in
     told_next files names number r lt ∙ ap (λ n. with_all_undeclared files (drop n names) (told_of files (use_in (standing_at number names)) r)) (sym next)
-
-number_next : (names : List (Named Place)) (place : ℕ) → place < length names
-    → map number_of (values (take (suc place) names)) ≡ map number_of (values (take place names)) ++ number_of (value_among (standing_at place names)) ∷ []
-number_next [] place lt = absurd (omega arith)
-number_next (n ∷ names) zero lt = refl
-number_next (n ∷ names) (suc place) lt = ap (λ numbers. number_of (value_in n.standing) ∷ numbers) (number_next names place (omega arith))
-
-pub number_step : (names : List (Named Place)) (place : ℕ) → place < length names
-    → map number_of (values (take (place + 1) names)) ≡ map number_of (values (take place names)) ++ number_of (value_among (standing_at place names)) ∷ []
-number_step names place lt =
-    let next : place + 1 ≡ suc place = omega arith in
-    ap (λ n. map number_of (values (take n names))) next ∙ number_next names place lt

@@ -1,11 +1,8 @@
-//! The names of a source, and the routines and constants that they are.
-ghost use Rattle.std.specs.Prelude.{◌≡◌, IfOk, OnOk, map};
-ghost use Rattle.inf_layout.specs.Addresses.{number_of, packed_address};
-ghost use Rattle.inf_names.specs.Symbols.{meaning_in, standing_at};
-ghost use Rattle.inf_unit.specs.Names.{main_of, no_symbols, routine_of, value_among, values, with_all_undeclared};
+//! The names of a source, and the routine with which its story begins.
+ghost use Rattle.std.specs.Prelude.{◌≡◌, OnOk};
+ghost use Rattle.inf_unit.specs.Names.{main_of, no_symbols, routine_of, with_all_undeclared};
 
 use crate::messages::{Messages, location};
-use inf_layout::addresses::packed_address;
 use inf_lexer::{Place, Stack};
 use inf_names::meanings::Meaning;
 use inf_names::symbols::{Found, Symbols};
@@ -21,7 +18,7 @@ pub fn no_symbols(alloc: Global, settings: &Settings) -> Symbols<Place>
     Symbols::new(alloc, settings.of(Setting::Symbols), false)
 }
 
-/// The place of the routine with which a story begins, among the routines of the source.
+/// The place of the routine with which a story begins, in bytes from the front of the code.
 pub fn main_of(names: &Symbols<Place>) -> Option<usize>
     ensures { result ≡ main_of names.now }
 {
@@ -31,7 +28,7 @@ pub fn main_of(names: &Symbols<Place>) -> Option<usize>
     }
 }
 
-/// The place of a routine among the routines of the source, in bytes.
+/// The place of a routine, in bytes from the front of the code.
 fn routine_of(meaning: Meaning) -> Option<usize>
     ensures { result ≡ routine_of meaning }
 {
@@ -56,26 +53,4 @@ pub fn tell_undeclared(
         }
     }
     Ok(())
-}
-
-/// The numbers that stand for all names in a story: of a constant its number, of a routine its packed address.
-pub fn numbers_of(alloc: Global, names: &Symbols<Place>) -> Result<Vec<u16>, AllocError>
-    ensures { IfOk result (λ numbers. numbers.items ≡ map number_of (values names.now.names)) }
-{
-    let mut numbers = Vec::with_capacity(alloc, names.len())?;
-    for place in 0..names.len() {
-        numbers.push(number_at(names, place))?;
-    }
-    Ok(numbers)
-}
-
-/// The number that stands for the name at a place; 0 where it is neither a constant nor a routine.
-fn number_at(names: &Symbols<Place>, place: usize) -> u16
-    ensures { result ≡ number_of (value_among (standing_at place names.now.names)) }
-{
-    match names.meaning_at(place) {
-        Some(Meaning::Number(number)) => number,
-        Some(Meaning::Routine(at)) => packed_address(at),
-        _ => 0,
-    }
 }

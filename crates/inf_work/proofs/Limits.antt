@@ -1,7 +1,7 @@
 -- No action changes what there may be of names and of code.
 use Rattle.std.proofs.Common.{◌≡◌, ℕ, List, [], ◌∷◌, ◌&&◌, Bool, true, false, cond, Option, Some, None, refl, map}
 use Rattle.std.specs.Prelude.{is_some, length, nat_lt}
-use Rattle.inf_code.specs.Code.{size}
+use Rattle.inf_code.specs.Code.{place_behind}
 use Rattle.inf_scanner.specs.declared.tokens.Place.{Place}
 use Rattle.inf_assembler.specs.declared.routines.RoutineKind.TheVariants as routine_kind
 use Rattle.inf_expressions.specs.declared.findings.Finding.{Finding}
@@ -115,7 +115,7 @@ header_with_same files first name h w =
     let d = routine_declared name w in
     let is_lost = is_some (header_fault files first (name_fault files name (declare_fault name.bytes w.output.names)) h) in
     out_same_then w.output d.output (opened (length h.locals) is_lost d.output)
-    (declared_keeps name.bytes name.place (meaning_of.Routine (size w.output.code.finished)) w.output) (opened_keeps (length h.locals) is_lost d.output)
+    (declared_keeps name.bytes name.place (meaning_of.Routine (place_behind w.output.code.finished)) w.output) (opened_keeps (length h.locals) is_lost d.output)
 
 header_of_same : (files : FileNames) (first : Place) (names : List Name) (w : Work) → SameLimits w (header_of files first names w)
 header_of_same files first [] w = (refl, refl)
@@ -152,7 +152,7 @@ stubbed_same files first w =
 declared_stub_same : (files : FileNames) (first : Place) (name : Name) (w : Work) → SameLimits w (stubbed files first (routine_declared name w))
 declared_stub_same files first name w =
     let d = routine_declared name w in
-    same_then w d (stubbed files first d) (declared_keeps name.bytes name.place (meaning_of.Routine (size w.output.code.finished)) w.output) (stubbed_same files first d)
+    same_then w d (stubbed files first d) (declared_keeps name.bytes name.place (meaning_of.Routine (place_behind w.output.code.finished)) w.output) (stubbed_same files first d)
 
 stub_by_same : (f : Found Place) (files : FileNames) (first : Place) (name : Name) (w : Work) → SameLimits w (stub_by f files first name w)
 stub_by_same (found.System m) files first name w = (refl, refl)

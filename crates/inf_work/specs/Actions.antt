@@ -23,8 +23,9 @@ use Rattle.inf_expressions.specs.Trees.{Tree, Leaf}
 use Rattle.inf_expressions.specs.Units.{judged, trees_of}
 use Rattle.inf_gathering.specs.declared.gathering.Leaf.{Leaf as UnitLeaf}
 use Rattle.inf_gathering.specs.declared.gathering.Leaf.TheVariants as leaf
+use Rattle.inf_cells.specs.declared.scale.Scale.TheVariants as scale
 use Rattle.inf_code.specs.declared.code.CodeLimits.{CodeLimits}
-use Rattle.inf_code.specs.Code.{fault_closed, no_routines, size}
+use Rattle.inf_code.specs.Code.{fault_closed, no_routines, place_behind}
 use Rattle.inf_names.specs.Symbols.{Table, declare_fault, found_in, refer_fault, with_used}
 use Rattle.inf_names.specs.declared.symbols.DeclareFault.{DeclareFault}
 use Rattle.inf_names.specs.declared.symbols.DeclareFault.TheVariants as declaring
@@ -62,7 +63,7 @@ limits_of settings = record {
 }
 
 abbrev pub no_output : Settings → Out
-no_output settings = record { code = no_routines (limits_of settings); names = no_symbols settings; first = nowhere; next = 0; past = None; kept = None }
+no_output settings = record { code = no_routines (limits_of settings) scale.Four; names = no_symbols settings; first = nowhere; next = 0; past = None; kept = None }
 
 -- What was compiled so far: the character set of the sources; how many tokens an expression may have; the unit at hand; the statements that are open, the
 -- innermost first; the labels with names and the locals of the open routine; the code and the names of the source; the messages; what a directive asks of the reading; the names of
@@ -191,7 +192,7 @@ opened_with files first h is_lost w =
     unit_ended files first true None (record w { output = opened (length h.locals) is_lost w.output; locals = h.locals; constructs = []; labels = [] })
 
 abbrev pub routine_declared : Name → Work → Work
-routine_declared name w = record w { output = declared name.bytes name.place (meaning.Routine (size w.output.code.finished)) w.output }
+routine_declared name w = record w { output = declared name.bytes name.place (meaning.Routine (place_behind w.output.code.finished)) w.output }
 
 abbrev pub told : FileNames → Place → Option Blame → Work → Work
 told files first blame w = record w { report = with_fault files first blame w.report }

@@ -80,7 +80,7 @@ impl Work {
         ensures value { OnOk result (work self.new ≡ routine_declared (as_name name.now) (work self.old)) }
         ensures fault { IfOk result (λ refused. refused ≡ declare_fault (as_name name.now).bytes (work self.old).output.names) }
     {
-        let routine = Meaning::Routine(self.output.code.len());
+        let routine = Meaning::Routine(self.output.code.next_place());
         self.output.declare(name.bytes(), name.place, routine)
     }
 

@@ -1,11 +1,12 @@
 //! What the actions of the grammar do: they gather what a unit has, which acts at its end.
-ghost use Rattle.std.specs.Prelude.{◌≡◌, ◌≤◌, None, OnOk};
+ghost use Rattle.std.specs.Prelude.{◌≡◌, ◌≤◌, IfOk, None, OnOk};
 ghost use Rattle.inf_unit.specs.Messages.{location};
 ghost use Rattle.inf_unit.specs.Tokens.{spelled};
 ghost use Rattle.inf_work.specs.Actions.{no_output};
 
 use crate::findings::NOWHERE;
 use crate::parts::Part;
+use inf_cells::Scale;
 use inf_code::code::{Code, CodeLimits};
 use inf_lexer::{Place, Stack};
 use inf_names::symbols::Symbols;
@@ -63,19 +64,16 @@ pub struct Work {
 }
 
 /// No code and no names, of which there may be as many as the settings say.
-fn no_output(alloc: Global, settings: &Settings) -> Output
-    ensures { result ≡ no_output settings.now }
+fn no_output(alloc: Global, settings: &Settings) -> Result<Output, AllocError>
+    ensures { IfOk result (λ output. output ≡ no_output settings.now) }
 {
     let limits = CodeLimits {
         labels: settings.of(Setting::Labels) as usize,
         code: settings.of(Setting::Code) as usize,
         refs: settings.of(Setting::References) as usize,
     };
-    Output::new(
-        Code::new(alloc, limits),
-        no_symbols(alloc, settings),
-        NOWHERE,
-    )
+    let code = Code::new(alloc, limits, Scale::Four)?;
+    Ok(Output::new(code, no_symbols(alloc, settings), NOWHERE))
 }
 
 impl Work {
@@ -84,11 +82,11 @@ impl Work {
     ghost use Rattle.inf_work.specs.Acting.{act, acted};
     ghost use Rattle.inf_work.specs.Works.{work};
 
-    /// Before the first unit of sources in a character set. It takes no memory until something is read.
-    pub fn new(alloc: Global, set: CharSet, settings: &Settings) -> Work
-        ensures { work result ≡ no_work set settings.now }
+    /// Before the first unit of sources in a character set.
+    pub fn new(alloc: Global, set: CharSet, settings: &Settings) -> Result<Work, AllocError>
+        ensures { IfOk result (λ w. work w ≡ no_work set settings.now) }
     {
-        Work {
+        Ok(Work {
             alloc,
             set,
             longest: settings.of(Setting::ExpressionNodes) as usize,
@@ -96,7 +94,7 @@ impl Work {
             constructs: Constructs::new(alloc),
             labels: Labels::new(alloc),
             locals: Locals::new(),
-            output: no_output(alloc, settings),
+            output: no_output(alloc, settings)?,
             tasks: Tasks::new(alloc),
             report: Messages::new(alloc, true),
             asked: Asked::Nothing,
@@ -104,7 +102,7 @@ impl Work {
             is_system: false,
             waiting: Vec::new(alloc),
             is_passed_over: false,
-        }
+        })
     }
 
     /// Whether a directive asks something of the reading.

@@ -2,7 +2,7 @@
 use Rattle.std.proofs.Common.{◌∙◌, ap, refl}
 use Rattle.inf_link.specs.Areas.{contents}
 use Rattle.inf_link.specs.Filling.{filled}
-use Rattle.inf_link.specs.Targets.{number_of}
+use Rattle.inf_link.specs.Targets.{lookup, number_of}
 use Rattle.inf_link.proofs.Fillings.{filled-same}
 use Rattle.inf_link.proofs.Looking.{AreAlike, number_alike}
 use Rattle.inf_link.proofs.Ranks.{rank_of-permutation}
@@ -12,7 +12,7 @@ pub returns : goal.returns
 returns g c =
     let targets = c.args.targets in
     let others = record targets { words = c.sort_unstable.new.self } in
-    let alike : AreAlike targets others = record {
+    let alike : AreAlike (lookup targets) (lookup others) = record {
       names = refl;
       property_tables = refl;
       individual_tables = refl;
@@ -23,5 +23,5 @@ returns g c =
     let bases = c.args.bases.now in
     let areas = contents g.A.Area.bytes c.args.areas in
     c.fill_all.ensures
-    ∙ ap (λ fixups. filled (number_of others c.args.scale bases) fixups areas) c.as_slice.ensures
-    ∙ filled-same (number_of others c.args.scale bases) (number_of targets c.args.scale bases) (number_alike targets others alike c.args.scale bases) c.args.refs.list areas
+    ∙ ap (λ fixups. filled (number_of (lookup others) c.args.scale bases) fixups areas) c.as_slice.ensures
+    ∙ filled-same (number_of (lookup others) c.args.scale bases) (number_of (lookup targets) c.args.scale bases) (number_alike (lookup targets) (lookup others) alike c.args.scale bases) c.args.refs.list areas

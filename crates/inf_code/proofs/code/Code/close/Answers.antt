@@ -1,12 +1,12 @@
 -- What stands behind the finished routines is the closed one and its padding; a lost one gives nothing.
 use Rattle.std.specs.Prelude.{nat_lt, ◌≤◌, ◌+◌, MatchResult, Bool}
-use Rattle.std.proofs.Common.{◌≡◌, ◌⊎◌, false, true, refl, List, ◌++◌, length, take, Option, Some, None, sym, ◌∙◌, ap, subst}
+use Rattle.std.proofs.Common.{◌≡◌, ◌⊎◌, false, true, refl, List, ◌++◌, length, Option, Some, None, sym, ◌∙◌, ap, subst}
 use Rattle.inf_area.specs.Fixups.{Fixups}
 use Rattle.inf_assembler.specs.declared.routines.CloseFault.{CloseFault}
 use Rattle.inf_assembler.specs.declared.routines.CloseFault.TheVariants as close_fault
 use Rattle.inf_assembler.specs.Routines.{State, contents_of}
-use Rattle.inf_code.specs.Code.{CodeCell, Routines, IsCode, cells_from, size, open_in, closed_cells, with_closed, fault_closed, fault_behind, room, zeros_behind}
-use Rattle.inf_code.specs.declared.code.CodeLimits.{CodeLimits}
+use Rattle.inf_cells.specs.declared.cells.Cell.{Cell as CodeCell}
+use Rattle.inf_code.specs.Code.{Routines, IsCode, open_in, closed_cells, place_behind, source_cells, with_closed, fault_closed, fault_behind, room, zeros_behind}
 use Rattle.inf_code.proofs.CodeSteps.{closed_size, code_after, finished_closed}
 use Rattle.inf_code.proofs.Ends.{is_first, told_first, told_lost, zeros_none, zeros_told}
 use Rattle.inf_code.proofs.code.Code.close.Goals as goal
@@ -20,8 +20,8 @@ returns-then-self-clause-fault c =
     let lost : inside.is_lost ≡ true = c.if-self.true in
     let is : IsCode (room inside.limits) inside.finished inside.refs inside.area true (Some routine) =
     subst (λ b. IsCode (room inside.limits) inside.finished inside.refs inside.area b (Some routine)) lost (subst (IsCode (room inside.limits) inside.finished inside.refs inside.area inside.is_lost) some c.self.invariant.0) in
-    let before = cells_from 0 inside.refs.list (take inside.finished inside.area) in
-    let With : Bool → Option State → Routines = λ b r. record { limits = inside.limits; has_begun = inside.has_begun; finished = before; opened = open_in inside.area b r } in
+    let before = source_cells inside.finished inside.refs inside.area in
+    let With : Bool → Option State → Routines = λ b r. record { limits = inside.limits; scale = inside.scale; has_begun = inside.has_begun; finished = before; opened = open_in inside.area b r } in
     let Tells : Option CloseFault → Type 0 = λ wrong. MatchResult c.close_lost.result (λ _. wrong ≡ None) (λ fault. (fault ≡ close_fault.Memory) ⊎ (wrong ≡ Some fault)) in
     let first = is_first (room inside.limits) inside.has_begun inside.finished inside.refs inside.spare inside.area true routine kind is c.self.invariant.1.1 inside.spare refl in
     let told = subst (λ (f : Fixups). MatchResult c.close_lost.result (λ _. fault_behind (record { labels = routine.limits.labels; code = routine.limits.code; refs = inside.spare.limit }) routine.start (length f.list) (contents_of routine inside.area) ≡ None)
@@ -38,8 +38,8 @@ returns-in-Err-clause-fault c =
     let kept : inside.is_lost ≡ false = c.if-self.false in
     let is : IsCode (room inside.limits) inside.finished inside.refs inside.area false (Some routine) =
     subst (λ b. IsCode (room inside.limits) inside.finished inside.refs inside.area b (Some routine)) kept (subst (IsCode (room inside.limits) inside.finished inside.refs inside.area inside.is_lost) some c.self.invariant.0) in
-    let before = cells_from 0 inside.refs.list (take inside.finished inside.area) in
-    let With : Bool → Option State → Routines = λ b r. record { limits = inside.limits; has_begun = inside.has_begun; finished = before; opened = open_in inside.area b r } in
+    let before = source_cells inside.finished inside.refs inside.area in
+    let With : Bool → Option State → Routines = λ b r. record { limits = inside.limits; scale = inside.scale; has_begun = inside.has_begun; finished = before; opened = open_in inside.area b r } in
     let Tells : Option CloseFault → Type 0 = λ wrong. (c.in-Err.fault ≡ close_fault.Memory) ⊎ (wrong ≡ Some c.in-Err.fault) in
     let first = is_first (room inside.limits) inside.has_begun inside.finished inside.refs inside.spare inside.area false routine kind is c.self.invariant.1.1 inside.refs refl in
     subst Tells (ap (λ r. fault_closed kind (With false r)) (sym some) ∙ ap (λ b. fault_closed kind (With b inside.routine)) (sym kept) ∙ ap (fault_closed kind) c.self.view_is)
@@ -53,8 +53,8 @@ invariant_of-self-2 c =
     let is : IsCode (room inside.limits) inside.finished inside.refs inside.area inside.is_lost (Some routine) = subst (IsCode (room inside.limits) inside.finished inside.refs inside.area inside.is_lost) some c.self.invariant.0 in
     let whole = c.fill_up.new.area in
     let listed = c.close.new.refs in
-    let few = subst (λ (l : CodeLimits). length whole ≤ l.code) c.room.ensures c.in_default-fill_up.ensures.room in
-    let after = code_after c.args.kind (room inside.limits) inside.finished inside.refs listed inside.area c.close.new.area whole routine c.in-Ok.closed inside.is_lost is c.in-Ok.ensures.ok inside.is_lost c.in_default-fill_up.ensures.ok few in
+    let few = c.in_default-fill_up.ensures.room in
+    let after = code_after inside.scale c.args.kind (room inside.limits) inside.finished inside.refs listed inside.area c.close.new.area whole routine c.in-Ok.closed inside.is_lost is c.in-Ok.ensures.ok inside.is_lost c.in_default-fill_up.ensures.ok few in
     let none : IsCode (room inside.limits) (length whole) listed whole inside.is_lost c.take.new.self = subst (IsCode (room inside.limits) (length whole) listed whole inside.is_lost) (sym c.take.ensures.after) after in
     (subst (λ n. IsCode (room inside.limits) n listed whole inside.is_lost c.take.new.self) (sym c.len-self-inside.ensures.value) none, c.self.invariant.1)
 
@@ -68,12 +68,12 @@ returns-clause-ok c =
     let is : IsCode (room inside.limits) inside.finished inside.refs inside.area inside.is_lost (Some routine) = subst (IsCode (room inside.limits) inside.finished inside.refs inside.area inside.is_lost) some c.self.invariant.0 in
     let whole = c.fill_up.new.area in
     let listed = c.close.new.refs in
-    let before = cells_from 0 inside.refs.list (take inside.finished inside.area) in
-    let closed = finished_closed kind (room inside.limits) inside.finished inside.refs listed inside.area c.close.new.area whole routine c.in-Ok.closed inside.is_lost is c.in-Ok.ensures.ok c.in_default-fill_up.ensures.ok in
-    let Of : List CodeCell → Option State → Routines = λ cells r. record { limits = inside.limits; has_begun = inside.has_begun; finished = cells; opened = open_in whole inside.is_lost r } in
-    let With : Bool → Option State → Routines = λ b r. record { limits = inside.limits; has_begun = inside.has_begun; finished = before ++ closed_cells kind (size before) (open_in inside.area b r); opened = None } in
-    ap (λ n. Of (cells_from 0 listed.list (take n whole)) c.take.new.self) c.len-self-inside.ensures.value
-    ∙ ap (Of (cells_from 0 listed.list (take (length whole) whole))) c.take.ensures.after
+    let before = source_cells inside.finished inside.refs inside.area in
+    let closed = finished_closed inside.scale kind (room inside.limits) inside.finished inside.refs listed inside.area c.close.new.area whole routine c.in-Ok.closed inside.is_lost is c.in-Ok.ensures.ok c.in_default-fill_up.ensures.ok in
+    let Of : List CodeCell → Option State → Routines = λ cells r. record { limits = inside.limits; scale = inside.scale; has_begun = inside.has_begun; finished = cells; opened = open_in whole inside.is_lost r } in
+    let With : Bool → Option State → Routines = λ b r. record { limits = inside.limits; scale = inside.scale; has_begun = inside.has_begun; finished = before ++ closed_cells inside.scale kind (place_behind before) (open_in inside.area b r); opened = None } in
+    ap (λ n. Of (source_cells n listed whole) c.take.new.self) c.len-self-inside.ensures.value
+    ∙ ap (Of (source_cells (length whole) listed whole)) c.take.ensures.after
     ∙ ap (λ cells. Of cells None) closed ∙ ap (With false) (sym some) ∙ ap (λ b. With b inside.routine) (sym kept) ∙ ap (with_closed kind) c.self.view_is
 
 pub returns-in-Err-fill_up-clause-fault : goal.returns-in-Err-fill_up-clause-fault
@@ -85,12 +85,11 @@ returns-in-Err-fill_up-clause-fault c =
     let kept : inside.is_lost ≡ false = c.if-self.false in
     let is : IsCode (room inside.limits) inside.finished inside.refs inside.area false (Some routine) =
     subst (λ b. IsCode (room inside.limits) inside.finished inside.refs inside.area b (Some routine)) kept (subst (IsCode (room inside.limits) inside.finished inside.refs inside.area inside.is_lost) some c.self.invariant.0) in
-    let before = cells_from 0 inside.refs.list (take inside.finished inside.area) in
-    let With : Bool → Option State → Routines = λ b r. record { limits = inside.limits; has_begun = inside.has_begun; finished = before; opened = open_in inside.area b r } in
+    let before = source_cells inside.finished inside.refs inside.area in
+    let With : Bool → Option State → Routines = λ b r. record { limits = inside.limits; scale = inside.scale; has_begun = inside.has_begun; finished = before; opened = open_in inside.area b r } in
     let written = c.close.new.area in
-    let size_is = closed_size kind (room inside.limits) inside.finished inside.refs c.close.new.refs inside.area written routine c.in-Ok.closed false is c.in-Ok.ensures.ok in
-    let zeros = length written + length (zeros_behind c.in-Ok.closed.len) in
-    let same = ap (nat_lt (room inside.limits).code) size_is ∙ ap (λ (l : CodeLimits). nat_lt l.code zeros) (sym c.room.ensures) in
+    let size_is = closed_size inside.scale kind (room inside.limits) inside.finished inside.refs c.close.new.refs inside.area written routine c.in-Ok.closed false is c.in-Ok.ensures.ok in
+    let same = ap (nat_lt inside.limits.code) size_is in
     let first = is_first (room inside.limits) inside.has_begun inside.finished inside.refs inside.spare inside.area false routine kind is c.self.invariant.1.1 inside.refs refl in
     let Tells : Option CloseFault → Type 0 = λ wrong. (c.in-Err-fill_up.fault ≡ close_fault.Memory) ⊎ (wrong ≡ Some c.in-Err-fill_up.fault) in
     subst Tells (ap (λ r. fault_closed kind (With false r)) (sym some) ∙ ap (λ b. fault_closed kind (With b inside.routine)) (sym kept) ∙ ap (fault_closed kind) c.self.view_is)
@@ -105,11 +104,11 @@ returns-clause-fault c =
     let kept : inside.is_lost ≡ false = c.if-self.false in
     let is : IsCode (room inside.limits) inside.finished inside.refs inside.area false (Some routine) =
     subst (λ b. IsCode (room inside.limits) inside.finished inside.refs inside.area b (Some routine)) kept (subst (IsCode (room inside.limits) inside.finished inside.refs inside.area inside.is_lost) some c.self.invariant.0) in
-    let before = cells_from 0 inside.refs.list (take inside.finished inside.area) in
-    let With : Bool → Option State → Routines = λ b r. record { limits = inside.limits; has_begun = inside.has_begun; finished = before; opened = open_in inside.area b r } in
+    let before = source_cells inside.finished inside.refs inside.area in
+    let With : Bool → Option State → Routines = λ b r. record { limits = inside.limits; scale = inside.scale; has_begun = inside.has_begun; finished = before; opened = open_in inside.area b r } in
     let written = c.close.new.area in
-    let size_is = closed_size kind (room inside.limits) inside.finished inside.refs c.close.new.refs inside.area written routine c.in-Ok.closed false is c.in-Ok.ensures.ok in
-    let over = ap (nat_lt (room inside.limits).code) size_is ∙ ap (λ (l : CodeLimits). nat_lt l.code (length written + length (zeros_behind c.in-Ok.closed.len))) (sym c.room.ensures) ∙ c.in_default-fill_up.ensures.fault in
+    let size_is = closed_size inside.scale kind (room inside.limits) inside.finished inside.refs c.close.new.refs inside.area written routine c.in-Ok.closed false is c.in-Ok.ensures.ok in
+    let over = ap (nat_lt inside.limits.code) size_is ∙ c.in_default-fill_up.ensures.fault in
     let first = is_first (room inside.limits) inside.has_begun inside.finished inside.refs inside.spare inside.area false routine kind is c.self.invariant.1.1 inside.refs refl in
     subst (λ wrong. wrong ≡ None) (ap (λ r. fault_closed kind (With false r)) (sym some) ∙ ap (λ b. fault_closed kind (With b inside.routine)) (sym kept) ∙ ap (fault_closed kind) c.self.view_is)
     (zeros_none _ (room inside.limits).code _ (sym first ∙ c.in-Ok.ensures.fault) over)

@@ -1,7 +1,7 @@
 -- What is left is by what the open routine has.
-use Rattle.std.proofs.Common.{◌-◌, Option, Some, take, sym, ◌∙◌, ap, subst}
+use Rattle.std.proofs.Common.{◌-◌, Option, Some, sym, ◌∙◌, ap, subst}
 use Rattle.inf_assembler.specs.Routines.{State}
-use Rattle.inf_code.specs.Code.{Routines, IsCode, cells_from, left, most, open_in, room}
+use Rattle.inf_code.specs.Code.{Routines, IsCode, left, most, open_in, room, source_cells}
 use Rattle.inf_code.proofs.Full.{left_is, lists}
 use Rattle.inf_code.proofs.code.Code.left.Goals as goal
 
@@ -11,9 +11,9 @@ returns c =
     let routine = c.in-Some.routine in
     let is : IsCode (room inside.limits) inside.finished inside.refs inside.area inside.is_lost (Some routine) =
     subst (IsCode (room inside.limits) inside.finished inside.refs inside.area inside.is_lost) c.in-Some.is c.self.invariant.0 in
-    let before = cells_from 0 inside.refs.list (take inside.finished inside.area) in
-    let kept = lists inside.is_lost (room inside.limits) inside.finished inside.refs inside.spare inside.area c.listed-listed.result.now is.limit c.self.invariant.1.1 c.listed-listed.ensures in
-    let With : Option State → Routines = λ r. record { limits = inside.limits; has_begun = inside.has_begun; finished = before; opened = open_in inside.area inside.is_lost r } in
+    let before = source_cells inside.finished inside.refs inside.area in
+    let kept = lists inside.is_lost (room inside.limits) inside.finished inside.refs inside.spare inside.area c.listed-listed.result.now is.stands is.limit c.self.invariant.1.1 c.listed-listed.ensures in
+    let With : Option State → Routines = λ r. record { limits = inside.limits; scale = inside.scale; has_begun = inside.has_begun; finished = before; opened = open_in inside.area inside.is_lost r } in
     let bounds = c.most-most.ensures ∙ ap (most inside.is_lost) c.room-room.ensures in
     left_is (room inside.limits) inside.finished inside.refs c.listed-listed.result.now inside.area inside.is_lost routine is kept
     c.most-most.result c.saturating_sub.result c.saturating_sub-2.result c.saturating_sub-4.result c.saturating_sub-3.result bounds

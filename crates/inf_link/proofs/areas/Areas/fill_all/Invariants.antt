@@ -1,11 +1,11 @@
 use Rattle.std.proofs.Common.{◌≡◌, drop}
 use Rattle.inf_link.specs.Areas.{contents}
-use Rattle.inf_link.specs.Targets.{number_of}
+use Rattle.inf_link.specs.Targets.{lookup, number_of}
 use Rattle.inf_link.specs.Filling.{filled}
 use Rattle.inf_link.proofs.areas.Areas.fill_all.Given as goal
 
 -- what is filled, with the fixups that are left, is all
 abbrev pub invariant-loop-fixup : goal.invariant-loop-fixup
 invariant-loop-fixup g l =
-    let number = number_of l.targets l.scale l.bases in
+    let number = number_of (lookup l.targets) l.scale l.bases in
     filled number (drop l.fixup-index l.fixups) (contents g.A.Area.bytes l.self) ≡ filled number l.fixups (contents g.A.Area.bytes l.fn.self)

@@ -2,6 +2,7 @@
 use Rattle.std.proofs.Common.{◌∙◌, ◌++◌, ap}
 use Rattle.inf_link.specs.Areas.{contents}
 use Rattle.inf_link.specs.Header.{header}
+use Rattle.inf_link.specs.Targets.{lookup}
 use Rattle.inf_link.proofs.Linking.{filled-map, sizes-parts, story-parts}
 use Rattle.inf_link.proofs.link.Link.link.Goals as goal
 
@@ -13,8 +14,8 @@ returns-clause-bytes g c =
     let map = c.in_ok-map.map in
     let behind = c.in_ok-body.body.items in
     let is_map = c.in_ok-map.ensures.map.0 in
-    let are_filled = filled-map before areas link.refs.list link.targets link.fields c.lengths.result map c.lengths.ensures is_map c.filled-areas.ensures in
-    let parts = story-parts before areas link.refs.list link.targets link.fields c.lengths.result map behind c.lengths.ensures is_map are_filled c.in_ok-body.ensures in
+    let are_filled = filled-map before areas link.refs.list (lookup link.targets) link.fields c.lengths.result map c.lengths.ensures is_map c.filled-areas.ensures in
+    let parts = story-parts before areas link.refs.list (lookup link.targets) link.fields c.lengths.result map behind c.lengths.ensures is_map are_filled c.in_ok-body.ensures in
     c.in_ok-extend_from_slice.ensures.items
     ∙ ap (λ xs. xs ++ c.deref-2.result.now) c.in_ok-append_header.ensures
     ∙ ap (λ xs. (xs ++ header link.fields map.bases c.deref.result.now) ++ c.deref-2.result.now) c.in_ok-bytes.ensures.items
@@ -29,6 +30,6 @@ returns-clause-sizes g c =
     let areas = contents g.A.Area.bytes c.filled-areas.result in
     let map = c.in_ok-map.map in
     let is_map = c.in_ok-map.ensures.map.0 in
-    let are_filled = filled-map before areas link.refs.list link.targets link.fields c.lengths.result map c.lengths.ensures is_map c.filled-areas.ensures in
-    sizes-parts before areas link.refs.list link.targets link.fields c.lengths.result map c.extend_from_slice.new.self.items c.len.result c.len-2.result c.len-3.result
+    let are_filled = filled-map before areas link.refs.list (lookup link.targets) link.fields c.lengths.result map c.lengths.ensures is_map c.filled-areas.ensures in
+    sizes-parts before areas link.refs.list (lookup link.targets) link.fields c.lengths.result map c.extend_from_slice.new.self.items c.len.result c.len-2.result c.len-3.result
     c.lengths.ensures is_map are_filled c.len.ensures.value c.len-2.ensures.value (c.len-3.ensures ∙ c.extend_from_slice.new.self.ok.0)

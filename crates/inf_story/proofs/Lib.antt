@@ -1,0 +1,4 @@
+pub mod NameSteps
+pub mod Areas
+pub mod Told
+pub mod Linked

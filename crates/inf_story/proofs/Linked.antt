@@ -1,0 +1,42 @@
+-- What is linked is the story of the cells.
+use Rattle.std.specs.Prelude.{Result, Ok, Err, MatchResult}
+use Rattle.std.proofs.Common.{◌≡◌, ◌⊎◌, inl, inr, ◌∙◌, ℕ, List, Option, Some, None, ap, sym}
+use Rattle.inf_area.specs.declared.fixups.Fixup.{Fixup}
+use Rattle.inf_area.specs.declared.targets.Value.{Value}
+use Rattle.inf_cells.specs.declared.cells.Cell.{Cell}
+use Rattle.inf_link.specs.declared.areas.Areas.{Areas}
+use Rattle.inf_link.specs.declared.header.HeaderFields.{HeaderFields}
+use Rattle.inf_link.specs.declared.link.LinkFault.{LinkFault}
+use Rattle.inf_link.specs.declared.link.LinkFault.TheVariants.{Memory}
+use Rattle.inf_link.specs.Areas.{lengths}
+use Rattle.inf_link.specs.FillingLaws.{cells_contents, cells_fixups}
+use Rattle.inf_link.specs.MemoryMaps.{too_long as too_long_by}
+use Rattle.inf_link.specs.Stories.{refusal, story as linked}
+use Rattle.inf_link.specs.Targets.{Lookup}
+use Rattle.inf_link.proofs.CellLaws.{cells_in_order, sizes-cells}
+use Rattle.inf_story.specs.Stories.{story, too_long}
+use Rattle.inf_story.specs.Tables.{areas, looked_up}
+
+pub is_story : (fields : HeaderFields) (main : ℕ) (names : List Value) (finished : List Cell) (strings : List ℕ) (contents : Areas (List ℕ)) (fixups : List Fixup) (targets : Lookup)
+    → contents ≡ cells_contents (areas main finished strings) → fixups ≡ cells_fixups (areas main finished strings) → targets ≡ looked_up names
+    → linked contents fixups targets fields ≡ story fields main names finished strings
+unfolding story
+is_story fields main names finished strings contents fixups targets are_contents are_fixups are_targets =
+    let cells = areas main finished strings in
+    ap (λ bytes. linked bytes fixups targets fields) are_contents
+    ∙ ap (λ places. linked (cells_contents cells) places targets fields) are_fixups
+    ∙ ap (λ lists. linked (cells_contents cells) (cells_fixups cells) lists fields) are_targets
+    ∙ cells_in_order cells (looked_up names) fields
+
+pub is_too_long : (fields : HeaderFields) (main : ℕ) (finished : List Cell) (strings : List ℕ) (contents : Areas (List ℕ)) → contents ≡ cells_contents (areas main finished strings)
+    → too_long_by (lengths contents) fields.scale ≡ too_long fields main finished strings
+unfolding too_long
+is_too_long fields main finished strings contents are_contents =
+    ap (λ bytes. too_long_by (lengths bytes) fields.scale) are_contents ∙ ap (λ sizes. too_long_by sizes fields.scale) (sizes-cells (areas main finished strings))
+
+-- want of memory, or why there is no story
+pub told : {T : Type 0} (r : Result T LinkFault) (long : Option LinkFault) → MatchResult r (λ _. long ≡ None) (λ fault. fault ≡ refusal long)
+    → MatchResult r (λ _. long ≡ None) (λ fault. (fault ≡ Memory) ⊎ (long ≡ Some fault))
+told (Ok x) long e = e
+told (Err fault) None e = inl e
+told (Err fault) (Some other) e = inr (ap Some (sym e))

@@ -1,0 +1,26 @@
+-- What each story tells of itself, by the sizes of its areas.
+use Rattle.std.proofs.Common.{◌≡◌, ◌∙◌, ℕ, List, length, ap, sym, subst}
+use Rattle.inf_area.specs.declared.targets.Target.{Target}
+use Rattle.inf_area.specs.declared.targets.Value.{Value}
+use Rattle.inf_cells.specs.declared.cells.Cell.{Cell}
+use Rattle.inf_link.specs.declared.areas.Areas.{Areas}
+use Rattle.inf_link.specs.declared.header.HeaderFields.{HeaderFields}
+use Rattle.inf_link.specs.Areas.{area_of, by_name, lengths}
+use Rattle.inf_link.specs.FillingLaws.{cells_sizes, numbered}
+use Rattle.inf_link.specs.MemoryMaps.{map_of}
+use Rattle.inf_link.specs.StoryLaws.{TellsItself}
+use Rattle.inf_link.specs.Targets.{number_of}
+use Rattle.inf_link.proofs.CellLaws.{sizes-numbered}
+use Rattle.inf_link.proofs.StoryLaws.{stories_tell_themselves}
+use Rattle.inf_story.specs.Stories.{story}
+use Rattle.inf_story.specs.Tables.{areas, looked_up}
+
+pub story_tells : (fields : HeaderFields) (main : ℕ) (names : List Value) (finished : List Cell) (strings : List ℕ) → length fields.serial ≡ 6
+    → TellsItself fields.scale (map_of (cells_sizes (areas main finished strings)) fields.scale).end (story fields main names finished strings)
+unfolding story
+story_tells fields main names finished strings six =
+    let cells = areas main finished strings in
+    let number = number_of (looked_up names) fields.scale (map_of (cells_sizes cells) fields.scale).bases in
+    let contents = by_name (λ name. numbered number (area_of name cells)) in
+    subst (λ sizes. TellsItself fields.scale (map_of sizes fields.scale).end (story fields main names finished strings)) (sizes-numbered number cells)
+    (stories_tell_themselves contents fields six)

@@ -1,0 +1,43 @@
+-- What the names of a source are in its story.
+use Rattle.std.specs.Prelude.{List, [], ◌∷◌, Option, Some, None}
+use Rattle.inf_area.specs.declared.targets.AreaName.TheVariants as area
+use Rattle.inf_area.specs.declared.targets.Target.TheVariants as target
+use Rattle.inf_area.specs.declared.targets.Value.{Value}
+use Rattle.inf_area.specs.declared.targets.Value.TheVariants as value
+use Rattle.inf_names.specs.Symbols.{Named, meaning_in}
+use Rattle.inf_names.specs.declared.meanings.Meaning.{Meaning}
+use Rattle.inf_names.specs.declared.meanings.Meaning.TheVariants as meaning
+use Rattle.inf_scanner.specs.declared.tokens.Place.{Place}
+
+-- What a name is by what it stands for: a number, or a place in an area. A dictionary word is known by its text and not by a place, and a function of the
+-- language is no number.
+abbrev pub value_of : Meaning → Option Value
+value_of (meaning.Number number) = Some (value.Known number)
+value_of (meaning.Variable number) = Some (value.Known number)
+value_of (meaning.Attribute number) = Some (value.Known number)
+value_of (meaning.Property number is_additive) = Some (value.Known number)
+value_of (meaning.IndividualProperty number) = Some (value.Known number)
+value_of (meaning.Object number) = Some (value.Known number)
+value_of (meaning.Class number) = Some (value.Known number)
+value_of (meaning.FakeAction number) = Some (value.Known number)
+value_of (meaning.Text place) = Some (value.Later (target.Place area.Strings place))
+value_of (meaning.LowString place) = Some (value.Later (target.Place area.LowStrings place))
+value_of (meaning.Array place) = Some (value.Later (target.Place area.Arrays place))
+value_of (meaning.Routine place) = Some (value.Later (target.Place area.Code place))
+value_of (meaning.Word number) = None
+value_of (meaning.Function function) = None
+
+-- a name that was not declared stands for nothing
+abbrev pub value_by : Option Meaning → Option Value
+value_by None = None
+value_by (Some m) = value_of m
+
+abbrev pub with_value : Option Value → Option (List Value) → Option (List Value)
+with_value None values = None
+with_value (Some value) None = None
+with_value (Some value) (Some values) = Some (value ∷ values)
+
+-- what each name is; nothing where one of them is none
+abbrev pub values_of : List (Named Place) → Option (List Value)
+values_of [] = Some []
+values_of (n ∷ names) = with_value (value_by (meaning_in (Some n.standing))) (values_of names)

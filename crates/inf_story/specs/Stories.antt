@@ -1,0 +1,17 @@
+-- The story of a source. Z-Machine Standard 1.1, sections 1 and 11.
+use Rattle.std.specs.Prelude.{ℕ, List, Option}
+use Rattle.inf_area.specs.declared.targets.Value.{Value}
+use Rattle.inf_cells.specs.declared.cells.Cell.{Cell}
+use Rattle.inf_link.specs.declared.header.HeaderFields.{HeaderFields}
+use Rattle.inf_link.specs.declared.link.LinkFault.{LinkFault}
+use Rattle.inf_link.specs.FillingLaws.{cells_sizes, cells_story}
+use Rattle.inf_link.specs.MemoryMaps.{too_long as too_long_by}
+use Rattle.inf_story.specs.Tables.{areas, looked_up}
+
+-- The story of the finished routines of a source and its strings: the one at a place of the code is called first, and names are these.
+unfoldable pub story : HeaderFields → ℕ → List Value → List Cell → List ℕ → List ℕ
+story fields main names finished strings = cells_story (areas main finished strings) (looked_up names) fields
+
+-- why there is none, if so
+unfoldable pub too_long : HeaderFields → ℕ → List Cell → List ℕ → Option LinkFault
+too_long fields main finished strings = too_long_by (cells_sizes (areas main finished strings)) fields.scale

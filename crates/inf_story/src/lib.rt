@@ -1,0 +1,11 @@
+//! The story of a source without an error: its tables as areas, what stands for its names, its header, and the bytes or why there are none
+//! (Z-Machine Standard 1.1, sections 1 and 11).
+#![tactic(auto)]
+
+mod names;
+mod stories;
+mod tables;
+
+pub use inf_link::{LinkFault, Story};
+pub use names::values_of;
+pub use stories::story;

@@ -1,0 +1,30 @@
+//! The story of a source.
+ghost use Rattle.std.specs.Prelude.{◌≡◌, ◌⊎◌, IfOk, MatchResult, None, Some};
+ghost use Rattle.inf_link.specs.declared.link.LinkFault.TheVariants.{Memory};
+ghost use Rattle.inf_story.specs.Stories.{story, too_long};
+
+use crate::tables::{areas, targets};
+use inf_area::{PagedArea, Refs, Value};
+use inf_code::code::Code;
+use inf_link::{HeaderFields, Link, LinkFault, Story};
+use std::alloc::Global;
+
+/// The story of some code and strings, in which the routine at a place of the code is called first, and names are these. Refuses first where code would begin at an address over
+/// 65,534, then where the story would be longer than one of its version may be, and else only where no memory is left.
+pub fn story(
+    alloc: Global,
+    fields: HeaderFields,
+    main: usize,
+    names: Vec<Value>,
+    code: Code,
+    strings: PagedArea,
+) -> Result<Story, LinkFault>
+    ensures bytes { IfOk result (λ s. s.bytes ≡ story fields main names.items code.finished strings) }
+    ensures fault { let long = too_long fields main code.finished strings in
+        MatchResult result (λ _. long ≡ None) (λ fault. (fault ≡ Memory) ⊎ (long ≡ Some fault)) }
+{
+    let mut refs = Refs::new(alloc, usize::MAX);
+    let areas = areas(alloc, main, code, strings, &mut refs)?;
+    let targets = targets(alloc, names)?;
+    Link::new(alloc, areas, refs, targets, fields).link()
+}
