@@ -10,7 +10,7 @@ use Rattle.inf_properties.specs.declared.open.GiveFault.TheVariants as fault
 use Rattle.inf_properties.specs.Places.{AreAt}
 use Rattle.inf_properties.specs.Properties.{AreFree, AreNew, has, inherited, joined}
 use Rattle.inf_properties.specs.Values.{with_last_value}
-use Rattle.inf_properties.specs.Sizes.{are_short, is_short, lacks, table_bytes, total}
+use Rattle.inf_properties.specs.Sizes.{are_short, is_short, lacks, table_bytes, total, with_table}
 
 -- Whose they are, those that its body gave, those of the classes that it named, and whether a further value belongs to the property
 -- that was given last.
@@ -44,6 +44,10 @@ with_value value o = if o.takes_values then record o { own = with_last_value val
 -- a class is named, which has these properties
 abbrev pub with_class : List Property → Open → Open
 with_class properties o = record o { above = inherited o.above properties }
+
+-- that there is no room, where properties that need so much have none
+abbrev pub full_fault : Size → Room → Option GiveFault
+full_fault size room = if lacks room (with_table size).bytes then Some fault.Full else None
 
 -- Why something is refused: what stands before the others in their order, if anything.
 abbrev pub give_fault : Property → Room → Open → Option GiveFault

@@ -3,6 +3,7 @@ ghost use Rattle.std.specs.Prelude.{◌≡◌, ◌<◌, ◌≤◌, ◌^◌, ◌+
 ghost use Rattle.inf_properties.specs.declared.open.GiveFault.TheVariants.{Memory};
 ghost use Rattle.inf_properties.specs.Places.{AreAt};
 ghost use Rattle.inf_properties.specs.Properties.{has, joined_values};
+ghost use Rattle.inf_properties.specs.Open.{full_fault};
 ghost use Rattle.inf_properties.specs.Values.{with_last_value};
 ghost use Rattle.inf_properties.specs.Sizes.{joined_count, joined_size, later_count, size_by, size_option};
 
@@ -179,6 +180,19 @@ fn push_value(properties: &mut Vec<Property>, value: Value) -> Result<(), AllocE
     Ok(())
 }
 
+/// That there is no room, where properties that need so much have none.
+fn full_fault(size: Size, room: Room) -> Option<GiveFault>
+    requires bytes { size.bytes < 2 ^ 33 }
+    requires fixups { size.fixups < 2 ^ 33 }
+    ensures { result ≡ full_fault size room }
+{
+    if room.lacks(size.with_table().bytes) {
+        Some(GiveFault::Full)
+    } else {
+        None
+    }
+}
+
 impl OpenProperties {
     ghost use Rattle.inf_properties.specs.Open.{all, class_fault, class_refused, give_fault, given_first, opened, is_last_short, refusal, value_fault, with_class, with_given, with_value};
     ghost use Rattle.inf_properties.specs.Properties.{found, has, inherited, is_reserved, joined, values_in, values_of};
@@ -324,6 +338,39 @@ impl OpenProperties {
         push_value(&mut self.own, value)?;
         self.size = size;
         Ok(())
+    }
+
+    /// Why `give` would refuse a property, whatever memory there is.
+    pub fn give_fault(
+        &self,
+        number: usize,
+        is_additive: bool,
+        first: Option<Value>,
+        room: Room,
+    ) -> Option<GiveFault>
+        ensures { result ≡ give_fault (given_first number is_additive first) room self.now }
+    {
+        let is_given = self.is_given(number);
+        if is_given {
+            return Some(GiveFault::Given);
+        }
+        match self.size_given(number, is_additive, first) {
+            None => Some(GiveFault::TooLong),
+            Some(size) => full_fault(size, room),
+        }
+    }
+
+    /// Why `add_value` would refuse a further value, whatever memory there is.
+    pub fn value_fault(&self, value: Value, room: Room) -> Option<GiveFault>
+        ensures { result ≡ value_fault value room self.now }
+    {
+        if !self.takes_values {
+            return None;
+        }
+        match self.size_with(value) {
+            None => Some(GiveFault::TooLong),
+            Some(size) => full_fault(size, room),
+        }
     }
 
     /// What the properties need with a further value of the one that was given last; none where it would have more than 32.

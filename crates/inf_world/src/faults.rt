@@ -1,5 +1,8 @@
 //! Why something was not added to the world.
 
+ghost use Rattle.std.specs.Prelude.{◌≡◌, option_map};
+ghost use Rattle.inf_world.specs.Faults.{given_fault};
+
 use inf_properties::GiveFault;
 use std::alloc::{AllocError, AllocFailed};
 
@@ -19,7 +22,7 @@ pub enum Limit {
 /// What does not fit where it stands.
 #[derive(Clone, Copy, Debug, PartialEq, Eq)]
 pub enum Misfit {
-    /// A header, or the declaration of a property, inside of a body.
+    /// A header inside of a body.
     BodyIsOpen,
     /// An entry, or the end of a body, outside of any.
     NoBody,
@@ -92,5 +95,15 @@ impl From<GiveFault> for AddFault {
             GiveFault::Full => AddFault::Full(Setting::PropertyTables),
             GiveFault::Memory => AddFault::Memory,
         }
+    }
+}
+
+/// A fault of properties, if there is one, as it is told of the world.
+pub(crate) fn told_fault(found: Option<GiveFault>) -> Option<AddFault>
+    ensures { result ≡ option_map given_fault found }
+{
+    match found {
+        Some(fault) => Some(AddFault::from(fault)),
+        None => None,
     }
 }

@@ -9,7 +9,7 @@ ghost use Rattle.inf_world.specs.World.{AreHung, IsRefused, attribute_fault, byt
 ghost use Rattle.inf_world.specs.Faults.{given_fault};
 ghost use Rattle.inf_world.specs.declared.faults.AddFault.TheVariants.{Memory};
 
-use crate::faults::{AddFault, Limit, Misfit, Setting};
+use crate::faults::{AddFault, Limit, Misfit, Setting, told_fault};
 use crate::kept::{class_of, later_defaults, note_latest, push_object};
 use crate::kinds::{Declared, Limits, Parent};
 use inf_area::Value;
@@ -36,6 +36,12 @@ const NAME: usize = 1;
 pub(crate) const FIRST_DECLARED: usize = 4;
 
 const FIRST_INDIVIDUAL: usize = 64;
+
+/// What there may be of properties that belong to nothing, which need nothing.
+const LOST_ROOM: Room = Room {
+    others: 0,
+    limit: u32::MAX,
+};
 
 /// Attributes, properties, classes and objects, as far as they were read.
 ///
@@ -213,8 +219,8 @@ impl World {
         Ok(())
     }
 
-    // The number of a parent; 0 is none.
-    fn parent_number(&self, parent: Parent) -> Result<usize, Misfit>
+    /// The number of a parent, where 0 is none, or why it is none: no object, a class, or no object that has one arrow less.
+    pub fn parent_number(&self, parent: Parent) -> Result<usize, Misfit>
         ensures value { result ≡ parent_of parent self.now.objects }
         ensures within { IfOk result (λ number. number ≤ 4 + length self.now.objects) }
         ensures reached { IfOk result (λ _. IsReached (arrows_of parent) self.now.objects) }
@@ -341,6 +347,34 @@ impl World {
         Ok(())
     }
 
+    /// Why `give_property` would refuse a property, whatever memory there is.
+    pub fn give_fault(&self, number: usize, first: Option<Value>) -> Option<AddFault>
+        ensures { result ≡ given_property_fault number first self.now }
+    {
+        if !self.is_open {
+            return Some(AddFault::Misfit(Misfit::NoBody));
+        }
+        let Some(is_additive) = self.kind_of(number) else {
+            return Some(AddFault::Misfit(Misfit::NotAProperty));
+        };
+        let properties = &self.body.properties;
+        if properties.owner() == Owner::Nothing {
+            told_fault(properties.give_fault(number, false, None, LOST_ROOM))
+        } else {
+            told_fault(properties.give_fault(number, is_additive, first, self.room()))
+        }
+    }
+
+    /// Why `add_value` would refuse a further value, whatever memory there is.
+    pub fn value_fault(&self, value: Value) -> Option<AddFault>
+        ensures { result ≡ further_value_fault value self.now }
+    {
+        if !self.is_open {
+            return Some(AddFault::Misfit(Misfit::NoBody));
+        }
+        told_fault(self.body.properties.value_fault(value, self.room()))
+    }
+
     /// A property was in error: further values give nothing, up to the next property.
     pub fn lose_property(&mut self)
         ensures { self.new ≡ with_lost_property self.old }
@@ -456,11 +490,7 @@ impl World {
         ensures fault { let fault = lost_given_fault number self.old.body.properties in
             MatchResult result (λ _. fault ≡ None) (λ refused. refused ≡ unwrap_or (option_map given_fault fault) Memory) }
     {
-        let room = Room {
-            others: 0,
-            limit: u32::MAX,
-        };
-        self.body.properties.give(number, false, None, room)?;
+        self.body.properties.give(number, false, None, LOST_ROOM)?;
         self.body.properties.lose();
         Ok(())
     }
