@@ -10,7 +10,7 @@ use Rattle.std.proofs.lemmas.Map.Keys.{sorted_tail}
 use Rattle.std.proofs.lemmas.Bool.{cases_lt}
 use Rattle.inf_dictionary.specs.Texts.{AreRising, Text, is_below, rank_of}
 
-abbrev order : Text → Text → Ordering
+abbrev pub order : Text → Text → Ordering
 order = slice_cmp nat_cmp
 
 is_less : (o : Ordering) → is_lt o ≡ true → o ≡ Less
@@ -48,7 +48,7 @@ rank_is text (first ∷ texts) (suc i) within parts =
     ((λ k d from to. parts.0 (suc k) d (omega arith) (omega (arith, to))), (λ k d from to. parts.1 (suc k) d (omega (arith, from)) (omega (arith, to)))) in
     rw below (omega (arith, rest))
 
-later_is_above : (texts : List Text) → AreRising texts → (i j : ℕ) (d : Text) → i < j → j < length texts
+pub later_is_above : (texts : List Text) → AreRising texts → (i j : ℕ) (d : Text) → i < j → j < length texts
     → order (slice_index_or texts i d) (slice_index_or texts j d) ≡ Less
 later_is_above [] rising i j d up within = absurd (omega (arith, within))
 later_is_above (first ∷ texts) rising i zero d up within = absurd (omega (arith, up))

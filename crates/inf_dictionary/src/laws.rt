@@ -1,7 +1,8 @@
 //! What an interpreter may rely on when it looks for a word (Z-Machine Standard 1.1, section 13.2).
-ghost use Rattle.std.specs.Prelude.{◌≡◌, ◌<◌, ◌+◌, ◌*◌, [], length, take, drop, slice_index_or};
-ghost use Rattle.inf_dictionary.specs.Texts.{AreRising, rank_of, texts_of};
-ghost use Rattle.inf_dictionary.specs.Words.{dictionary_bytes};
+ghost use Rattle.std.specs.Prelude.{◌≡◌, ◌<◌, ℕ, [], None, Some, length, slice_index_or};
+ghost use Rattle.inf_dictionary.specs.Lookup.{found_by_halves, text_written};
+ghost use Rattle.inf_dictionary.specs.Texts.{AreRising, Text, rank_of, texts_of};
+ghost use Rattle.inf_dictionary.specs.Words.{dictionary_bytes, word_of};
 
 use crate::dictionary::Dictionary;
 
@@ -16,8 +17,20 @@ pub fn texts_rise(dictionary: &Dictionary)
 pub fn word_at_its_place(dictionary: &Dictionary, place: usize)
     requires { place < length dictionary.now.list }
     ensures rank { rank_of (slice_index_or (texts_of dictionary.now.list) place []) (texts_of dictionary.now.list) ≡ place }
-    ensures text { take 6 (drop (7 + 9 * place) (dictionary_bytes dictionary.now.list))
+    ensures text { text_written (dictionary_bytes dictionary.now.list) place
         ≡ slice_index_or (texts_of dictionary.now.list) place [] }
+{
+    dictionary.is_in_order();
+}
+
+/// An interpreter that looks for a word by halves in what is written finds the place of each word that is there, which is its rank, and
+/// no other word.
+pub fn word_is_found(dictionary: &Dictionary)
+    ensures found { (place : ℕ) → place < length dictionary.now.list
+        → found_by_halves (length dictionary.now.list) (dictionary_bytes dictionary.now.list)
+        (slice_index_or (texts_of dictionary.now.list) place []) 0 (length dictionary.now.list) ≡ Some place }
+    ensures absent { (text : Text) → word_of text dictionary.now.list ≡ None
+        → found_by_halves (length dictionary.now.list) (dictionary_bytes dictionary.now.list) text 0 (length dictionary.now.list) ≡ None }
 {
     dictionary.is_in_order();
 }

@@ -1,0 +1,10 @@
+pub mod Hanging
+pub mod Merging
+pub mod Measuring
+pub mod Rows
+pub mod Falling
+pub mod Written
+pub mod Counted
+pub mod Walking
+pub mod Interpreting
+pub mod Saying

@@ -1,0 +1,23 @@
+use Rattle.std.proofs.Common.{◌≡◌, length, sym, subst}
+use Rattle.inf_cells.specs.Cells.{bytes_of, later_count}
+use Rattle.inf_objects.specs.Measures.{CountedBy}
+use Rattle.inf_objects.specs.Tables.{individual_table_cells, table_cells}
+use Rattle.inf_objects.specs.declared.sizes.Measure.{Measure}
+use Rattle.inf_objects.proofs.Counted.{counted}
+use Rattle.inf_objects.proofs.Written.{individual_table_measured, table_measured}
+use Rattle.inf_objects.proofs.sizes.measured.Goals as goal
+
+pub returns-clause-table : goal.returns-clause-table
+returns-clause-table c =
+    let o = c.args.object.now in
+    λ part. subst (λ (m : Measure). (length (bytes_of (table_cells part o)) ≡ m.table.bytes) × (later_count (table_cells part o) ≡ m.table.later)) (sym c.measure_by.ensures)
+    (table_measured part o c.as_slice.ensures.once c.as_slice.ensures.free)
+
+pub returns-clause-individual_table : goal.returns-clause-individual_table
+returns-clause-individual_table c =
+    let o = c.args.object.now in
+    subst (λ (m : Measure). (length (bytes_of (individual_table_cells o)) ≡ m.individual_table.bytes) × (later_count (individual_table_cells o) ≡ m.individual_table.later)) (sym c.measure_by.ensures)
+    (individual_table_measured o)
+
+pub returns-clause-counted : goal.returns-clause-counted
+returns-clause-counted c = let o = c.args.object.now in subst (λ m. CountedBy o.owner o m) (sym c.measure_by.ensures) (counted o)

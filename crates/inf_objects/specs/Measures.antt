@@ -1,0 +1,59 @@
+-- How much of the areas an object needs.
+use Rattle.std.specs.Prelude.{◌+◌, ◌*◌, ◌≡◌, List, Bool, true, false, length, sum_by, if◌then◌else◌}
+use Rattle.inf_properties.specs.declared.values.Property.{Property}
+use Rattle.inf_properties.specs.declared.sizes.Owner.{Owner}
+use Rattle.inf_properties.specs.declared.sizes.Owner.TheVariants as owner
+use Rattle.inf_properties.specs.Sizes.{size_of}
+use Rattle.inf_objects.specs.declared.objects.Object.{Object}
+use Rattle.inf_objects.specs.declared.sizes.Part.{Part}
+use Rattle.inf_objects.specs.declared.sizes.Measure.{Measure}
+use Rattle.inf_objects.specs.Objects.{list_bytes, object_bytes, object_fixups}
+use Rattle.inf_objects.specs.Tables.{has_individual, is_individual}
+
+abbrev pub part_of : Property → Part
+part_of p = record { bytes = (size_of owner.Object p).bytes; later = (size_of owner.Object p).fixups }
+
+abbrev pub no_part : Part
+no_part = record { bytes = 0; later = 0 }
+
+-- of a property, if it is individual as asked, or declared
+abbrev pub kind_part : Bool → Property → Part
+kind_part individual p = if is_individual p then (if individual then part_of p else no_part) else (if individual then no_part else part_of p)
+
+abbrev pub parts_of : Bool → List Property → Part
+parts_of individual properties = record { bytes = sum_by (λ p. (kind_part individual p).bytes) properties; later = sum_by (λ p. (kind_part individual p).later) properties }
+
+-- the property table: the short name, the list of classes, the properties, the address of an individual table
+abbrev pub table_part : Object → Part
+table_part o = record {
+  bytes = 2 + length o.name + list_bytes (length o.classes) + (parts_of false o.properties).bytes + (if has_individual o.properties then 3 else 0);
+  later = (parts_of false o.properties).later + (if has_individual o.properties then 1 else 0);
+}
+
+-- the individual table, where there is one
+abbrev pub individual_table_part : Object → Part
+individual_table_part o =
+    if has_individual o.properties then record { bytes = (parts_of true o.properties).bytes + 2; later = (parts_of true o.properties).later }
+    else no_part
+
+abbrev pub bare_part : Object → Part
+bare_part o = record { bytes = 2 + length o.name; later = 0 }
+
+-- of a class only the short name is written
+abbrev pub measure_by : Owner → Object → Measure
+measure_by owner.Object o = record { table = table_part o; individual_table = individual_table_part o }
+measure_by owner.Class o = record { table = bare_part o; individual_table = no_part }
+measure_by owner.Nothing o = record { table = bare_part o; individual_table = no_part }
+
+abbrev pub measured : Object → Measure
+measured o = measure_by o.owner o
+
+-- What is written is what an object counts, with the address of its table among what is known later; a class counts two bytes for each value
+-- that it holds besides.
+abbrev pub CountedBy : Owner → Object → Measure → Type 0
+CountedBy owner.Object o m =
+    (m.table.bytes + m.individual_table.bytes ≡ object_bytes o) × (m.table.later + m.individual_table.later + 1 ≡ object_fixups o)
+CountedBy owner.Class o m =
+    (m.table.bytes + m.individual_table.bytes + 2 * sum_by (λ (p : Property). length p.values) o.properties ≡ object_bytes o)
+    × (m.table.later + m.individual_table.later + 1 ≡ object_fixups o)
+CountedBy owner.Nothing o m = Unit {0}

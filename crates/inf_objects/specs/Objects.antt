@@ -1,0 +1,108 @@
+-- Objects and classes, and what was read of one whose body is open (Designer's Manual, fourth edition, section 3).
+use Rattle.std.specs.Prelude.{ℕ, ◌+◌, ◌*◌, List, [], ◌∷◌, ◌++◌, ◌==◌, ◌||◌, Bool, true, false, Option, Some, None, length, nat_lt, slice_set, if◌then◌else◌}
+use Rattle.inf_properties.specs.declared.sizes.Owner.{Owner}
+use Rattle.inf_properties.specs.declared.sizes.Owner.TheVariants as owner
+use Rattle.inf_properties.specs.declared.sizes.Room.{Room}
+use Rattle.inf_properties.specs.declared.open.GiveFault.{GiveFault}
+use Rattle.inf_properties.specs.declared.open.GiveFault.TheVariants as fault
+use Rattle.inf_properties.specs.Open.{all, class_fault, opened, with_class}
+use Rattle.inf_properties.specs.Sizes.{table_bytes, total, with_table}
+use Rattle.inf_objects.specs.Attributes.{attributes_by, no_attributes, nothing_said, together}
+use Rattle.inf_objects.specs.declared.body.Body.{Body}
+use Rattle.inf_objects.specs.declared.objects.Object.{Object}
+
+-- Classes
+
+abbrev pub has_number : ℕ → List ℕ → Bool
+has_number number [] = false
+has_number number (n ∷ numbers) = n == number || has_number number numbers
+
+-- those of a class that are new behind others and behind the class itself
+abbrev pub new_classes : List ℕ → ℕ → List ℕ → List ℕ
+new_classes own number [] = []
+new_classes own number (n ∷ classes) = if n == number || has_number n own then new_classes own number classes else n ∷ new_classes own number classes
+
+-- an object's classes behind one more: the class, then those of its classes that are not there yet
+abbrev pub joined_classes : List ℕ → ℕ → List ℕ → List ℕ
+joined_classes own number classes = own ++ number ∷ [] ++ new_classes own number classes
+
+-- Bodies
+
+-- a body behind its header
+abbrev pub begun : Owner → ℕ → ℕ → List ℕ → Body
+begun owner parent arrows name =
+    record { parent = parent; arrows = arrows; name = name; said = nothing_said; above = no_attributes; classes = []; properties = opened owner }
+
+-- what was read where no body is open
+abbrev pub nothing_read : Body
+nothing_read = begun owner.Nothing 0 0 []
+
+-- `has` gives an attribute, or takes it away
+abbrev pub with_said : ℕ → Bool → Body → Body
+with_said number is_given body = record body { said = slice_set body.said number (Some is_given) }
+
+-- a class is named
+abbrev pub with_joined_class : ℕ → Object → Body → Body
+with_joined_class number class body =
+    record body { classes = joined_classes body.classes number class.classes; above = together body.above class.attributes; properties = with_class class.properties body.properties }
+
+abbrev pub is_lost : Owner → Bool
+is_lost owner.Object = false
+is_lost owner.Class = false
+is_lost owner.Nothing = true
+
+-- a class is passed over that the body has already; a body that belongs to nothing takes none
+abbrev pub is_passed : ℕ → Body → Bool
+is_passed number body = is_lost body.properties.owner || has_number number body.classes
+
+abbrev pub with_named_class : ℕ → Object → Body → Body
+with_named_class number class body = if is_passed number body then body else with_joined_class number class body
+
+-- the object, if the body ended here
+abbrev pub ended : Body → Object
+ended body = record {
+  owner = body.properties.owner;
+  parent = body.parent;
+  arrows = body.arrows;
+  attributes = attributes_by body.above body.said;
+  name = body.name;
+  classes = body.classes;
+  properties = all body.properties;
+}
+
+-- What an object needs of the bytes that there may be.
+
+-- the list of classes in a property table
+abbrev pub list_bytes : ℕ → ℕ
+list_bytes count = if count == 0 then 0 else if count == 1 then 3 else 2 + 2 * count
+
+-- its short name with a byte before it and a 0 behind the properties, and the list of its classes
+abbrev pub head_bytes : Owner → ℕ → ℕ → ℕ
+head_bytes owner.Object name classes = 2 + name + list_bytes classes
+head_bytes owner.Class name classes = 2 + name
+head_bytes owner.Nothing name classes = 0
+
+-- with all that it has of properties; a class counts two bytes for each value that it holds
+abbrev pub object_bytes : Object → ℕ
+object_bytes o = head_bytes o.owner (length o.name) (length o.classes) + table_bytes o.owner o.properties
+
+-- how many of the numbers in it are known later: the address of its table, and those among its values
+abbrev pub head_fixups : Owner → ℕ
+head_fixups owner.Object = 1
+head_fixups owner.Class = 1
+head_fixups owner.Nothing = 0
+
+abbrev pub object_fixups : Object → ℕ
+object_fixups o = head_fixups o.owner + (with_table (total o.owner o.properties)).fixups
+
+-- Why a class is refused.
+
+-- the room for properties beside a class list of so many
+abbrev pub room_with : ℕ → Room → Body → Room
+room_with classes room body = record room { others = room.others + head_bytes body.properties.owner (length body.name) classes }
+
+abbrev pub join_fault : ℕ → Object → Room → Body → Option GiveFault
+join_fault number class room body =
+    if is_passed number body then None
+    else if nat_lt 32 (length (joined_classes body.classes number class.classes)) then Some fault.TooLong
+    else class_fault class.properties (room_with (length (joined_classes body.classes number class.classes)) room body) body.properties

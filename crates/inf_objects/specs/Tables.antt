@@ -1,0 +1,109 @@
+-- Property tables and individual tables (Z-Machine Standard 1.1, section 12.4; Inform Technical Manual, section 9).
+use Rattle.std.specs.Prelude.{ℕ, zero, suc, ◌+◌, ◌*◌, ◌/◌, ◌%◌, List, [], ◌∷◌, ◌++◌, ◌==◌, Bool, false, length, nat_le, option_to_list, if◌then◌else◌}
+use Rattle.std.specs.List.{list_any}
+use Rattle.inf_area.specs.declared.targets.AreaName.TheVariants as area_name
+use Rattle.inf_area.specs.declared.targets.Target.TheVariants as target
+use Rattle.inf_area.specs.declared.targets.Value.{Value}
+use Rattle.inf_area.specs.declared.targets.Value.TheVariants as value
+use Rattle.inf_cells.specs.Cells.{values_cells, word_cells}
+use Rattle.inf_cells.specs.declared.cells.Cell.{Cell}
+use Rattle.inf_cells.specs.declared.cells.Cell.TheVariants as cell
+use Rattle.inf_properties.specs.declared.values.Property.{Property}
+use Rattle.inf_properties.specs.declared.sizes.Owner.{Owner}
+use Rattle.inf_properties.specs.declared.sizes.Owner.TheVariants as owner
+use Rattle.inf_properties.specs.Properties.{found}
+use Rattle.inf_objects.specs.declared.objects.Object.{Object}
+
+-- bytes as cells
+abbrev pub byte_cells : List ℕ → List Cell
+byte_cells [] = []
+byte_cells (b ∷ bytes) = cell.Byte b ∷ byte_cells bytes
+
+-- a short name, behind its length in words modulo 256
+abbrev pub name_cells : List ℕ → List Cell
+name_cells name = cell.Byte (length name / 2 % 256) ∷ byte_cells name
+
+-- a property without values has one 0
+abbrev pub shown : List Value → List Value
+shown [] = value.Known 0 ∷ []
+shown (v ∷ values) = v ∷ values
+
+-- Properties that are declared
+
+-- one byte before a single word, two before more; a length of 64 bytes is told as 0 (section 12.4.2)
+abbrev pub size_cells : ℕ → ℕ → List Cell
+size_cells number count =
+    if nat_le count 1 then cell.Byte (64 + number) ∷ [] else cell.Byte (128 + number) ∷ cell.Byte (128 + 2 * count % 64) ∷ []
+
+abbrev pub row_cells : Property → List Cell
+row_cells p = size_cells p.number (length p.values) ++ values_cells (shown p.values)
+
+abbrev pub rows_cells : List Property → List Cell
+rows_cells [] = []
+rows_cells (p ∷ rows) = row_cells p ++ rows_cells rows
+
+-- the properties with numbers below one, in falling order of number
+abbrev pub falling : ℕ → List Property → List Property
+falling zero properties = []
+falling (suc number) properties = option_to_list (found number properties) ++ falling number properties
+
+-- those of a property table
+unfoldable pub all_falling : List Property → List Property
+all_falling properties = falling 64 properties
+
+-- property 2 of an object is the list of its classes, if it has any
+abbrev pub class_values : List ℕ → List Value
+class_values [] = []
+class_values (n ∷ classes) = value.Known (n % 65536) ∷ class_values classes
+
+abbrev pub class_rows : List ℕ → List Property
+class_rows [] = []
+class_rows (n ∷ classes) = record { number = 2; is_additive = false; values = class_values (n ∷ classes) } ∷ []
+
+abbrev pub is_individual : Property → Bool
+is_individual p = nat_le 64 p.number
+
+abbrev pub has_individual : List Property → Bool
+has_individual properties = list_any is_individual properties
+
+-- property 3 is the address of its individual table, if it has one
+abbrev pub address_rows : ℕ → List Property → List Property
+address_rows part properties =
+    if has_individual properties then record { number = 3; is_additive = false; values = value.Later (target.Part area_name.IndividualTables part) ∷ [] } ∷ [] else []
+
+-- all that stands in the property table of an object with a number below by one; a class has nothing there
+abbrev pub rows_by : Owner → ℕ → Object → List Property
+rows_by owner.Object part o = class_rows o.classes ++ address_rows part o.properties ++ o.properties
+rows_by owner.Class part o = []
+rows_by owner.Nothing part o = []
+
+abbrev pub rows_of : ℕ → Object → List Property
+rows_of part o = rows_by o.owner part o
+
+-- the short name, the properties in falling order, and a 0
+abbrev pub table_cells : ℕ → Object → List Cell
+table_cells part o = name_cells o.name ++ rows_cells (all_falling (rows_of part o)) ++ cell.Byte 0 ∷ []
+
+-- Individual properties, in order: the number, modulo 65536, the length in bytes, the values; then a 0 in two bytes
+
+abbrev pub individual_row_cells : Property → List Cell
+individual_row_cells p = word_cells (p.number % 65536) ++ cell.Byte (2 * length (shown p.values) % 256) ∷ [] ++ values_cells (shown p.values)
+
+abbrev pub individual_rows_cells : List Property → List Cell
+individual_rows_cells [] = []
+individual_rows_cells (p ∷ properties) = (if is_individual p then individual_row_cells p else []) ++ individual_rows_cells properties
+
+abbrev pub individual_table_by : Owner → List Property → List Cell
+individual_table_by owner.Object properties = if has_individual properties then individual_rows_cells properties ++ word_cells 0 else []
+individual_table_by owner.Class properties = []
+individual_table_by owner.Nothing properties = []
+
+abbrev pub individual_table_cells : Object → List Cell
+individual_table_cells o = individual_table_by o.owner o.properties
+
+-- what an object has of a number, by this number
+abbrev pub rows_for : ℕ → Object → ℕ → List Property
+rows_for part o number =
+    if number == 2 then class_rows o.classes
+    else if number == 3 then address_rows part o.properties
+    else option_to_list (found number o.properties)

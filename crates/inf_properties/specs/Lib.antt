@@ -1,0 +1,5 @@
+pub mod Properties
+pub mod Values
+pub mod Sizes
+pub mod Places
+pub mod Open

@@ -1,0 +1,447 @@
+//! The properties of a body that is being read.
+ghost use Rattle.std.specs.Prelude.{◌≡◌, ◌<◌, ◌≤◌, ◌^◌, ◌++◌, ◌∷◌, [], true, false, length, IfOk, IfSome, IfNone, IsSome, OnOk, OnErr, MatchResult, None, option_to_list};
+ghost use Rattle.inf_properties.specs.declared.open.GiveFault.TheVariants.{Memory};
+ghost use Rattle.inf_properties.specs.Places.{AreAt};
+ghost use Rattle.inf_properties.specs.Properties.{has, joined_values};
+ghost use Rattle.inf_properties.specs.Open.{full_fault};
+ghost use Rattle.inf_properties.specs.Values.{with_last_value};
+ghost use Rattle.inf_properties.specs.Sizes.{joined_count, joined_size, later_count, size_by, size_option};
+
+use crate::lists::{Properties, cover_all, inherited, place_all, total_within};
+use crate::places::{cover, find};
+use crate::sizes::{MOST_VALUES, NO_SIZE, Owner, Room, Size, are_short, later_count};
+use crate::values::{Property, Values};
+use inf_area::Value;
+use std::alloc::{AllocError, AllocFailed, Global};
+use std::marker::Model;
+
+/// Why a property, a value or a class was not taken.
+#[derive(Clone, Copy, Debug, PartialEq, Eq)]
+pub enum GiveFault {
+    /// The body gave the property already.
+    Given,
+    /// A property would have more than 32 values.
+    TooLong,
+    /// The tables would have more bytes than there is room for.
+    Full,
+    /// No memory was left.
+    Memory,
+}
+
+impl From<AllocError> for GiveFault {
+    ghost from_gives = { λ _ fault. fault ≡ Memory };
+
+    fn from(_error: AllocError) -> GiveFault {
+        GiveFault::Memory
+    }
+}
+
+impl<T: Drop> From<AllocFailed<T>> for GiveFault {
+    ghost from_gives = { λ _ fault. fault ≡ Memory };
+
+    fn from(_error: AllocFailed<T>) -> GiveFault {
+        GiveFault::Memory
+    }
+}
+
+/// The properties of a body that is being read: those that it gave, and those of the classes that it named.
+///
+/// Each call that takes something refuses what would need more bytes than there is room for, and leaves all as it was then.
+#[derive(Drop)]
+pub struct OpenProperties {
+    alloc: Global,
+    owner: Owner,
+    own: Vec<Property>,
+    above: Vec<Property>,
+    takes_values: bool,
+    own_places: Vec<usize>,
+    above_places: Vec<usize>,
+    // What all properties need if the body ended here.
+    size: Size,
+}
+
+impl Model for OpenProperties {
+    ghost use Rattle.inf_properties.specs.Open.{IsOpen, Open};
+
+    ghost Value = { Open };
+
+    ghost view = { λ o. record { owner = o.owner; own = o.own.items; above = o.above.items; takes_values = o.takes_values } };
+
+    ghost invariant = { λ o. IsOpen o.owner o.own.items o.above.items o.own_places.items o.above_places.items o.size };
+}
+
+/// What a property needs that has so many values of its own, so many of them known later, and behind them those of classes, if it is
+/// additive; none where these would be more than 32.
+fn joined_size(
+    owner: Owner,
+    number: usize,
+    is_additive: bool,
+    own: (usize, usize),
+    above: &[Value],
+) -> Option<Size>
+    requires count { own.0 ≤ 33 }
+    requires later { own.1 ≤ 33 }
+    ensures some { IfSome result (λ size. size ≡ joined_size owner number is_additive own.0 own.1 above.now) }
+    ensures short { IsSome result → joined_count is_additive own.0 above.now ≤ 32 }
+    ensures little { IfSome result (λ size. (size.bytes ≤ 67) × (size.fixups ≤ 65) × (size.individuals ≤ 1)) }
+    ensures long { IfNone result (32 < joined_count is_additive own.0 above.now) }
+{
+    let (more, more_later) = if is_additive {
+        (above.len(), later_count(above))
+    } else {
+        (0, 0)
+    };
+    if own.0 + more > MOST_VALUES {
+        return None;
+    }
+    Some(owner.size_by(number, own.0 + more, own.1 + more_later))
+}
+
+/// How many values there are, and how many of them are known later.
+fn counts(first: Option<Value>) -> (usize, usize)
+    ensures count { result.0 ≡ length (option_to_list first) }
+    ensures later { result.1 ≡ later_count (option_to_list first) }
+{
+    match first {
+        None => (0, 0),
+        Some(Value::Known(_)) => (1, 0),
+        Some(Value::Later(_)) => (1, 1),
+    }
+}
+
+/// What a property needs with the values of classes, as it is and with one value more; none where these would be more than 32.
+fn value_sizes(
+    owner: Owner,
+    property: &Property,
+    above: &[Value],
+    value: Value,
+) -> Option<(Size, Size)>
+    requires { length property.now.values ≤ 32 }
+    ensures before { let values = joined_values property.now.is_additive property.now.values above.now in
+        IfSome result (λ sizes. sizes.0 ≡ size_by owner property.now.number (length values) (later_count values)) }
+    ensures after { let values = joined_values property.now.is_additive (property.now.values ++ value ∷ []) above.now in
+        IfSome result (λ sizes. sizes.1 ≡ size_by owner property.now.number (length values) (later_count values)) }
+    ensures short { IsSome result
+        → length (joined_values property.now.is_additive (property.now.values ++ value ∷ []) above.now) ≤ 32 }
+    ensures long { IfNone result
+        (32 < length (joined_values property.now.is_additive (property.now.values ++ value ∷ []) above.now)) }
+    ensures little { IfSome result (λ sizes. (sizes.1.bytes ≤ 67) × (sizes.1.fixups ≤ 65) × (sizes.1.individuals ≤ 1)) }
+{
+    let (number, is_additive) = (property.number, property.is_additive);
+    let values = property.values.as_slice();
+    let (count, later) = (values.len(), later_count(values));
+    let (more, more_later) = counts(Some(value));
+    let own = (count + more, later + more_later);
+    let after = joined_size(owner, number, is_additive, own, above)?;
+    let before = joined_size(owner, number, is_additive, (count, later), above)?;
+    Some((before, after))
+}
+
+/// The values of a property with its first value, if it has one.
+fn first_values(alloc: Global, first: Option<Value>) -> Result<Values, AllocError>
+    ensures { IfOk result (λ values. values ≡ option_to_list first) }
+{
+    let mut values = Values::new(alloc);
+    if let Some(value) = first {
+        values.push(value)?;
+    }
+    Ok(values)
+}
+
+/// Puts a property behind others, none of which has its number. Where no memory is left these stay as they were.
+fn add_last(
+    places: &mut Vec<usize>,
+    properties: &mut Vec<Property>,
+    property: Property,
+) -> Result<(), AllocError>
+    requires at { AreAt 0 places.old.items properties.old.items }
+    requires absent { has property.number properties.old.items ≡ false }
+    ensures ok { OnOk result (properties.new.items ≡ properties.old.items ++ property ∷ []) }
+    ensures err { OnErr result (properties.new.items ≡ properties.old.items) }
+    ensures at { AreAt 0 places.new.items properties.new.items }
+{
+    let (number, place) = (property.number, properties.len());
+    cover(places, number)?;
+    properties.push(property)?;
+    places[number] = place;
+    Ok(())
+}
+
+/// A further value of the last property, if there is one. Where no memory is left the properties stay as they were.
+fn push_value(properties: &mut Vec<Property>, value: Value) -> Result<(), AllocError>
+    ensures ok { OnOk result (properties.new.items ≡ with_last_value value properties.old.items) }
+    ensures err { OnErr result (properties.new.items ≡ properties.old.items) }
+{
+    let count = properties.len();
+    if count > 0 {
+        let last = &mut properties[count - 1];
+        last.values.push(value)?;
+    }
+    Ok(())
+}
+
+/// That there is no room, where properties that need so much have none.
+fn full_fault(size: Size, room: Room) -> Option<GiveFault>
+    requires bytes { size.bytes < 2 ^ 33 }
+    requires fixups { size.fixups < 2 ^ 33 }
+    ensures { result ≡ full_fault size room }
+{
+    if room.lacks(size.with_table().bytes) {
+        Some(GiveFault::Full)
+    } else {
+        None
+    }
+}
+
+impl OpenProperties {
+    ghost use Rattle.inf_properties.specs.Open.{all, class_fault, class_refused, give_fault, given_first, opened, is_last_short, refusal, value_fault, with_class, with_given, with_value};
+    ghost use Rattle.inf_properties.specs.Properties.{found, has, inherited, is_reserved, joined, values_in, values_of};
+    ghost use Rattle.inf_properties.specs.Sizes.{is_short, total, with_table};
+
+    /// Those of no body. It takes no memory.
+    pub fn new(alloc: Global) -> OpenProperties
+        ensures { result ≡ opened Owner.Nothing }
+    {
+        OpenProperties {
+            alloc,
+            owner: Owner::Nothing,
+            own: Vec::new(alloc),
+            above: Vec::new(alloc),
+            takes_values: false,
+            own_places: Vec::new(alloc),
+            above_places: Vec::new(alloc),
+            size: NO_SIZE,
+        }
+    }
+
+    /// A body begins, of an object, a class, or of neither.
+    pub fn open(&mut self, owner: Owner)
+        ensures { self.new ≡ opened owner }
+    {
+        self.owner = owner;
+        self.own.clear();
+        self.above.clear();
+        self.takes_values = false;
+        self.size = NO_SIZE;
+    }
+
+    /// Whose body it is.
+    pub fn owner(&self) -> Owner
+        ensures { result ≡ self.now.owner }
+    {
+        self.owner
+    }
+
+    /// Whether the body gave a property.
+    pub fn is_given(&self, number: usize) -> bool
+        ensures { result ≡ has number self.now.own }
+    {
+        find(&self.own_places, &self.own, number).is_some()
+    }
+
+    /// What the properties need if the body ended here, with the end of an individual table, and the property that has its
+    /// address, where there is one.
+    pub fn size(&self) -> Size
+        ensures value { result ≡ with_table (total self.now.owner (all self.now)) }
+        ensures small { result.bytes < 2 ^ 33 }
+        ensures few { result.fixups ≤ result.bytes }
+    {
+        self.size.with_table()
+    }
+
+    /// What the classes give of a property: what it needs, and its values.
+    fn above_of(&self, number: usize) -> (Size, &[Value])
+        requires { has number self.now.own ≡ false }
+        ensures size { result.0 ≡ size_option self.now.owner (found number self.now.above) }
+        ensures values { result.1.now ≡ values_in (found number self.now.above) }
+    {
+        match find(&self.above_places, &self.above, number) {
+            Some(property) => (self.owner.size_of(property), property.values.as_slice()),
+            None => (NO_SIZE, &[]),
+        }
+    }
+
+    /// What the properties need with one more, which the body did not give; none where it would have more than 32 values.
+    fn size_given(&self, number: usize, is_additive: bool, first: Option<Value>) -> Option<Size>
+        requires { has number self.now.own ≡ false }
+        ensures some { let p = given_first number is_additive first in
+            IfSome result (λ size. size ≡ total self.now.owner (inherited (self.now.own ++ p ∷ []) self.now.above)) }
+        ensures short { let p = given_first number is_additive first in
+            IsSome result → is_short (joined self.now.above p) ≡ true }
+        ensures long { let p = given_first number is_additive first in
+            IfNone result (is_short (joined self.now.above p) ≡ false) }
+        ensures small { IfSome result (λ size. (size.bytes < 2 ^ 33) × (size.fixups < 2 ^ 33)) }
+    {
+        let (lost, above) = self.above_of(number);
+        let gained = joined_size(self.owner, number, is_additive, counts(first), above)?;
+        Some(self.size.changed(lost, gained))
+    }
+
+    /// The body gives a property, with its first value if it has one; it is of the same kind wherever it is given. Its number is
+    /// neither 2 nor 3.
+    ///
+    /// Refuses it where the body gave it already, then where it would have more than 32 values with those of additive classes, then
+    /// where there is no room, then where no memory is left.
+    pub fn give(
+        &mut self,
+        number: usize,
+        is_additive: bool,
+        first: Option<Value>,
+        room: Room,
+    ) -> Result<(), GiveFault>
+        requires { is_reserved number ≡ false }
+        ensures ok { OnOk result (self.new ≡ with_given (given_first number is_additive first) self.old) }
+        ensures err { OnErr result (self.new ≡ self.old) }
+        ensures fault { let fault = give_fault (given_first number is_additive first) room self.old in
+            MatchResult result (λ _. fault ≡ None) (λ refused. refused ≡ refusal fault) }
+    {
+        if self.is_given(number) {
+            return Err(GiveFault::Given);
+        }
+        let Some(size) = self.size_given(number, is_additive, first) else {
+            return Err(GiveFault::TooLong);
+        };
+        if room.lacks(size.with_table().bytes) {
+            return Err(GiveFault::Full);
+        }
+        let values = first_values(self.alloc, first)?;
+        let property = Property {
+            number,
+            is_additive,
+            values,
+        };
+        add_last(&mut self.own_places, &mut self.own, property)?;
+        self.takes_values = true;
+        self.size = size;
+        Ok(())
+    }
+
+    /// A further value of the property that was given last. Behind one that was lost it gives nothing.
+    ///
+    /// Refuses it where the property would have more than 32 values with those of additive classes, then where there is no room,
+    /// then where no memory is left.
+    pub fn add_value(&mut self, value: Value, room: Room) -> Result<(), GiveFault>
+        ensures ok { OnOk result (self.new ≡ with_value value self.old) }
+        ensures err { OnErr result (self.new ≡ self.old) }
+        ensures fault { let fault = value_fault value room self.old in
+            MatchResult result (λ _. fault ≡ None) (λ refused. refused ≡ refusal fault) }
+    {
+        if !self.takes_values {
+            return Ok(());
+        }
+        let Some(size) = self.size_with(value) else {
+            return Err(GiveFault::TooLong);
+        };
+        if room.lacks(size.with_table().bytes) {
+            return Err(GiveFault::Full);
+        }
+        push_value(&mut self.own, value)?;
+        self.size = size;
+        Ok(())
+    }
+
+    /// Why `give` would refuse a property, whatever memory there is.
+    pub fn give_fault(
+        &self,
+        number: usize,
+        is_additive: bool,
+        first: Option<Value>,
+        room: Room,
+    ) -> Option<GiveFault>
+        ensures { result ≡ give_fault (given_first number is_additive first) room self.now }
+    {
+        let is_given = self.is_given(number);
+        if is_given {
+            return Some(GiveFault::Given);
+        }
+        match self.size_given(number, is_additive, first) {
+            None => Some(GiveFault::TooLong),
+            Some(size) => full_fault(size, room),
+        }
+    }
+
+    /// Why `add_value` would refuse a further value, whatever memory there is.
+    pub fn value_fault(&self, value: Value, room: Room) -> Option<GiveFault>
+        ensures { result ≡ value_fault value room self.now }
+    {
+        if !self.takes_values {
+            return None;
+        }
+        match self.size_with(value) {
+            None => Some(GiveFault::TooLong),
+            Some(size) => full_fault(size, room),
+        }
+    }
+
+    /// What the properties need with a further value of the one that was given last; none where it would have more than 32.
+    fn size_with(&self, value: Value) -> Option<Size>
+        ensures some { IfSome result (λ size. size ≡ total self.now.owner (inherited (with_last_value value self.now.own) self.now.above)) }
+        ensures short { IsSome result → is_last_short self.now.above (with_last_value value self.now.own) ≡ true }
+        ensures long { IfNone result (is_last_short self.now.above (with_last_value value self.now.own) ≡ false) }
+        ensures small { IfSome result (λ size. (size.bytes < 2 ^ 33) × (size.fixups < 2 ^ 33)) }
+    {
+        let Some((last, _)) = self.own.as_slice().split_last() else {
+            return Some(self.size);
+        };
+        let above = self.values_above(last.number);
+        let (before, after) = value_sizes(self.owner, last, above, value)?;
+        Some(self.size.changed(before, after))
+    }
+
+    /// The values that the classes give of a property.
+    fn values_above(&self, number: usize) -> &[Value]
+        ensures { result.now ≡ values_of number self.now.above }
+    {
+        match find(&self.above_places, &self.above, number) {
+            Some(property) => property.values.as_slice(),
+            None => &[],
+        }
+    }
+
+    /// What follows gives nothing, up to the next property.
+    pub fn lose(&mut self)
+        ensures { self.new ≡ record self.old { takes_values = false } }
+    {
+        self.takes_values = false;
+    }
+
+    /// The body names a class, which has these properties.
+    ///
+    /// The lists are made first. Then it is refused where a property would have more than 32 values, then where there is no room.
+    pub fn inherit(&mut self, class: &Properties, room: Room) -> Result<(), GiveFault>
+        ensures ok { OnOk result (self.new ≡ with_class class.now self.old) }
+        ensures err { OnErr result (self.new ≡ self.old) }
+        ensures fault { let fault = class_fault class.now room self.old in
+            MatchResult result (λ _. fault ≡ None) (class_refused fault) }
+    {
+        let above = inherited(
+            self.alloc,
+            &self.above,
+            &self.above_places,
+            class.as_slice(),
+        )?;
+        let all = inherited(self.alloc, &self.own, &self.own_places, &above)?;
+        if !are_short(&all) {
+            return Err(GiveFault::TooLong);
+        }
+        let Some(size) = total_within(self.owner, &all, room.limit) else {
+            return Err(GiveFault::Full);
+        };
+        if room.lacks(size.with_table().bytes) {
+            return Err(GiveFault::Full);
+        }
+        cover_all(&mut self.above_places, &above)?;
+        place_all(self.above_places.as_mut_slice(), &above);
+        self.above = above;
+        self.size = size;
+        Ok(())
+    }
+
+    /// All properties if the body ended here: its own, then what it lacks of its classes', additive ones joined.
+    pub fn complete(&self) -> Result<Properties, AllocError>
+        ensures { IfOk result (λ properties. properties ≡ all self.now) }
+    {
+        let list = inherited(self.alloc, &self.own, &self.own_places, &self.above)?;
+        Ok(Properties::from_list(list))
+    }
+}

@@ -1,0 +1,4 @@
+pub mod Faults
+pub mod Objects
+pub mod World
+pub mod Areas

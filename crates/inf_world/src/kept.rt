@@ -1,0 +1,64 @@
+//! What a world keeps of its objects, and how it is looked up.
+ghost use Rattle.std.specs.Prelude.{◌≡◌, ◌<◌, ◌≤◌, ◌++◌, ◌∷◌, ℕ, [], None, Some, length, option_map, slice_get, vec_len, vec_capacity, if◌then◌else◌};
+ghost use Rattle.inf_world.specs.Objects.{class_at, has_arrows, or_latest};
+ghost use Rattle.inf_world.specs.World.{later_defaults};
+
+use crate::kinds::Declared;
+use crate::world::SYSTEM_OBJECTS;
+use inf_area::Value;
+use inf_objects::Object;
+use inf_properties::Owner;
+
+/// The class of a number.
+pub(crate) fn class_of(objects: &[Object], number: usize) -> Option<&Object>
+    ensures { option_map (λ o. o.now) result ≡ class_at number objects.now }
+{
+    if number <= SYSTEM_OBJECTS {
+        return None;
+    }
+    match objects.get(number - SYSTEM_OBJECTS - 1) {
+        Some(object) if object.owner == Owner::Class => Some(object),
+        _ => None,
+    }
+}
+
+/// How many defaults are known later.
+pub(crate) fn later_defaults(declared: &[Declared]) -> usize
+    requires { length declared.now ≤ 60 }
+    ensures value { result ≡ later_defaults declared.now }
+    ensures few { result ≤ 60 }
+{
+    let mut count = 0;
+    for property in declared {
+        if matches!(property.default, Value::Later(_)) {
+            count += 1;
+        }
+    }
+    count
+}
+
+/// Puts an object behind others, for which there is room.
+pub(crate) fn push_object(objects: &mut Vec<Object>, object: Object)
+    requires { vec_len objects.old < vec_capacity objects.old }
+    ensures { objects.new.items ≡ objects.old.items ++ object ∷ [] }
+{
+    let _added = objects.push(object);
+}
+
+/// An object with a number is the latest that has so many arrows, for which there is room. A class has none.
+pub(crate) fn note_latest(latest: &mut Vec<usize>, object: &Object, number: usize)
+    requires room { vec_len latest.old < vec_capacity latest.old }
+    requires arrows { object.now.arrows ≤ length latest.old.items }
+    ensures latest { (arrows : ℕ) → slice_get latest.new.items arrows
+        ≡ or_latest (if has_arrows arrows object.now then Some number else None) (slice_get latest.old.items arrows) }
+    ensures longer { length latest.old.items ≤ length latest.new.items }
+{
+    if object.owner == Owner::Class {
+        return;
+    }
+    if object.arrows < latest.len() {
+        latest[object.arrows] = number;
+    } else {
+        let _added = latest.push(number);
+    }
+}

@@ -1,0 +1,599 @@
+//! The world as its source tells it.
+ghost use Rattle.std.specs.Prelude.{◌≡◌, ◌+◌, ◌<◌, ◌≤◌, ◌^◌, max, List, ℕ, [], ◌∷◌, None, Some, false, true, length, unwrap_or, option_map, slice_get, sum_by, IfOk, IsSome, OnOk, OnErr, MatchResult};
+ghost use Rattle.inf_properties.specs.Properties.{has, is_reserved};
+ghost use Rattle.inf_properties.specs.declared.sizes.Owner.TheVariants as owner;
+ghost use Rattle.inf_properties.specs.Open.{give_fault, given_first, with_given};
+ghost use Rattle.inf_objects.specs.Objects.{begun, is_lost, object_bytes, object_fixups};
+ghost use Rattle.inf_world.specs.Objects.{IsReached, arrows_of, is_object, latest_with, parent_by_arrows, parent_of};
+ghost use Rattle.inf_world.specs.World.{AreHung, IsRefused, attribute_fault, bytes_now, class_header_fault, class_of_fault, fixups_now, full_fault, further_value_fault, given_property_fault, individual_fault, kind_of, lost_given, lost_given_fault, lost_header_fault, no_body_fault, no_world, object_count, object_header_fault, property_fault, room_of, set_attribute_fault, with_attribute, with_body, with_class_header, with_class_of, with_end, with_further_value, with_given_property, with_individual, with_lost_header, with_lost_property, with_object_header, with_properties, with_property, with_set_attribute};
+ghost use Rattle.inf_world.specs.Faults.{given_fault};
+ghost use Rattle.inf_world.specs.declared.faults.AddFault.TheVariants.{Memory};
+
+use crate::faults::{AddFault, Limit, Misfit, Setting, told_fault};
+use crate::kept::{class_of, later_defaults, note_latest, push_object};
+use crate::kinds::{Declared, Limits, Parent};
+use inf_area::Value;
+use inf_objects::{ATTRIBUTES, Body, Object, ShortName};
+use inf_properties::{Owner, Room};
+use std::alloc::{AllocError, Global};
+use std::marker::Model;
+
+/// The objects `Class`, `Object`, `Routine` and `String` are there from the start.
+pub(crate) const SYSTEM_OBJECTS: usize = 4;
+
+/// The bytes of their property tables.
+const SYSTEM_BYTES: usize = 30;
+
+/// Classes are children of the object `Class`.
+const CLASS: usize = 1;
+
+const MOST_PROPERTIES: usize = 60;
+
+/// The property that every object may give: its words.
+const NAME: usize = 1;
+
+/// The number of the first property that is declared, and of the first individual one.
+pub(crate) const FIRST_DECLARED: usize = 4;
+
+const FIRST_INDIVIDUAL: usize = 64;
+
+/// What there may be of properties that belong to nothing, which need nothing.
+const LOST_ROOM: Room = Room {
+    others: 0,
+    limit: u32::MAX,
+};
+
+/// Attributes, properties, classes and objects, as far as they were read.
+///
+/// Attributes number from 0, properties from 4 (1 is `name`), individual properties from 64, objects and classes from 5. What stands
+/// with the number 0 because its declaration was in error gives nothing as a parent or a class; as a property it is one like others.
+#[derive(Drop)]
+pub struct World {
+    alloc: Global,
+    limits: Limits,
+    attributes: usize,
+    declared: Vec<Declared>,
+    individuals: u32,
+    objects: Vec<Object>,
+    is_open: bool,
+    body: Body,
+    // Under each number of arrows, the number of the latest object that has so many.
+    latest: Vec<usize>,
+    // What the tables of all objects have whose bodies ended.
+    bytes: usize,
+    fixups: usize,
+}
+
+impl Model for World {
+    ghost use Rattle.inf_world.specs.World.{IsWorld, WorldOf};
+
+    ghost Value = { WorldOf };
+
+    ghost view = { λ w. record {
+      limits = w.limits;
+      attributes = w.attributes;
+      declared = w.declared.items;
+      individuals = w.individuals;
+      objects = w.objects.items;
+      is_open = w.is_open;
+      body = w.body;
+    } };
+
+    ghost invariant = { λ w. IsWorld (record {
+      limits = w.limits;
+      attributes = w.attributes;
+      declared = w.declared.items;
+      individuals = w.individuals;
+      objects = w.objects.items;
+      is_open = w.is_open;
+      body = w.body;
+    }) w.latest.items w.bytes w.fixups };
+}
+
+impl World {
+    /// A world with the first four objects. It takes no memory.
+    pub fn new(alloc: Global, limits: Limits) -> World
+        ensures { result ≡ no_world limits }
+    {
+        World {
+            alloc,
+            limits,
+            attributes: 0,
+            declared: Vec::new(alloc),
+            individuals: 0,
+            objects: Vec::new(alloc),
+            is_open: false,
+            body: Body::new(alloc),
+            latest: Vec::new(alloc),
+            bytes: SYSTEM_BYTES,
+            fixups: SYSTEM_OBJECTS,
+        }
+    }
+
+    // Declarations
+
+    /// Declares an attribute, and answers its number. Refuses the 49th.
+    pub fn declare_attribute(&mut self) -> Result<usize, AddFault>
+        ensures ok { OnOk result (self.new ≡ with_attribute self.old) }
+        ensures number { IfOk result (λ number. number ≡ self.old.attributes) }
+        ensures err { OnErr result (self.new ≡ self.old) }
+        ensures fault { let fault = attribute_fault self.old in
+            MatchResult result (λ _. fault ≡ None) (λ refused. fault ≡ Some refused) }
+    {
+        if self.attributes >= ATTRIBUTES {
+            return Err(AddFault::Limit(Limit::Attributes));
+        }
+        self.attributes += 1;
+        Ok(self.attributes - 1)
+    }
+
+    /// Declares a property with what an object without it answers, and answers its number.
+    ///
+    /// Refuses the 61st, then where no memory is left.
+    pub fn declare_property(&mut self, is_additive: bool, default: Value) -> Result<usize, AddFault>
+        ensures ok { OnOk result (self.new ≡ with_property is_additive default self.old) }
+        ensures number { IfOk result (λ number. number ≡ 4 + length self.old.declared) }
+        ensures err { OnErr result (self.new ≡ self.old) }
+        ensures fault { let fault = property_fault self.old in
+            MatchResult result (λ _. fault ≡ None) (λ refused. refused ≡ unwrap_or fault Memory) }
+    {
+        let count = self.declared.len();
+        if count >= MOST_PROPERTIES {
+            return Err(AddFault::Limit(Limit::Properties));
+        }
+        self.declared.push(Declared {
+            is_additive,
+            default,
+        })?;
+        Ok(FIRST_DECLARED + count)
+    }
+
+    /// Declares an individual property, and answers its number. Refuses one more than numbers of 32 bits can count.
+    pub fn declare_individual(&mut self) -> Result<usize, AddFault>
+        ensures ok { OnOk result (self.new ≡ with_individual self.old) }
+        ensures number { IfOk result (λ number. number ≡ 64 + self.old.individuals) }
+        ensures err { OnErr result (self.new ≡ self.old) }
+        ensures fault { let fault = individual_fault self.old in
+            MatchResult result (λ _. fault ≡ None) (λ refused. fault ≡ Some refused) }
+    {
+        let number = FIRST_INDIVIDUAL + self.individuals as usize;
+        if self.individuals == u32::MAX {
+            return Err(AddFault::Limit(Limit::IndividualProperties));
+        }
+        self.individuals += 1;
+        Ok(number)
+    }
+
+    // Headers
+
+    /// Begins a class, whose body follows. Answers its number.
+    ///
+    /// Refuses it inside of a body, then where there would be more objects or bytes than there may be.
+    pub fn begin_class(&mut self, name: ShortName) -> Result<usize, AddFault>
+        ensures ok { OnOk result (self.new ≡ with_class_header name self.old) }
+        ensures number { IfOk result (λ number. number ≡ 5 + length self.old.objects) }
+        ensures err { OnErr result (self.new ≡ self.old) }
+        ensures fault { let fault = class_header_fault name self.old in
+            MatchResult result (λ _. fault ≡ None) (λ refused. fault ≡ Some refused) }
+    {
+        if self.is_open {
+            return Err(AddFault::Misfit(Misfit::BodyIsOpen));
+        }
+        self.begin(Owner::Class, CLASS, 0, name)
+    }
+
+    /// Begins an object, whose body follows. Answers its number.
+    ///
+    /// Refuses it inside of a body, where its parent is no object or a class, or where no object has one arrow less, then where there
+    /// would be more objects or bytes than there may be.
+    pub fn begin_object(&mut self, parent: Parent, name: ShortName) -> Result<usize, AddFault>
+        ensures ok { OnOk result (self.new ≡ with_object_header parent name self.old) }
+        ensures number { IfOk result (λ number. number ≡ 5 + length self.old.objects) }
+        ensures err { OnErr result (self.new ≡ self.old) }
+        ensures fault { let fault = object_header_fault parent name self.old in
+            MatchResult result (λ _. fault ≡ None) (λ refused. fault ≡ Some refused) }
+    {
+        if self.is_open {
+            return Err(AddFault::Misfit(Misfit::BodyIsOpen));
+        }
+        match self.parent_number(parent) {
+            Ok(number) => self.begin(Owner::Object, number, parent.arrows(), name),
+            Err(misfit) => Err(AddFault::Misfit(misfit)),
+        }
+    }
+
+    /// Begins a body that belongs to nothing, since its header was in error. What it gives is only looked at for properties that it
+    /// gave already. Refuses it inside of a body.
+    pub fn begin_lost(&mut self) -> Result<(), AddFault>
+        ensures ok { OnOk result (self.new ≡ with_lost_header self.old) }
+        ensures err { OnErr result (self.new ≡ self.old) }
+        ensures fault { let fault = lost_header_fault self.old in
+            MatchResult result (λ _. fault ≡ None) (λ refused. fault ≡ Some refused) }
+    {
+        if self.is_open {
+            return Err(AddFault::Misfit(Misfit::BodyIsOpen));
+        }
+        let name = ShortName::empty(self.alloc);
+        self.body.begin(self.alloc, Owner::Nothing, 0, 0, name);
+        self.is_open = true;
+        Ok(())
+    }
+
+    /// The number of a parent, where 0 is none, or why it is none: no object, a class, or no object that has one arrow less.
+    pub fn parent_number(&self, parent: Parent) -> Result<usize, Misfit>
+        ensures value { result ≡ parent_of parent self.now.objects }
+        ensures within { IfOk result (λ number. number ≤ 4 + length self.now.objects) }
+        ensures reached { IfOk result (λ _. IsReached (arrows_of parent) self.now.objects) }
+    {
+        match parent {
+            Parent::Object(number) if self.is_object(number) => Ok(number),
+            Parent::Object(_) => Err(Misfit::NotAnObject),
+            Parent::Arrows(count) => self.number_above(count),
+        }
+    }
+
+    // The number of the latest object with one arrow less; 0 without arrows.
+    fn number_above(&self, arrows: usize) -> Result<usize, Misfit>
+        ensures value { result ≡ parent_by_arrows arrows self.now.objects }
+        ensures within { IfOk result (λ number. number ≤ 4 + length self.now.objects) }
+        ensures reached { IfOk result (λ _. IsReached arrows self.now.objects) }
+    {
+        if arrows == 0 {
+            return Ok(0);
+        }
+        match self.latest_with(arrows - 1) {
+            Some(number) => Ok(number),
+            None => Err(Misfit::NothingAbove),
+        }
+    }
+
+    // The number of the latest object with so many arrows.
+    fn latest_with(&self, arrows: usize) -> Option<usize>
+        ensures { result ≡ latest_with arrows self.now.objects }
+    {
+        self.latest.get(arrows).copied()
+    }
+
+    // Whether a number is that of an object, or 0.
+    fn is_object(&self, number: usize) -> bool
+        ensures { result ≡ is_object number self.now.objects }
+    {
+        if number <= SYSTEM_OBJECTS {
+            return true;
+        }
+        match self.objects.get(number - SYSTEM_OBJECTS - 1) {
+            Some(object) => object.owner != Owner::Class,
+            None => false,
+        }
+    }
+
+    // A body begins that belongs to an object or a class, if there is room for it.
+    fn begin(
+        &mut self,
+        owner: Owner,
+        parent: usize,
+        arrows: usize,
+        name: ShortName,
+    ) -> Result<usize, AddFault>
+        requires closed { self.old.is_open ≡ false }
+        requires owner { is_lost owner ≡ false }
+        requires parent { parent ≤ 4 + length self.old.objects }
+        requires arrows { IsReached arrows self.old.objects }
+        ensures ok { OnOk result (self.new ≡ with_body (begun owner parent arrows name) self.old) }
+        ensures number { IfOk result (λ number. number ≡ 5 + length self.old.objects) }
+        ensures err { OnErr result (self.new ≡ self.old) }
+        ensures fault { let fault = full_fault (with_body (begun owner parent arrows name) self.old) in
+            MatchResult result (λ _. fault ≡ None) (λ refused. fault ≡ Some refused) }
+    {
+        let number = SYSTEM_OBJECTS + self.objects.len() + 1;
+        if number > self.limits.objects as usize {
+            return Err(AddFault::Full(Setting::Objects));
+        }
+        if self.bytes + 2 + name.as_slice().len() > self.limits.property_bytes as usize {
+            return Err(AddFault::Full(Setting::PropertyTables));
+        }
+        self.body.begin(self.alloc, owner, parent, arrows, name);
+        self.is_open = true;
+        Ok(number)
+    }
+
+    // Bodies
+
+    /// Whether the open body gave a property.
+    pub fn is_given(&self, number: usize) -> bool
+        ensures { result ≡ has number self.now.body.properties.own }
+    {
+        self.body.properties.is_given(number)
+    }
+
+    /// The open body gives a property, with its first value if it has one.
+    ///
+    /// Refuses one that would have more than 32 values with those of additive classes; one outside of a body, a number that is no
+    /// property's, and one that the body gave already; then one for which there is no room, then where no memory is left.
+    pub fn give_property(&mut self, number: usize, first: Option<Value>) -> Result<(), AddFault>
+        ensures ok { OnOk result (self.new ≡ with_given_property number first self.old) }
+        ensures err { OnErr result (self.new ≡ self.old) }
+        ensures fault { let fault = given_property_fault number first self.old in
+            MatchResult result (λ _. fault ≡ None) (λ refused. refused ≡ unwrap_or fault Memory) }
+    {
+        if !self.is_open {
+            return Err(AddFault::Misfit(Misfit::NoBody));
+        }
+        let Some(is_additive) = self.kind_of(number) else {
+            return Err(AddFault::Misfit(Misfit::NotAProperty));
+        };
+        if self.body.properties.owner() == Owner::Nothing {
+            self.give_lost(number)
+        } else {
+            self.give(number, is_additive, first)
+        }
+    }
+
+    /// A further value of the property that was given last. Behind one that was in error, and in a body that belongs to nothing, it
+    /// gives nothing.
+    ///
+    /// Refuses it where there would be more than 32, outside of a body, where there is no room, and where no memory is left.
+    pub fn add_value(&mut self, value: Value) -> Result<(), AddFault>
+        ensures ok { OnOk result (self.new ≡ with_further_value value self.old) }
+        ensures err { OnErr result (self.new ≡ self.old) }
+        ensures fault { let fault = further_value_fault value self.old in
+            MatchResult result (λ _. fault ≡ None) (λ refused. refused ≡ unwrap_or fault Memory) }
+    {
+        if !self.is_open {
+            return Err(AddFault::Misfit(Misfit::NoBody));
+        }
+        let room = self.room();
+        self.body.properties.add_value(value, room)?;
+        Ok(())
+    }
+
+    /// Why `give_property` would refuse a property, whatever memory there is.
+    pub fn give_fault(&self, number: usize, first: Option<Value>) -> Option<AddFault>
+        ensures { result ≡ given_property_fault number first self.now }
+    {
+        if !self.is_open {
+            return Some(AddFault::Misfit(Misfit::NoBody));
+        }
+        let Some(is_additive) = self.kind_of(number) else {
+            return Some(AddFault::Misfit(Misfit::NotAProperty));
+        };
+        let properties = &self.body.properties;
+        if properties.owner() == Owner::Nothing {
+            told_fault(properties.give_fault(number, false, None, LOST_ROOM))
+        } else {
+            told_fault(properties.give_fault(number, is_additive, first, self.room()))
+        }
+    }
+
+    /// Why `add_value` would refuse a further value, whatever memory there is.
+    pub fn value_fault(&self, value: Value) -> Option<AddFault>
+        ensures { result ≡ further_value_fault value self.now }
+    {
+        if !self.is_open {
+            return Some(AddFault::Misfit(Misfit::NoBody));
+        }
+        told_fault(self.body.properties.value_fault(value, self.room()))
+    }
+
+    /// A property was in error: further values give nothing, up to the next property.
+    pub fn lose_property(&mut self)
+        ensures { self.new ≡ with_lost_property self.old }
+    {
+        self.body.properties.lose();
+    }
+
+    /// The open body gives an attribute, or takes it away. Refuses it outside of a body, and a number over 47.
+    pub fn set_attribute(&mut self, number: usize, is_given: bool) -> Result<(), AddFault>
+        ensures ok { OnOk result (self.new ≡ with_set_attribute number is_given self.old) }
+        ensures err { OnErr result (self.new ≡ self.old) }
+        ensures fault { let fault = set_attribute_fault number self.old in
+            MatchResult result (λ _. fault ≡ None) (λ refused. fault ≡ Some refused) }
+    {
+        if !self.is_open {
+            return Err(AddFault::Misfit(Misfit::NoBody));
+        }
+        if number >= ATTRIBUTES {
+            return Err(AddFault::Misfit(Misfit::NotAnAttribute));
+        }
+        self.body.set_attribute(number, is_given);
+        Ok(())
+    }
+
+    /// The open body names a class. One that it has already, by name or by inheritance, is passed over, as is the number 0.
+    ///
+    /// Refuses it outside of a body, and where the number is no class's; then where a property or the list of classes would have more
+    /// than 32 values, then where there is no room. The lists are made before the last two are seen.
+    pub fn join_class(&mut self, number: usize) -> Result<(), AddFault>
+        ensures ok { OnOk result (self.new ≡ with_class_of number self.old) }
+        ensures err { OnErr result (self.new ≡ self.old) }
+        ensures fault { let fault = class_of_fault number self.old in
+            MatchResult result (λ _. fault ≡ None) (IsRefused fault) }
+    {
+        if !self.is_open {
+            return Err(AddFault::Misfit(Misfit::NoBody));
+        }
+        if number == 0 {
+            return Ok(());
+        }
+        let Some(class) = class_of(&self.objects, number) else {
+            return Err(AddFault::Misfit(Misfit::NotAClass));
+        };
+        let room = Room {
+            others: self.bytes,
+            limit: self.limits.property_bytes,
+        };
+        self.body.name_class(self.alloc, number, class, room)?;
+        Ok(())
+    }
+
+    /// The open body ends: its object is there. Refuses it outside of a body. Where no memory is left the body stays open.
+    pub fn end_body(&mut self) -> Result<(), AddFault>
+        ensures ok { OnOk result (self.new ≡ with_end self.old) }
+        ensures err { OnErr result (self.new ≡ self.old) }
+        ensures fault { let fault = no_body_fault self.old in
+            MatchResult result (λ _. fault ≡ None) (λ refused. refused ≡ unwrap_or fault Memory) }
+    {
+        if !self.is_open {
+            return Err(AddFault::Misfit(Misfit::NoBody));
+        }
+        if self.body.properties.owner() == Owner::Nothing {
+            self.end_lost();
+            return Ok(());
+        }
+        self.end()?;
+        Ok(())
+    }
+
+    // Entries of a body, case by case
+
+    // What there may be of properties beside all else.
+    fn room(&self) -> Room
+        ensures { result ≡ room_of self.now }
+    {
+        Room {
+            others: self.bytes + self.body.head_bytes(),
+            limit: self.limits.property_bytes,
+        }
+    }
+
+    // Whether a number is a property's, and whether that one is additive.
+    fn kind_of(&self, number: usize) -> Option<bool>
+        ensures value { result ≡ kind_of number self.now }
+        ensures free { IsSome result → is_reserved number ≡ false }
+    {
+        match number {
+            0 => Some(false),
+            NAME => Some(true),
+            2 | 3 => None,
+            _ if number < FIRST_INDIVIDUAL => self.declared_kind(number - FIRST_DECLARED),
+            _ if number - FIRST_INDIVIDUAL < self.individuals as usize => Some(false),
+            _ => None,
+        }
+    }
+
+    // Whether the property at a place among those that were declared is additive.
+    fn declared_kind(&self, place: usize) -> Option<bool>
+        ensures { result ≡ option_map (λ d. d.is_additive) (slice_get self.now.declared place) }
+    {
+        match self.declared.get(place) {
+            Some(declared) => Some(declared.is_additive),
+            None => None,
+        }
+    }
+
+    // A body that belongs to nothing gives a property.
+    fn give_lost(&mut self, number: usize) -> Result<(), AddFault>
+        requires free { is_reserved number ≡ false }
+        requires owner { self.old.body.properties.owner ≡ owner.Nothing }
+        ensures ok { OnOk result (self.new ≡ with_properties (lost_given number self.old.body.properties) self.old) }
+        ensures err { OnErr result (self.new ≡ self.old) }
+        ensures fault { let fault = lost_given_fault number self.old.body.properties in
+            MatchResult result (λ _. fault ≡ None) (λ refused. refused ≡ unwrap_or (option_map given_fault fault) Memory) }
+    {
+        self.body.properties.give(number, false, None, LOST_ROOM)?;
+        self.body.properties.lose();
+        Ok(())
+    }
+
+    // A body that belongs to an object or a class gives a property.
+    fn give(
+        &mut self,
+        number: usize,
+        is_additive: bool,
+        first: Option<Value>,
+    ) -> Result<(), AddFault>
+        requires { is_reserved number ≡ false }
+        ensures ok { let p = given_first number is_additive first in
+            OnOk result (self.new ≡ with_properties (with_given p self.old.body.properties) self.old) }
+        ensures err { OnErr result (self.new ≡ self.old) }
+        ensures fault { let fault = give_fault (given_first number is_additive first) (room_of self.old) self.old.body.properties in
+            MatchResult result (λ _. fault ≡ None) (λ refused. refused ≡ unwrap_or (option_map given_fault fault) Memory) }
+    {
+        let room = self.room();
+        self.body.properties.give(number, is_additive, first, room)?;
+        Ok(())
+    }
+
+    // A body that belongs to nothing ends.
+    fn end_lost(&mut self)
+        requires { self.old.body.properties.owner ≡ owner.Nothing }
+        ensures { self.new ≡ with_end self.old }
+    {
+        self.body = Body::new(self.alloc);
+        self.is_open = false;
+    }
+
+    // A body that belongs to an object or a class ends.
+    fn end(&mut self) -> Result<(), AllocError>
+        requires { is_lost self.old.body.properties.owner ≡ false }
+        ensures ok { OnOk result (self.new ≡ with_end self.old) }
+        ensures err { OnErr result (self.new ≡ self.old) }
+    {
+        let (bytes, fixups) = (self.body.bytes(), self.body.fixups());
+        self.objects.reserve(1)?;
+        self.latest.reserve(1)?;
+        let object = self.body.end(self.alloc)?;
+        let number = SYSTEM_OBJECTS + self.objects.len() + 1;
+        note_latest(&mut self.latest, &object, number);
+        push_object(&mut self.objects, object);
+        self.is_open = false;
+        self.bytes += bytes;
+        self.fixups += fixups;
+        Ok(())
+    }
+
+    // What was declared
+
+    // Where memory comes from.
+    pub(crate) fn alloc(&self) -> Global {
+        self.alloc
+    }
+
+    // The properties that were declared, from number 4 on.
+    pub(crate) fn declared(&self) -> &[Declared]
+        ensures value { result.now ≡ self.now.declared }
+        ensures few { length result.now ≤ 60 }
+    {
+        self.declared.as_slice()
+    }
+
+    // The objects and classes whose bodies ended, from number 5 on.
+    pub(crate) fn objects(&self) -> &[Object]
+        ensures value { result.now ≡ self.now.objects }
+        ensures hung { AreHung (4 + length result.now) result.now }
+        ensures bytes { sum_by object_bytes result.now < 2 ^ 33 }
+        ensures fixups { sum_by object_fixups result.now < 2 ^ 33 }
+    {
+        self.objects.as_slice()
+    }
+
+    // Counts
+
+    /// How many objects there are, the first four, classes and that of the open body counted in. It is the number of the last one.
+    pub fn object_count(&self) -> usize
+        ensures value { result ≡ object_count self.now }
+        ensures limited { result ≤ max 4 self.now.limits.objects }
+    {
+        let count = SYSTEM_OBJECTS + self.objects.len();
+        match self.body.properties.owner() {
+            Owner::Object | Owner::Class => count + 1,
+            Owner::Nothing => count,
+        }
+    }
+
+    /// How many bytes the property tables and individual tables have, and two for each value that a class holds, as if the open body
+    /// ended here. Beyond the 30 of the first four objects these are never more than there may be.
+    pub fn property_bytes(&self) -> usize
+        ensures value { result ≡ bytes_now self.now }
+        ensures limited { result ≤ max 30 self.now.limits.property_bytes }
+    {
+        self.bytes + self.body.bytes()
+    }
+
+    /// How many numbers in the areas of the world are known later, as if the open body ended here.
+    pub fn fixups(&self) -> usize
+        ensures { result ≡ fixups_now self.now }
+    {
+        self.fixups + self.body.fixups() + later_defaults(&self.declared)
+    }
+}
