@@ -1,10 +1,11 @@
 -- The end of a file is always handed on.
-use Rattle.std.proofs.Common.{◌≡◌, ℕ, List, [], ◌∷◌, Bool, true, false, Option, Some, None, refl}
+use Rattle.std.proofs.Common.{◌≡◌, ℕ, List, [], ◌∷◌, Bool, true, false, cond, Option, Some, None, refl, ap}
 use Rattle.inf_scanner.specs.declared.tokens.Place.{Place}
 use Rattle.inf_scanner.specs.declared.tokens.TokenKind.TheVariants as kind
 use Rattle.inf_names.specs.Symbols.{Table}
 use Rattle.inf_unit.specs.Tokens.{Spelled}
-use Rattle.inf_conditionals.specs.Judging.{awaited, judged, judged_by, offered_to}
+use Rattle.inf_conditionals.specs.Condition.{Condition, condition_took}
+use Rattle.inf_conditionals.specs.Judging.{asked, awaited, judged, judged_by, offered_condition, offered_to, unfit, went_on}
 use Rattle.inf_conditionals.specs.Open.{Conditions}
 use Rattle.inf_conditionals.specs.declared.judged.Handed.{Handed}
 use Rattle.inf_conditionals.specs.declared.judged.Handed.TheVariants as handed
@@ -14,24 +15,46 @@ use Rattle.inf_conditionals.specs.declared.open.LeftOut.{LeftOut}
 use Rattle.inf_conditionals.specs.declared.pending.Awaits.{Awaits}
 use Rattle.inf_conditionals.specs.declared.pending.Awaits.TheVariants as awaits
 use Rattle.inf_conditionals.specs.declared.pending.Pending.{Pending}
+use Rattle.inf_conditionals.proofs.Misfits.{end_fits_nothing}
 
 abbrev pub end_of : List ℕ → Place → Spelled
 end_of bytes place = record { kind = kind.End; bytes = bytes; place = place }
+
+-- whether it is handed on so
+abbrev pub is_on : Handed → Bool
+is_on handed.Kept = true
+is_on handed.Unfit = true
+is_on handed.Condition = false
 
 -- a token is handed on, in some way
 pub record IsHanded (j : Judged) : Type 0 where
   pub handed : Handed
   pub is : j.token ≡ Some handed
+  pub on : is_on handed ≡ true
 
 as_kept : (j : Judged) → j.token ≡ Some handed.Kept → IsHanded j
-as_kept j e = record { handed = handed.Kept; is = e }
+as_kept j e = record { handed = handed.Kept; is = e; on = refl }
 
 as_unfit : (j : Judged) → j.token ≡ Some handed.Unfit → IsHanded j
-as_unfit j e = record { handed = handed.Unfit; is = e }
+as_unfit j e = record { handed = handed.Unfit; is = e; on = refl }
+
+-- it fits no condition
+to_offered_condition : (wanted q : Bool) (names : Table Place) (bytes : List ℕ) (place : Place) (k : Condition) (p : Pending) (c : Conditions)
+    → IsHanded (offered_condition wanted q names (end_of bytes place) k p c).judged
+to_offered_condition wanted q names bytes place k p c =
+    let t : Spelled = end_of bytes place in
+    let n : Condition = condition_took t k in
+    as_unfit _ (ap (λ (b : Bool). (cond b (went_on wanted q names t n p c) (unfit c)).judged.token) (end_fits_nothing k.stack))
+
+to_asked : (conditions : List Condition) (wanted q : Bool) (names : Table Place) (bytes : List ℕ) (place : Place) (p : Pending) (c : Conditions)
+    → IsHanded (asked conditions wanted q names (end_of bytes place) p c).judged
+to_asked [] wanted q names bytes place p c = as_unfit _ refl
+to_asked (k ∷ conditions) wanted q names bytes place p c = to_offered_condition wanted q names bytes place k p (record c { conditions = conditions })
 
 to_awaited : (a : Awaits) (q : Bool) (names : Table Place) (bytes : List ℕ) (place : Place) (p : Pending) (c : Conditions) → IsHanded (awaited a q names (end_of bytes place) p c).judged
 to_awaited awaits.Word q names bytes place p c = as_kept _ refl
 to_awaited (awaits.Name b) q names bytes place p c = as_unfit _ refl
+to_awaited (awaits.Condition wanted) q names bytes place p c = to_asked c.conditions wanted q names bytes place p c
 to_awaited (awaits.End e) q names bytes place p c = as_unfit _ refl
 
 to_offered : (ps : List Pending) (front q : Bool) (names : Table Place) (bytes : List ℕ) (place : Place) (c : Conditions) → IsHanded (offered_to ps front q names (end_of bytes place) c).judged

@@ -1,13 +1,16 @@
 -- What becomes of a token. Between directives a conditional directive stands as any other does, with a `#` before it or not; inside
--- a directive it has a `#`, and may stand at any token. Its own tokens are not kept. One that does not fit it is the bad token of
--- the directive around it. In a side that is left out only the words of conditionals are looked at.
+-- a directive it has a `#`, and may stand at any token. Its own tokens are not kept; those of a condition are read by the grammar. One
+-- that does not fit is the bad token of the directive around it. In a side that is left out only the words of conditionals are looked at.
 use Rattle.std.specs.Prelude.{ℕ, ◌&&◌, ◌||◌, ◌==◌, List, [], ◌∷◌, Bool, true, false, not, if◌then◌else◌, Option, Some, None, is_none, unwrap_or}
 use Rattle.inf_scanner.specs.declared.tokens.Mark.TheVariants as mark
 use Rattle.inf_scanner.specs.declared.tokens.Place.{Place}
 use Rattle.inf_scanner.specs.declared.tokens.TokenKind.{TokenKind}
 use Rattle.inf_scanner.specs.declared.tokens.TokenKind.TheVariants as kind
+use Rattle.inf_machine.specs.Machine.{fits}
+use Rattle.inf_grammar.specs.Language.{grammar, known}
 use Rattle.inf_names.specs.Symbols.{Table, declared_before}
 use Rattle.inf_unit.specs.Tokens.{Spelled, is_end, is_mark}
+use Rattle.inf_conditionals.specs.declared.condition.Verdict.{Verdict}
 use Rattle.inf_conditionals.specs.declared.judged.Handed.TheVariants as handed
 use Rattle.inf_conditionals.specs.declared.judged.Judged.{Judged}
 use Rattle.inf_conditionals.specs.declared.judged.Site.{Site}
@@ -18,6 +21,9 @@ use Rattle.inf_conditionals.specs.declared.pending.Effect.{Effect}
 use Rattle.inf_conditionals.specs.declared.pending.Effect.TheVariants as effect
 use Rattle.inf_conditionals.specs.declared.pending.Pending.{Pending}
 use Rattle.inf_conditionals.specs.declared.words.ConditionalWord.{ConditionalWord}
+use Rattle.inf_conditionals.specs.Atoms.{atom_of}
+use Rattle.inf_conditionals.specs.Condition.{Condition, condition_begun, condition_took, is_whole, verdict_of}
+use Rattle.inf_conditionals.specs.Said.{Said, too_much, wrong_by}
 use Rattle.inf_conditionals.specs.Words.{awaits_of, word_of}
 use Rattle.inf_conditionals.specs.Open.{Conditions, closed, ended_by, ends_at, is_none_open, is_second, latest, levels_behind, opened, turned}
 
@@ -37,9 +43,17 @@ passed c = record { now = c; judged = none_handed }
 abbrev pub kept : Conditions → Behind
 kept c = record { now = c; judged = record none_handed { token = Some handed.Kept } }
 
--- it does not fit the conditional directives that are being read
+-- it is taken by a condition
+abbrev pub taken : Conditions → Behind
+taken c = record { now = c; judged = record none_handed { token = Some handed.Condition } }
+
+-- the conditional directives that are being read are given up
+abbrev pub given_up : Conditions → Conditions
+given_up c = record c { pending = []; conditions = [] }
+
+-- it does not fit them
 abbrev pub unfit : Conditions → Behind
-unfit c = record { now = record c { pending = [] }; judged = record none_handed { token = Some handed.Unfit } }
+unfit c = record { now = given_up c; judged = record none_handed { token = Some handed.Unfit } }
 
 -- The end of a conditional directive
 
@@ -74,18 +88,28 @@ effected e is_quiet p c =
 abbrev pub awaiting : Place → Bool → Awaits → Conditions → Conditions
 awaiting place is_inner a c = record c { pending = record { place = place; is_inner = is_inner; awaits = a } ∷ c.pending }
 
-abbrev pub begun_with : Option Awaits → Place → Bool → Conditions → Behind
-begun_with None place is_inner c = unfit c
-begun_with (Some a) place is_inner c = passed (awaiting place is_inner a c)
+-- one with a condition
+abbrev pub asking : Place → Bool → Bool → Condition → Conditions → Conditions
+asking place is_inner wanted k c = record (awaiting place is_inner (awaits.Condition wanted) c) { conditions = k ∷ c.conditions }
+
+-- its word is its first token for the grammar
+abbrev pub asked_first : Bool → Spelled → Bool → Conditions → Behind
+asked_first wanted word is_inner c =
+    if fits grammar known (atom_of word) condition_begun.stack
+    then passed (asking word.place is_inner wanted (condition_took word condition_begun) c) else unfit c
+
+abbrev pub begun_by : Awaits → Spelled → Bool → Conditions → Behind
+begun_by (awaits.Condition wanted) t is_inner c = asked_first wanted t is_inner c
+begun_by a t is_inner c = passed (awaiting t.place is_inner a c)
 
 -- it begins with a word, at a place, inside another or not
-abbrev pub begun : ConditionalWord → Place → Bool → Conditions → Behind
-begun word place is_inner c = begun_with (awaits_of word) place is_inner c
+abbrev pub begun : ConditionalWord → Spelled → Place → Bool → Conditions → Behind
+begun word t place is_inner c = begun_by (awaits_of word) (record t { place = place }) is_inner c
 
 -- behind a `#` at the front of a piece: another directive than a conditional one is kept, with its `#`
-abbrev pub behind_front : Option ConditionalWord → Pending → Conditions → Behind
-behind_front None p c = record { now = c; judged = record none_handed { sign = Some (record { place = p.place; handed = handed.Kept }); token = Some handed.Kept } }
-behind_front (Some word) p c = begun word p.place p.is_inner c
+abbrev pub behind_front : Option ConditionalWord → Spelled → Pending → Conditions → Behind
+behind_front None t p c = record { now = c; judged = record none_handed { sign = Some (record { place = p.place; handed = handed.Kept }); token = Some handed.Kept } }
+behind_front (Some word) t p c = begun word t p.place p.is_inner c
 
 -- whether the first side is kept, which is so where the name of these bytes was declared by the directives before the one at hand,
 -- or where it was not
@@ -96,10 +120,38 @@ abbrev pub named : TokenKind → List ℕ → Bool → Table Place → Pending �
 named kind.Name bytes if_declared names p c = passed (awaiting p.place p.is_inner (awaits.End (effect.Opens (is_kept if_declared names c.declared bytes))) c)
 named _ bytes if_declared names p c = unfit c
 
+-- A token of a condition
+
+-- among tokens that are passed over nothing is told
+abbrev pub saying : Bool → Option Said → Conditions → Conditions
+saying is_quiet said c = record c { said = if is_quiet then None else said }
+
+-- the condition is whole, and comes to this
+abbrev pub decided : Verdict → Bool → Bool → Condition → Pending → Conditions → Behind
+decided v wanted is_quiet k p c =
+    effected (effect.Opens (if wanted then v.is_true else not v.is_true)) is_quiet p (saying is_quiet (wrong_by p.place k v.finding) c)
+
+-- behind a token the directive is whole, or goes on
+abbrev pub went_on : Bool → Bool → Table Place → Spelled → Condition → Pending → Conditions → Behind
+went_on wanted is_quiet names t k p c =
+    if is_whole k then decided (verdict_of c.declared names k) wanted is_quiet k p c
+    else taken (asking p.place p.is_inner wanted k (saying is_quiet (too_much c.longest t k) c))
+
+abbrev pub offered_condition : Bool → Bool → Table Place → Spelled → Condition → Pending → Conditions → Behind
+offered_condition wanted is_quiet names t k p c =
+    if fits grammar known (atom_of t) k.stack
+    then went_on wanted is_quiet names t (condition_took t k) p c else unfit c
+
+-- the innermost one is that of the directive
+abbrev pub asked : List Condition → Bool → Bool → Table Place → Spelled → Pending → Conditions → Behind
+asked [] wanted is_quiet names t p c = unfit c
+asked (k ∷ conditions) wanted is_quiet names t p c = offered_condition wanted is_quiet names t k p (record c { conditions = conditions })
+
 -- a token comes to a directive that waits so; the conditions are those without it
 abbrev pub awaited : Awaits → Bool → Table Place → Spelled → Pending → Conditions → Behind
-awaited awaits.Word is_quiet names t p c = behind_front (word_of t) p c
+awaited awaits.Word is_quiet names t p c = behind_front (word_of t) t p c
 awaited (awaits.Name if_declared) is_quiet names t p c = named t.kind t.bytes if_declared names p c
+awaited (awaits.Condition wanted) is_quiet names t p c = asked c.conditions wanted is_quiet names t p c
 awaited (awaits.End e) is_quiet names t p c = if is_mark mark.Semicolon t.kind then effected e is_quiet p c else unfit c
 
 -- A token of a kept side
@@ -110,13 +162,13 @@ held true place c = awaiting place false awaits.Word c
 held false place c = record c { sign = Some place }
 
 -- a token at the front of a piece
-abbrev pub at_front : Option ConditionalWord → Place → Conditions → Behind
-at_front None place c = kept c
-at_front (Some word) place c = begun word place false c
+abbrev pub at_front : Option ConditionalWord → Spelled → Conditions → Behind
+at_front None t c = kept c
+at_front (Some word) t c = begun word t t.place false c
 
 -- a token where no side is left out and no `#` is held back, at the front of a piece or not
 abbrev pub offered_to : List Pending → Bool → Bool → Table Place → Spelled → Conditions → Behind
-offered_to [] is_front is_quiet names t c = if is_front then at_front (word_of t) t.place c else kept c
+offered_to [] is_front is_quiet names t c = if is_front then at_front (word_of t) t c else kept c
 offered_to (p ∷ pending) is_front is_quiet names t c = awaited p.awaits is_quiet names t p (record c { pending = pending })
 
 abbrev pub offered : Bool → Bool → Table Place → Spelled → Conditions → Behind
@@ -130,9 +182,9 @@ is_none_pending (p ∷ pending) = false
 -- A token behind a `#` that was held back inside a directive. Where it is no word of a conditional the `#` is kept, or does not
 -- fit the conditional directive in which it stands.
 abbrev pub behind_sign : Option ConditionalWord → Place → Bool → Table Place → Spelled → Conditions → Behind
-behind_sign (Some word) place is_quiet names t c = begun word place true (record c { sign = None })
+behind_sign (Some word) place is_quiet names t c = begun word t place true (record c { sign = None })
 behind_sign None place is_quiet names t c =
-    let b = offered false is_quiet names t (record c { sign = None; pending = [] }) in
+    let b = offered false is_quiet names t (given_up (record c { sign = None })) in
     record b { judged = record b.judged { sign = Some (record { place = place; handed = if is_none_pending c.pending then handed.Kept else handed.Unfit }) } }
 
 -- A token of a side that is left out

@@ -1,3 +1,8 @@
+pub mod Atoms
+pub mod Operands
+pub mod Condition
+pub mod Said
+pub mod Meant
 pub mod Words
 pub mod Open
 pub mod Judging

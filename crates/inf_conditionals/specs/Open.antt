@@ -1,6 +1,11 @@
 -- The conditionals that are open.
 use Rattle.std.specs.Prelude.{ℕ, ◌-◌, ◌+◌, List, [], ◌∷◌, drop, min, Bool, true, false, not, if◌then◌else◌, Option, Some, None}
 use Rattle.inf_scanner.specs.declared.tokens.Place.{Place}
+use Rattle.inf_settings.specs.Settings.{number_of as setting_number}
+use Rattle.inf_settings.specs.declared.setting.Setting.TheVariants.{ExpressionNodes}
+use Rattle.inf_settings.specs.declared.settings.Settings.{Settings}
+use Rattle.inf_conditionals.specs.Condition.{Condition}
+use Rattle.inf_conditionals.specs.Said.{Said}
 use Rattle.inf_conditionals.specs.declared.open.Conditional.{Conditional}
 use Rattle.inf_conditionals.specs.declared.open.LeftOut.{LeftOut}
 use Rattle.inf_conditionals.specs.declared.pending.Pending.{Pending}
@@ -9,19 +14,37 @@ use Rattle.inf_conditionals.specs.declared.words.ConditionalWord.TheVariants as 
 
 -- The conditionals of the innermost file that were opened between its directives, and those that were opened inside the directive
 -- at hand, the latest first; those of the files that wait, the inner files first; the conditional directives that are being read,
--- the inner ones first; the side that is left out, if one is; a `#` that is held back; and how many names were declared before
--- the directive at hand.
+-- the inner ones first, and the conditions of those that have one; the side that is left out, if one is; a `#` that is held back; how
+-- many names were declared before the directive at hand; how many tokens a condition may have; and what is to be told of one.
 pub record Conditions : Type 0 where
   pub among : List Conditional
   pub inner : List Conditional
   pub waiting : List (List Conditional)
   pub pending : List Pending
+  pub conditions : List Condition
   pub left_out : Option LeftOut
   pub sign : Option Place
   pub declared : ℕ
+  pub longest : ℕ
+  pub said : Option Said
 
-abbrev pub no_conditions : Conditions
-no_conditions = record { among = []; inner = []; waiting = []; pending = []; left_out = None; sign = None; declared = 0 }
+abbrev pub no_conditions : Settings → Conditions
+no_conditions settings = record {
+  among = [];
+  inner = [];
+  waiting = [];
+  pending = [];
+  conditions = [];
+  left_out = None;
+  sign = None;
+  declared = 0;
+  longest = setting_number ExpressionNodes settings;
+  said = None;
+}
+
+-- what there was to tell is told
+abbrev pub silent : Conditions → Conditions
+silent c = record c { said = None }
 
 abbrev pub is_none_open : List Conditional → Bool
 is_none_open [] = true

@@ -17,11 +17,11 @@ word_of t =
     if is_word (codes "ifnot") t then Some word.Ifnot else
     if is_word (codes "endif") t then Some word.Endif else None
 
--- what a directive with this word waits for next; nothing where the word has not come yet
-abbrev pub awaits_of : ConditionalWord → Option Awaits
-awaits_of word.Ifdef = Some (awaits.Name true)
-awaits_of word.Ifndef = Some (awaits.Name false)
-awaits_of word.Ifnot = Some (awaits.End effect.Turns)
-awaits_of word.Endif = Some (awaits.End effect.Closes)
-awaits_of word.Iftrue = None
-awaits_of word.Iffalse = None
+-- what a directive with this word waits for next
+abbrev pub awaits_of : ConditionalWord → Awaits
+awaits_of word.Ifdef = awaits.Name true
+awaits_of word.Ifndef = awaits.Name false
+awaits_of word.Iftrue = awaits.Condition true
+awaits_of word.Iffalse = awaits.Condition false
+awaits_of word.Ifnot = awaits.End effect.Turns
+awaits_of word.Endif = awaits.End effect.Closes

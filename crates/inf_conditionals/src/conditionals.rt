@@ -1,20 +1,24 @@
 //! The conditionals of the files that are open.
-ghost use Rattle.std.specs.Prelude.{◌≡◌, ◌≤◌, length, IfOk, OnOk, IsSome, Some, false, is_none, not, reverse, true};
-ghost use Rattle.inf_conditionals.specs.Ends.{with_all_lone, with_lone};
-ghost use Rattle.inf_conditionals.specs.Open.{ends_at, levels_behind, turned_first};
+ghost use Rattle.std.specs.Prelude.{◌≡◌, ◌≤◌, length, IfOk, OnOk, IsSome, Some, false, is_none, not, option_map, reverse, true};
+ghost use Rattle.inf_conditionals.specs.Open.{turned_first};
 ghost use Rattle.inf_conditionals.specs.Words.{word_of};
 ghost use Rattle.inf_unit.specs.Tokens.{name_of};
 ghost use Rattle.inf_unit.specs.Tokens.{spelled};
 
-use crate::judged::{Handed, Judged, Sign, Site};
+use crate::condition::Condition;
+use crate::ends::tell_all;
+use crate::judged::{Handed, Judged, KEPT, NONE, Sign, Site, TAKEN};
 use crate::open::{Conditional, LeftOut};
 use crate::pending::{Awaits, Effect, Pending};
-use crate::words::{ConditionalWord, word_of};
+use crate::said::{Said, too_much};
+use crate::words::{ConditionalWord, ends_side, levels_behind, word_of};
+use inf_expressions::Finding;
 use inf_lexer::Stack;
 use inf_names::symbols::Symbols;
-use inf_report::messages::Message;
 use inf_scanner::{Mark, Place, TokenKind};
-use inf_unit::messages::{Messages, location};
+use inf_settings::setting::Setting;
+use inf_settings::settings::Settings;
+use inf_unit::messages::Messages;
 use inf_unit::tokens::{Spelled, is_end, is_mark};
 use std::alloc::{AllocError, Global};
 use std::marker::Model;
@@ -32,16 +36,25 @@ pub struct Conditionals {
     waiting: Vec<Vec<Conditional>>,
     /// The conditional directives that are being read, the inner ones last.
     pending: Vec<Pending>,
+    /// The conditions of those that have one.
+    conditions: Vec<Condition>,
     /// The side that is left out.
     left_out: Option<LeftOut>,
     /// A `#` that is held back until the token behind it is known.
     sign: Option<Place>,
     /// How many names were declared before the directive at hand.
     declared: usize,
+    /// The most tokens of a condition.
+    longest: usize,
+    /// What there is to tell of a condition.
+    said: Option<Said>,
+    /// One that was read, whose memory the next one has.
+    spare: Option<Condition>,
 }
 
 impl Model for Conditionals {
-    ghost use Rattle.std.specs.Prelude.{map, reverse};
+    ghost use Rattle.std.specs.Prelude.{map, option_map, reverse};
+    ghost use Rattle.inf_conditionals.specs.Meant.{condition, said_of};
     ghost use Rattle.inf_conditionals.specs.Open.{Conditions};
 
     ghost Value = { Conditions };
@@ -51,37 +64,27 @@ impl Model for Conditionals {
       inner = reverse c.inner.items;
       waiting = reverse (map (λ v. reverse v.items) c.waiting.items);
       pending = reverse c.pending.items;
+      conditions = reverse (map condition c.conditions.items);
       left_out = c.left_out;
       sign = c.sign;
       declared = c.declared;
+      longest = c.longest;
+      said = option_map said_of c.said;
     } };
 }
 
-/// Nothing is handed on.
-const NONE: Judged = Judged {
-    sign: None,
-    token: None,
-    lone: None,
-    ended: None,
-};
-
-/// The token is kept.
-const KEPT: Judged = Judged {
-    sign: None,
-    token: Some(Handed::Kept),
-    lone: None,
-    ended: None,
-};
-
 impl Conditionals {
     ghost use Rattle.inf_conditionals.specs.Ends.{file_entered, file_left, file_told, piece_ended, piece_told};
-    ghost use Rattle.inf_conditionals.specs.Judging.{awaited, awaiting, begun, behind_front, behind_sign, effected, held, in_side, is_behind_side, is_none_pending, judged, kept, may_part, offered, unfit, word_passed};
+    ghost use Rattle.inf_conditionals.specs.Judging.{asked, asked_first, asking, awaited, awaiting, begun, behind_front, behind_sign, decided, effected, held, in_side, is_behind_side, is_none_pending, judged, kept, may_part, offered, saying, unfit, word_passed};
     ghost use Rattle.inf_names.specs.Symbols.{Table};
-    ghost use Rattle.inf_conditionals.specs.Open.{closed, is_none_open, is_second, latest, no_conditions, opened, turned};
+    ghost use Rattle.inf_conditionals.specs.Condition.{verdict_of};
+    ghost use Rattle.inf_conditionals.specs.Meant.{condition as condition_of, said_of};
+    ghost use Rattle.inf_conditionals.specs.Open.{closed, is_none_open, is_second, latest, no_conditions, opened, silent, turned};
+    ghost use Rattle.inf_conditionals.specs.Said.{with_said, wrong_by};
 
     /// None. It takes no memory until one is read.
-    pub fn new(alloc: Global) -> Conditionals
-        ensures { result ≡ no_conditions }
+    pub fn new(alloc: Global, settings: &Settings) -> Conditionals
+        ensures { result ≡ no_conditions settings.now }
     {
         Conditionals {
             alloc,
@@ -89,9 +92,13 @@ impl Conditionals {
             inner: Vec::new(alloc),
             waiting: Vec::new(alloc),
             pending: Vec::new(alloc),
+            conditions: Vec::new(alloc),
             left_out: None,
             sign: None,
             declared: 0,
+            longest: settings.of(Setting::ExpressionNodes) as usize,
+            said: None,
+            spare: None,
         }
     }
 
@@ -127,6 +134,18 @@ impl Conditionals {
         }
         let is_front = site.is_between && self.pending.is_empty();
         self.offer(is_front, site.is_quiet, names, token)
+    }
+
+    /// Tells what there is to tell of a condition.
+    pub fn tell(&mut self, files: &Stack, report: &mut Messages) -> Result<(), AllocError>
+        ensures told { OnOk result (report.new ≡ with_said files.now.names self.old.said report.old) }
+        ensures silent { OnOk result (self.new ≡ silent self.old) }
+    {
+        if let Some(said) = &self.said {
+            said.tell(files, report)?;
+            self.said = None;
+        }
+        Ok(())
     }
 
     /// Whether no conditional directive is being read.
@@ -266,7 +285,7 @@ impl Conditionals {
     {
         self.sign = None;
         if let Some(word) = word_of(token) {
-            return self.begin(word, place, true);
+            return self.begin(word, token, place, true);
         }
         let handed = if self.pending.is_empty() {
             Handed::Kept
@@ -274,6 +293,7 @@ impl Conditionals {
             Handed::Unfit
         };
         self.pending.clear();
+        self.conditions.clear();
         let judged = self.offer(false, is_quiet, names, token)?;
         Ok(Judged {
             sign: Some(Sign { place, handed }),
@@ -301,7 +321,7 @@ impl Conditionals {
         }
         if is_front {
             if let Some(word) = word_of(token) {
-                return self.begin(word, token.place, false);
+                return self.begin(word, token, token.place, false);
             }
         }
         Ok(KEPT)
@@ -341,6 +361,9 @@ impl Conditionals {
             Awaits::End(effect) if is_mark(token.kind, Mark::Semicolon) => {
                 self.carry_out(effect, is_quiet, pending)
             }
+            Awaits::Condition(wanted) => {
+                self.go_on_asking(wanted, pending, is_quiet, names, token)
+            }
             Awaits::Name(_) | Awaits::End(_) => Ok(self.give_up()),
         }
     }
@@ -352,10 +375,10 @@ impl Conditionals {
         token: &Spelled<'_>,
     ) -> Result<Judged, AllocError>
         ensures { IfOk result (λ j. record { now = self.new; judged = j } ≡
-            behind_front (word_of (spelled token.now)) pending self.old) }
+            behind_front (word_of (spelled token.now)) (spelled token.now) pending self.old) }
     {
         if let Some(word) = word_of(token) {
-            return self.begin(word, pending.place, pending.is_inner);
+            return self.begin(word, token, pending.place, pending.is_inner);
         }
         Ok(Judged {
             sign: Some(Sign {
@@ -370,18 +393,125 @@ impl Conditionals {
     fn begin(
         &mut self,
         word: ConditionalWord,
+        token: &Spelled<'_>,
         place: Place,
         is_inner: bool,
     ) -> Result<Judged, AllocError>
-        ensures { IfOk result (λ j. record { now = self.new; judged = j } ≡ begun word place is_inner self.old) }
+        ensures { IfOk result (λ j. record { now = self.new; judged = j } ≡ begun word (spelled token.now) place is_inner self.old) }
     {
-        match word.awaits() {
-            Some(awaits) => {
-                self.wait(place, is_inner, awaits)?;
-                Ok(NONE)
-            }
-            None => Ok(self.give_up()),
+        if let Awaits::Condition(wanted) = word.awaits() {
+            let first = Spelled { place, ..*token };
+            return self.begin_asking(wanted, &first, is_inner);
         }
+        self.wait(place, is_inner, word.awaits())?;
+        Ok(NONE)
+    }
+
+    /// A conditional directive with a condition begins with its word.
+    fn begin_asking(
+        &mut self,
+        wanted: bool,
+        word: &Spelled<'_>,
+        is_inner: bool,
+    ) -> Result<Judged, AllocError>
+        ensures { IfOk result (λ j. record { now = self.new; judged = j } ≡ asked_first wanted (spelled word.now) is_inner self.old) }
+    {
+        let mut condition = match self.spare.take() {
+            Some(spare) => spare,
+            None => Condition::new(self.alloc),
+        };
+        condition.begin()?;
+        if !condition.take(word)? {
+            return Ok(self.give_up());
+        }
+        self.ask(word.place, is_inner, wanted, condition)?;
+        Ok(NONE)
+    }
+
+    /// A token comes to the condition of a conditional directive.
+    fn go_on_asking(
+        &mut self,
+        wanted: bool,
+        directive: Pending,
+        is_quiet: bool,
+        names: &Symbols<Place>,
+        token: &Spelled<'_>,
+    ) -> Result<Judged, AllocError>
+        ensures { IfOk result (λ j. record { now = self.new; judged = j } ≡
+            asked self.old.conditions wanted is_quiet names.now (spelled token.now) directive self.old) }
+    {
+        let Some(mut condition) = self.conditions.pop() else {
+            return Ok(self.give_up());
+        };
+        if !condition.take(token)? {
+            return Ok(self.give_up());
+        }
+        if condition.is_whole() {
+            return self.decide(wanted, directive, is_quiet, names, condition);
+        }
+        self.say(too_much(is_quiet, self.longest, token, &condition));
+        self.ask(directive.place, directive.is_inner, wanted, condition)?;
+        Ok(TAKEN)
+    }
+
+    /// A conditional directive with a condition is whole.
+    fn decide(
+        &mut self,
+        wanted: bool,
+        directive: Pending,
+        is_quiet: bool,
+        names: &Symbols<Place>,
+        condition: Condition,
+    ) -> Result<Judged, AllocError>
+        ensures { let k = condition_of condition in IfOk result (λ j. record { now = self.new; judged = j } ≡
+            decided (verdict_of self.old.declared names.now k) wanted is_quiet k directive self.old) }
+    {
+        let verdict = condition.judge(self.declared, names)?;
+        self.refuse(is_quiet, directive.place, condition, verdict.finding);
+        let effect = Effect::Opens(verdict.is_true == wanted);
+        self.carry_out(effect, is_quiet, directive)
+    }
+
+    /// What is wrong with the condition of a directive is to be told, unless nothing is or it is passed over.
+    fn refuse(
+        &mut self,
+        is_quiet: bool,
+        directive: Place,
+        condition: Condition,
+        finding: Option<Finding>,
+    )
+        ensures { self.new ≡ saying is_quiet (wrong_by directive (condition_of condition) finding) self.old }
+    {
+        match finding {
+            Some(finding) if !is_quiet => {
+                self.say(Some(Said::Wrong(directive, condition, finding)));
+            }
+            _ => {
+                self.say(None);
+                self.spare = Some(condition);
+            }
+        }
+    }
+
+    /// This is to be told of a condition, if anything.
+    fn say(&mut self, said: Option<Said>)
+        ensures { self.new ≡ record (self.old) { said = option_map said_of said } }
+    {
+        self.said = said;
+    }
+
+    /// A conditional directive with a condition is being read, inside the others.
+    fn ask(
+        &mut self,
+        place: Place,
+        is_inner: bool,
+        wanted: bool,
+        condition: Condition,
+    ) -> Result<(), AllocError>
+        ensures { OnOk result (self.new ≡ asking place is_inner wanted (condition_of condition) self.old) }
+    {
+        self.conditions.push(condition)?;
+        self.wait(place, is_inner, Awaits::Condition(wanted))
     }
 
     /// The conditional directives that are being read are given up for a token that does not fit.
@@ -389,6 +519,7 @@ impl Conditionals {
         ensures { record { now = self.new; judged = result } ≡ unfit self.old }
     {
         self.pending.clear();
+        self.conditions.clear();
         Judged {
             token: Some(Handed::Unfit),
             ..NONE
@@ -533,51 +664,4 @@ fn turn_last(conditionals: &mut Vec<Conditional>)
     if let Some(last) = conditionals.last_mut() {
         last.is_second = true;
     }
-}
-
-/// How many levels are open in a side that is left out, behind a word.
-fn levels_behind(word: ConditionalWord, levels: u32) -> u32
-    ensures { result ≡ levels_behind word levels }
-{
-    match word {
-        ConditionalWord::Endif => levels.saturating_sub(1),
-        ConditionalWord::Ifnot => levels,
-        ConditionalWord::Ifdef
-        | ConditionalWord::Ifndef
-        | ConditionalWord::Iftrue
-        | ConditionalWord::Iffalse => levels.saturating_add(1),
-    }
-}
-
-/// Whether a word ends a side that is left out, at its own level.
-fn ends_side(word: ConditionalWord, is_second: bool) -> bool
-    ensures { result ≡ ends_at word is_second }
-{
-    match word {
-        ConditionalWord::Endif => true,
-        ConditionalWord::Ifnot => !is_second,
-        _ => false,
-    }
-}
-
-/// Tells some conditionals that have no other end.
-fn tell_all(
-    unclosed: &[Conditional],
-    files: &Stack,
-    report: &mut Messages,
-) -> Result<(), AllocError>
-    ensures { OnOk result (report.new ≡ with_all_lone files.now.names unclosed.now report.old) }
-{
-    for conditional in unclosed {
-        tell_lone(conditional.place, files, report)?;
-    }
-    Ok(())
-}
-
-/// Tells a conditional directive without its other end, where it begins.
-pub fn tell_lone(place: Place, files: &Stack, report: &mut Messages) -> Result<(), AllocError>
-    ensures { OnOk result (report.new ≡ with_lone files.now.names place report.old) }
-{
-    let at = location(files, place);
-    report.error(at, at, &Message::LoneConditional)
 }

@@ -9,6 +9,8 @@ pub enum Handed {
     Kept,
     /// As one that does not fit.
     Unfit,
+    /// Not at all: it is taken by a condition.
+    Condition,
 }
 
 /// A `#` that was held back until the token behind it was known.
@@ -36,3 +38,27 @@ pub struct Site {
     /// Among tokens that are passed over behind a bad one.
     pub is_quiet: bool,
 }
+
+/// Nothing is handed on.
+pub(crate) const NONE: Judged = Judged {
+    sign: None,
+    token: None,
+    lone: None,
+    ended: None,
+};
+
+/// The token is taken by a condition.
+pub(crate) const TAKEN: Judged = Judged {
+    sign: None,
+    token: Some(Handed::Condition),
+    lone: None,
+    ended: None,
+};
+
+/// The token is kept.
+pub(crate) const KEPT: Judged = Judged {
+    sign: None,
+    token: Some(Handed::Kept),
+    lone: None,
+    ended: None,
+};

@@ -4,8 +4,13 @@
 //! edition, section 38.
 #![tactic(auto)]
 
+pub mod atoms;
+pub mod condition;
 pub mod conditionals;
+pub mod ends;
 pub mod judged;
 pub mod open;
+mod operands;
 pub mod pending;
+pub mod said;
 pub mod words;

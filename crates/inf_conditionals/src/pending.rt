@@ -24,6 +24,8 @@ pub enum Awaits {
     Word,
     /// A name; the first side is kept if it was declared or if not.
     Name(bool),
+    /// The rest of its condition and its semicolon; the first side is kept if it is true or if not.
+    Condition(bool),
     /// Its semicolon.
     End(Effect),
 }

@@ -1,5 +1,6 @@
 //! The words of conditional directives.
 ghost use Rattle.std.specs.Prelude.{◌≡◌};
+ghost use Rattle.inf_conditionals.specs.Open.{ends_at, levels_behind};
 ghost use Rattle.inf_conditionals.specs.Words.{awaits_of, word_of};
 ghost use Rattle.inf_unit.specs.Tokens.{spelled};
 
@@ -39,16 +40,42 @@ pub fn word_of(token: &Spelled<'_>) -> Option<ConditionalWord>
 }
 
 impl ConditionalWord {
-    /// What a directive with this word waits for next; nothing where the word has not come yet.
-    pub(crate) fn awaits(self) -> Option<Awaits>
+    /// What a directive with this word waits for next.
+    pub(crate) fn awaits(self) -> Awaits
         ensures { result ≡ awaits_of self }
     {
         match self {
-            ConditionalWord::Ifdef => Some(Awaits::Name(true)),
-            ConditionalWord::Ifndef => Some(Awaits::Name(false)),
-            ConditionalWord::Ifnot => Some(Awaits::End(Effect::Turns)),
-            ConditionalWord::Endif => Some(Awaits::End(Effect::Closes)),
-            ConditionalWord::Iftrue | ConditionalWord::Iffalse => None,
+            ConditionalWord::Ifdef => Awaits::Name(true),
+            ConditionalWord::Ifndef => Awaits::Name(false),
+            ConditionalWord::Iftrue => Awaits::Condition(true),
+            ConditionalWord::Iffalse => Awaits::Condition(false),
+            ConditionalWord::Ifnot => Awaits::End(Effect::Turns),
+            ConditionalWord::Endif => Awaits::End(Effect::Closes),
         }
+    }
+}
+
+/// How many levels are open in a side that is left out, behind a word.
+pub(crate) fn levels_behind(word: ConditionalWord, levels: u32) -> u32
+    ensures { result ≡ levels_behind word levels }
+{
+    match word {
+        ConditionalWord::Endif => levels.saturating_sub(1),
+        ConditionalWord::Ifnot => levels,
+        ConditionalWord::Ifdef
+        | ConditionalWord::Ifndef
+        | ConditionalWord::Iftrue
+        | ConditionalWord::Iffalse => levels.saturating_add(1),
+    }
+}
+
+/// Whether a word ends a side that is left out, at its own level.
+pub(crate) fn ends_side(word: ConditionalWord, is_second: bool) -> bool
+    ensures { result ≡ ends_at word is_second }
+{
+    match word {
+        ConditionalWord::Endif => true,
+        ConditionalWord::Ifnot => !is_second,
+        _ => false,
     }
 }

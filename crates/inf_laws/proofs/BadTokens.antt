@@ -23,7 +23,7 @@ use Rattle.inf_grammar.specs.Routines.{is_in_routine}
 use Rattle.inf_grammar.specs.Sources.{is_inside}
 use Rattle.inf_syntax.specs.Words.{words}
 use Rattle.inf_grammar.proofs.OpenRoutines.{FirstTaken, first_taken, open_routines_are_bracketed}
-use Rattle.inf_reader.specs.Tests.{name_atom, atom_of_kind, atom_of}
+use Rattle.inf_conditionals.specs.Atoms.{name_atom, atom_of_kind, atom_of}
 use Rattle.inf_reader.specs.Cursors.{next_token}
 use Rattle.inf_reader.specs.Reading.{Reading, State, piece_rule, passed, between, turn}
 use Rattle.inf_reader.specs.Pieces.{BeginsPiece, AllAreTaken, front, behind, turned, at_hand_by, at_hand, taking}

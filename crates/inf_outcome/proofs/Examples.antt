@@ -20,7 +20,7 @@ use Rattle.inf_link.specs.StoryLaws.{HasAt}
 use Rattle.inf_story.specs.Stories.{story, too_long}
 use Rattle.inf_story.specs.Tables as tables
 use Rattle.inf_story.proofs.Told.{story_tells}
-use Rattle.inf_outcome.specs.Examples.{ConditionalsChoose, EmptySource, FilesAreIncluded, HelloIsAStory, NamesAreUndeclared, NoSource, SixteenAreOpen, TextIsMissing}
+use Rattle.inf_outcome.specs.Examples.{ConditionalsChoose, ConditionsChoose, EmptySource, FilesAreIncluded, HelloIsAStory, NamesAreUndeclared, NoSource, SixteenAreOpen, TextIsMissing}
 use Rattle.inf_grammar.specs.Language as language
 use Rattle.inf_names.specs.SystemNames as system
 use Rattle.inf_output.specs.Output as output
@@ -54,6 +54,10 @@ files_are_included serial = record { final = _; is_read = record { turns = 40; l
 pub conditionals_choose : ConditionalsChoose
 unfolding digits text_of piece_at escape_piece spelled spellings zscii_of zscii_of_unicode accented units.order units.next_place output.laid output.instruction output.behind meaning.call_of parts.calling statements.statement_in effects.statement_laid effects.statement_finding work_parts.part_effect language.grammar language.known system.system_names
 conditionals_choose serial = record { final = _; is_read = record { turns = 80; leads = refl; ends = refl }; is_ending = refl }
+
+pub conditions_choose : ConditionsChoose
+unfolding digits text_of piece_at escape_piece spelled spellings zscii_of zscii_of_unicode accented units.order units.next_place output.laid output.instruction output.behind meaning.call_of parts.calling statements.statement_in effects.statement_laid effects.statement_finding work_parts.part_effect language.grammar language.known system.system_names
+conditions_choose serial = record { final = _; is_read = record { turns = 80; leads = refl; ends = refl }; is_ending = refl }
 
 pub sixteen_are_open : SixteenAreOpen
 unfolding digits text_of piece_at escape_piece spelled spellings zscii_of zscii_of_unicode accented units.order units.next_place output.laid output.instruction output.behind meaning.call_of parts.calling statements.statement_in effects.statement_laid effects.statement_finding work_parts.part_effect language.grammar language.known system.system_names

@@ -59,6 +59,13 @@ ConditionalsChoose =
     Refuses (with_source (codes "c.h") (codes "Constant K;") (only (codes "Include \"c.h\";\nIfdef K; Message \"yes\"; Ifnot; Message \"no\"; Endif;\n[ Main; #Ifdef L; new_line; #Endif; ];\nConstant L;\nIfdef M;")))
     (codes "yes\nt.inf(5): Error: Conditional without its other end\nErrors: 1, warnings: 0 (no output)\n")
 
+-- A condition is a known number of names that were declared by the directives before it; with an error it is false. No local hides a
+-- name in it, and a token that does not fit it is the bad one of the directive around it.
+abbrev pub ConditionsChoose : Type 0
+ConditionsChoose =
+    Refuses (only (codes "Constant K = 3;\nIftrue K * 2 == 6; Message \"a\"; Ifnot; Message \"no\"; Endif;\nIffalse 1 / 0; Message \"b\"; Endif;\n[ Main K; #Iftrue K == 3; K; #Endif;\n#Iffalse L; #Endif;\n#Iftrue 1); ];\nConstant L;"))
+    (codes "a\nt.inf(3): Error: Constant out of range\nb\nt.inf(5): Error: Not a constant known here\nt.inf(6): Error: Syntax error at \")\"\nErrors: 3, warnings: 0 (no output)\n")
+
 -- a text so many times
 abbrev pub times : ℕ → List ℕ → List ℕ
 times zero bytes = []

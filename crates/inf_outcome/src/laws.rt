@@ -1,5 +1,5 @@
 //! What the definitions give together.
-ghost use Rattle.inf_outcome.specs.Examples.{ConditionalsChoose, EmptySource, FilesAreIncluded, HelloIsAStory, NamesAreUndeclared, NoSource, SixteenAreOpen, TextIsMissing};
+ghost use Rattle.inf_outcome.specs.Examples.{ConditionalsChoose, ConditionsChoose, EmptySource, FilesAreIncluded, HelloIsAStory, NamesAreUndeclared, NoSource, SixteenAreOpen, TextIsMissing};
 ghost use Rattle.inf_outcome.specs.OutcomeLaws.{OutcomesAreUnique};
 
 /// The same sources, choices, serial number and name have one outcome.
@@ -15,6 +15,7 @@ pub fn sources_have_these_outcomes()
     ensures names_are_undeclared { NamesAreUndeclared }
     ensures files_are_included { FilesAreIncluded }
     ensures conditionals_choose { ConditionalsChoose }
+    ensures conditions_choose { ConditionsChoose }
     ensures sixteen_are_open { SixteenAreOpen }
     ensures hello_is_a_story { HelloIsAStory }
 {}

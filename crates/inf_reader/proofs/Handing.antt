@@ -1,5 +1,5 @@
 -- The end of a source ends the reading, however it is handed on.
-use Rattle.std.proofs.Common.{◌≡◌, ℕ, List, Option, Some, None, refl, ap, ◌∙◌}
+use Rattle.std.proofs.Common.{◌≡◌, ℕ, List, Bool, true, false, Option, Some, None, refl, ap, ◌∙◌}
 use Rattle.inf_scanner.specs.declared.tokens.Place.{Place}
 use Rattle.inf_scanner.specs.declared.tokens.TokenKind.TheVariants as kind
 use Rattle.inf_unit.specs.Messages.{FileNames}
@@ -7,6 +7,7 @@ use Rattle.inf_unit.specs.Tokens.{Spelled}
 use Rattle.inf_conditionals.specs.declared.judged.Handed.{Handed}
 use Rattle.inf_conditionals.specs.declared.judged.Handed.TheVariants as handed
 use Rattle.inf_conditionals.specs.declared.judged.Judged.{Judged}
+use Rattle.inf_conditionals.proofs.Ending.{is_on}
 use Rattle.inf_reader.specs.Handing.{handed_as, judged_taken, lone_told, sign_taken, token_taken, unfit_in, unit_ended}
 use Rattle.inf_reader.specs.Reading.{Stand}
 use Rattle.inf_reader.specs.declared.mode.Mode.{Mode}
@@ -22,9 +23,10 @@ unfit_end mode.SkipsRoutine files bytes place s e = end_at s.reading.mode files 
 unfit_end mode.SkipsDirective files bytes place s e = end_at s.reading.mode files kind.End bytes place s.reading s.work refl refl
 unfit_end mode.Ended files bytes place s e = end_at s.reading.mode files kind.End bytes place s.reading s.work refl refl
 
-end_handed : (h : Handed) (files : FileNames) (bytes : List ℕ) (place : Place) (s : Stand) → (handed_as h files (end_of bytes place) s).reading.mode ≡ mode.Ended
-end_handed handed.Kept files bytes place s = end_at s.reading.mode files kind.End bytes place s.reading s.work refl refl
-end_handed handed.Unfit files bytes place s = unfit_end s.reading.mode files bytes place s refl
+end_handed : (h : Handed) (files : FileNames) (bytes : List ℕ) (place : Place) (s : Stand) → is_on h ≡ true → (handed_as h files (end_of bytes place) s).reading.mode ≡ mode.Ended
+end_handed handed.Condition files bytes place s on = let never : false ≡ true = on in cc
+end_handed handed.Kept files bytes place s on = end_at s.reading.mode files kind.End bytes place s.reading s.work refl refl
+end_handed handed.Unfit files bytes place s on = unfit_end s.reading.mode files bytes place s refl
 
 lone_mode : (lone : Option Place) (files : FileNames) (s : Stand) → (lone_told lone files s).reading.mode ≡ s.reading.mode
 lone_mode None files s = refl
@@ -34,11 +36,11 @@ ended_mode : (ended : Option Place) (files : FileNames) (s : Stand) → (unit_en
 ended_mode None files s = refl
 ended_mode (Some place) files s = refl
 
-pub end_taken : (files : FileNames) (bytes : List ℕ) (place : Place) (j : Judged) (h : Handed) (s : Stand) → j.token ≡ Some h
+pub end_taken : (files : FileNames) (bytes : List ℕ) (place : Place) (j : Judged) (h : Handed) (s : Stand) → j.token ≡ Some h → is_on h ≡ true
     → (judged_taken files (end_of bytes place) j s).reading.mode ≡ mode.Ended
-end_taken files bytes place j h s e =
+end_taken files bytes place j h s e on =
     let told = lone_told j.lone files (token_taken j.token files (end_of bytes place) (sign_taken j.sign files s)) in
     ended_mode j.ended files told
     ∙ lone_mode j.lone files (token_taken j.token files (end_of bytes place) (sign_taken j.sign files s))
     ∙ ap (λ o. (token_taken o files (end_of bytes place) (sign_taken j.sign files s)).reading.mode) e
-    ∙ end_handed h files bytes place (sign_taken j.sign files s)
+    ∙ end_handed h files bytes place (sign_taken j.sign files s) on

@@ -1,4 +1,3 @@
-pub mod Misfits
 pub mod Turns
 pub mod PieceLaws
 pub mod ReadingLaws

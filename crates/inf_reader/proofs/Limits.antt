@@ -18,7 +18,7 @@ use Rattle.inf_work.specs.Limits.{SameLimits}
 use Rattle.inf_work.proofs.Limits.{acted_same, begun_at_same, cut_same, same_then, took_same as work_took_same}
 use Rattle.inf_reader.specs.Handing.{handed_as, hash, judged_taken, lone_told, sign_taken, token_taken, unfit_in, unit_ended}
 use Rattle.inf_reader.specs.Reading.{Reading, Stand, bad, judged, piece_begun, read_at, step, step_in, took}
-use Rattle.inf_reader.specs.Tests.{atom_of}
+use Rattle.inf_conditionals.specs.Atoms.{atom_of}
 use Rattle.inf_reader.specs.declared.mode.Mode.{Mode}
 use Rattle.inf_reader.specs.declared.mode.Mode.TheVariants as mode
 
@@ -63,6 +63,7 @@ unfit_same mode.SkipsDirective files t s = step_same files t s
 handed_same : (h : Handed) (files : FileNames) (t : Spelled) (s : Stand) → Keeps s.work (handed_as h files t s)
 handed_same handed.Kept files t s = step_same files t s
 handed_same handed.Unfit files t s = unfit_same s.reading.mode files t s
+handed_same handed.Condition files t s = (refl, refl)
 
 sign_same : (o : Option Sign) (files : FileNames) (s : Stand) → Keeps s.work (sign_taken o files s)
 sign_same None files s = (refl, refl)

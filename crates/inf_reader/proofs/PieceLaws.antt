@@ -15,13 +15,14 @@ use Rattle.inf_grammar.specs.Language.{grammar, known}
 use Rattle.inf_machine.specs.Machine.{fits, taken, read, Read}
 use Rattle.inf_grammar.specs.Evaluated.{language_is_decided}
 use Rattle.inf_machine.proofs.TokenLaws.{bad_tokens_begin_nothing, texts_are_taken}
-use Rattle.inf_reader.specs.Tests.{fault_of_kind, bad_atom, end_atom, atom_of_kind, atom_of}
+use Rattle.inf_conditionals.specs.Atoms.{bad_atom, end_atom, atom_of_kind, atom_of}
+use Rattle.inf_reader.specs.Tests.{fault_of_kind}
 use Rattle.inf_work.specs.Actions.{piece_begun as work_begun}
 use Rattle.inf_reader.specs.Reading.{Reading, State, Stand, piece_rule, piece_begun, took, bad, judged, read_at, step_in, stand, turn, run}
 use Rattle.inf_reader.specs.Pieces.{IsPiece, BeginsPiece, front, at_hand_by, at_hand, taking, work_at, work_by, AllAreTaken, Leads, ToItsEnd, ToABadToken, PiecesAreRead, PiecesBegin, FrontsBegin, FaultyTokensFitNothing, TurnsAreRead}
 use Rattle.inf_reader.specs.declared.mode.Mode.TheVariants as mode
 use Rattle.inf_reader.proofs.Turns.{next_moves, less_behind}
-use Rattle.inf_reader.proofs.Misfits.{bad_fits_nothing, end_fits_nothing}
+use Rattle.inf_conditionals.proofs.Misfits.{bad_fits_nothing, end_fits_nothing}
 use Rattle.inf_machine.proofs.ReadOn.{OneMore, read_on, read_append, reads_one, reads_none}
 
 pub turns_are_read : TurnsAreRead

@@ -18,7 +18,7 @@ use Rattle.inf_reader.specs.Cursors.{next_token, read_token}
 use Rattle.inf_reader.specs.Reading.{Reading, State, Stand, bad, took, judged, read_at, step_in, step, taken_at, is_mode_ended, has_ended, turn, run}
 use Rattle.inf_reader.specs.declared.mode.Mode.{Mode}
 use Rattle.inf_reader.specs.declared.mode.Mode.TheVariants as mode
-use Rattle.inf_reader.proofs.Misfits.{end_fits_nothing}
+use Rattle.inf_conditionals.proofs.Misfits.{end_fits_nothing}
 
 -- a token is the end, or leaves less than n bytes
 abbrev pub Moves : ℕ → Spelled × Cursor → Type 0

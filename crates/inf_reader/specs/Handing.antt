@@ -8,6 +8,7 @@ use Rattle.inf_syntax.specs.declared.actions.Action.{Action}
 use Rattle.inf_unit.specs.Messages.{FileNames}
 use Rattle.inf_unit.specs.Tokens.{Spelled}
 use Rattle.inf_conditionals.specs.Ends.{with_lone}
+use Rattle.inf_conditionals.specs.Said.{Said, with_said}
 use Rattle.inf_conditionals.specs.declared.judged.Handed.{Handed}
 use Rattle.inf_conditionals.specs.declared.judged.Handed.TheVariants as handed
 use Rattle.inf_conditionals.specs.declared.judged.Judged.{Judged}
@@ -48,9 +49,11 @@ abbrev pub unfit_in : Mode → FileNames → Spelled → Stand → Stand
 unfit_in mode.Reads files t s = bad files t s.reading s.work
 unfit_in _ files t s = step files t s.reading s.work
 
+-- one that a condition takes is not handed on
 abbrev pub handed_as : Handed → FileNames → Spelled → Stand → Stand
 handed_as handed.Kept files t s = step files t s.reading s.work
 handed_as handed.Unfit files t s = unfit_in s.reading.mode files t s
+handed_as handed.Condition files t s = s
 
 abbrev pub sign_taken : Option Sign → FileNames → Stand → Stand
 sign_taken None files s = s
@@ -59,6 +62,10 @@ sign_taken (Some sign) files s = handed_as sign.handed files (hash sign.place) s
 abbrev pub token_taken : Option Handed → FileNames → Spelled → Stand → Stand
 token_taken None files t s = s
 token_taken (Some h) files t s = handed_as h files t s
+
+-- what there is to tell of a condition comes before anything else that its token does
+abbrev pub said_told : Option Said → FileNames → Stand → Stand
+said_told said files s = record s { work = record s.work { report = with_said files said s.work.report } }
 
 abbrev pub lone_told : Option Place → FileNames → Stand → Stand
 lone_told None files s = s

@@ -12,7 +12,8 @@ use Rattle.inf_machine.specs.declared.symbols.Symbol.TheVariants.{Rule}
 use Rattle.inf_machine.specs.Grammar.{Event, IsText, Begins}
 use Rattle.inf_grammar.specs.Language.{grammar, known}
 use Rattle.inf_machine.specs.Machine.{fits}
-use Rattle.inf_reader.specs.Tests.{fault_of, atom_of}
+use Rattle.inf_conditionals.specs.Atoms.{atom_of}
+use Rattle.inf_reader.specs.Tests.{fault_of}
 use Rattle.inf_work.specs.Actions.{Work, piece_begun as work_begun}
 use Rattle.inf_reader.specs.Reading.{Reading, State, piece_rule, piece_begun, took, bad, stand, turn, run, has_ended}
 use Rattle.inf_reader.specs.declared.mode.Mode.TheVariants as mode

@@ -25,7 +25,8 @@ use Rattle.inf_work.specs.Actions.{Work, cut, no_work, piece_begun as work_begun
 use Rattle.inf_work.specs.Acting.{acted}
 use Rattle.inf_sources.specs.Cursors.{Cursor, front}
 use Rattle.inf_reader.specs.Cursors.{next_token}
-use Rattle.inf_reader.specs.Tests.{atom_of, complaint_of}
+use Rattle.inf_conditionals.specs.Atoms.{atom_of}
+use Rattle.inf_reader.specs.Tests.{complaint_of}
 use Rattle.inf_reader.specs.declared.mode.Mode.{Mode}
 use Rattle.inf_reader.specs.declared.mode.Mode.TheVariants as mode
 

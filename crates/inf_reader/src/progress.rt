@@ -8,8 +8,9 @@ ghost use Rattle.inf_reader.specs.Tests.{complaint_of};
 
 use crate::mode::{Mode, passed};
 use crate::reader::Reader;
-use crate::tokens::{atom_at, complaint_of};
-use inf_conditionals::conditionals::tell_lone;
+use crate::tokens::complaint_of;
+use inf_conditionals::atoms::atom_at;
+use inf_conditionals::ends::tell_lone;
 use inf_conditionals::judged::{Handed, Judged, Site};
 use inf_lexer::{Place, Stack};
 use inf_report::messages::{Kind, Location};
@@ -106,13 +107,14 @@ impl Progress {
         Ok(())
     }
 
-    /// Takes a token that is kept, or one that does not fit.
+    /// Takes a token that is kept, or one that does not fit; one that a condition took it leaves alone.
     fn hand(&mut self, files: &Stack, token: &Spelled<'_>, handed: Handed) -> Result<(), AllocError>
         ensures { OnOk result (standing self.new ≡ handed_as handed files.now.names (spelled token.now) (standing self.old)) }
     {
         match (handed, self.reader.mode) {
             (Handed::Unfit, Mode::Reads) => self.bad(files, token),
-            _ => self.take(files, token),
+            (Handed::Kept | Handed::Unfit, _) => self.take(files, token),
+            (Handed::Condition, _) => Ok(()),
         }
     }
 

@@ -1,12 +1,11 @@
 ghost use Rattle.std.specs.Prelude.{◌≡◌};
-ghost use Rattle.inf_reader.specs.Tests.{atom_of, complaint_of, message_of};
+ghost use Rattle.inf_reader.specs.Tests.{complaint_of, message_of};
 ghost use Rattle.inf_unit.specs.Tokens.{spelled};
 ghost use Rattle.inf_report.specs.Meant.{meant};
 
 use inf_report::messages::Message;
 use inf_scanner::{BadToken, TokenKind};
 use inf_settings::setting::Setting;
-use inf_syntax::{Token as Seen, atom_of};
 use inf_unit::tokens::{Spelled, told};
 
 /// What a bad token is blamed for.
@@ -32,20 +31,4 @@ pub fn complaint_of<'t>(token: &Spelled<'t>) -> Message<'t>
         TokenKind::Bad(bad) => message_of(bad),
         _ => Message::Syntax(told(token)),
     }
-}
-
-/// How the grammar sees a token. What has a fault of its own is a bad one, which fits nowhere.
-pub fn atom_at(token: &Spelled<'_>) -> u8
-    ensures { result ≡ atom_of (spelled token.now) }
-{
-    atom_of(match token.kind {
-        TokenKind::Mark(mark) => Seen::Mark(mark),
-        TokenKind::Name => Seen::Name(token.bytes, false),
-        TokenKind::Number(_) => Seen::Number,
-        TokenKind::Char(_) => Seen::Char,
-        TokenKind::Word(_) => Seen::Word,
-        TokenKind::Text => Seen::Text,
-        TokenKind::Bad(_) => Seen::Bad,
-        TokenKind::End => Seen::End,
-    })
 }

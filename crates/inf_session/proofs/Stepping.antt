@@ -22,7 +22,7 @@ at_end : (files : FileNames) (bytes : List ℕ) (place : Place) (names : Table P
     → record { now = now; judged = j } ≡ judged site names (end_of bytes place) c → is_mode_ended (judged_taken files (end_of bytes place) j s).reading.mode ≡ true
 at_end files bytes place names c s site now j e =
     let h = end_is_handed site names bytes place c in
-    ap is_mode_ended (end_taken files bytes place j h.handed s (ap (λ (b : Behind). b.judged.token) e ∙ h.is))
+    ap is_mode_ended (end_taken files bytes place j h.handed s (ap (λ (b : Behind). b.judged.token) e ∙ h.is) h.on)
 
 -- the end of a file is handed on, in some way, and ends the reading
 pub end_ends : (files : FileNames) (k : TokenKind) (bytes : List ℕ) (place : Place) (names : Table Place) (c : Conditions) (s : Stand) (site : Site) (now : Conditions) (j : Judged)

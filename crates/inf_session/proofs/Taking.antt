@@ -4,18 +4,20 @@ use Rattle.inf_scanner.specs.declared.tokens.Place.{Place}
 use Rattle.inf_scanner.specs.declared.tokens.TokenKind.{TokenKind}
 use Rattle.inf_sources.specs.Cursors.{behind, read}
 use Rattle.inf_sources.specs.Inclusions.{Nesting}
+use Rattle.inf_unit.specs.Messages.{Reported}
 use Rattle.inf_unit.specs.Tokens.{Spelled}
 use Rattle.inf_conditionals.specs.Judging.{Behind, judged}
-use Rattle.inf_reader.specs.Handing.{judged_taken, site_of}
+use Rattle.inf_conditionals.specs.Open.{Conditions, silent}
+use Rattle.inf_reader.specs.Handing.{judged_taken, said_told, site_of}
 use Rattle.inf_reader.specs.Reading.{Stand}
 use Rattle.inf_session.specs.Session.{State, quoted_behind, stand_of, stepped, token_of}
 use Rattle.inf_session.proofs.Stepping.{spelled_as}
 
 -- the state behind a token
-abbrev pub with_all : State → Nesting → Behind → Stand → ℕ → State
-with_all s n b x quoted = record {
+abbrev pub with_all : State → Nesting → Conditions → Stand → ℕ → State
+with_all s n c x quoted = record {
   nesting = n;
-  conditions = b.now;
+  conditions = c;
   reading = x.reading;
   work = x.work;
   told = s.told;
@@ -26,21 +28,31 @@ with_all s n b x quoted = record {
 abbrev pub moved : State → Nesting
 moved s = record s.nesting { cursor = behind s.nesting.cursor (read s.nesting.cursor) }
 
+-- what is read and was compiled, with other lines
+abbrev pub reporting : Stand → Reported → Stand
+reporting s r = record s { work = record s.work { report = r } }
+
+-- behind what there is to tell of a condition
+abbrev pub told_stand : State → Behind → Stand
+told_stand s b = said_told b.now.said s.nesting.names (stand_of s)
+
 -- what it is by what becomes of the token among conditionals
 abbrev by_behind : State → Spelled → Behind → State
-by_behind s t b = with_all s (moved s) b (judged_taken s.nesting.names t b.judged (stand_of s)) (quoted_behind (site_of s.reading) b.judged t s.quoted)
+by_behind s t b =
+    with_all s (moved s) (silent b.now) (judged_taken s.nesting.names t b.judged (told_stand s b)) (quoted_behind (site_of s.reading) b.judged t s.quoted)
 
 abbrev by_token : State → Spelled → State
 by_token s t = by_behind s t (judged (site_of s.reading) s.work.output.names t s.conditions)
 
-pub step_is : (s : State) (n : Nesting) (b : Behind) (x : Stand) (quoted : ℕ) (t : Spelled)
+pub step_is : (s : State) (n : Nesting) (b : Behind) (c : Conditions) (x : Stand) (quoted : ℕ) (t : Spelled)
     → n ≡ moved s → t ≡ token_of s.nesting.cursor → b ≡ judged (site_of s.reading) s.work.output.names t s.conditions
-    → x ≡ judged_taken s.nesting.names t b.judged (stand_of s) → quoted ≡ quoted_behind (site_of s.reading) b.judged t s.quoted
-    → with_all s n b x quoted ≡ stepped s
-step_is s n b x quoted t goes is behind_it taken longest =
-    ap (λ n. with_all s n b x quoted) goes
-    ∙ ap (λ x. with_all s (moved s) b x quoted) taken
-    ∙ ap (λ q. with_all s (moved s) b (judged_taken s.nesting.names t b.judged (stand_of s)) q) longest
+    → c ≡ silent b.now → x ≡ judged_taken s.nesting.names t b.judged (told_stand s b) → quoted ≡ quoted_behind (site_of s.reading) b.judged t s.quoted
+    → with_all s n c x quoted ≡ stepped s
+step_is s n b c x quoted t goes is behind_it quiet taken longest =
+    ap (λ n. with_all s n c x quoted) goes
+    ∙ ap (λ c. with_all s (moved s) c x quoted) quiet
+    ∙ ap (λ x. with_all s (moved s) (silent b.now) x quoted) taken
+    ∙ ap (λ q. with_all s (moved s) (silent b.now) (judged_taken s.nesting.names t b.judged (told_stand s b)) q) longest
     ∙ ap (by_behind s t) behind_it
     ∙ ap (by_token s) is
 

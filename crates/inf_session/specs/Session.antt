@@ -11,7 +11,7 @@ use Rattle.inf_scanner.specs.declared.tokens.TokenKind.TheVariants as kind
 use Rattle.inf_token.specs.Files.{Sources}
 use Rattle.inf_conditionals.specs.Ends.{file_entered, file_left, file_told, piece_ended, piece_told}
 use Rattle.inf_conditionals.specs.Judging.{is_none_pending, judged, may_part}
-use Rattle.inf_conditionals.specs.Open.{Conditions, no_conditions}
+use Rattle.inf_conditionals.specs.Open.{Conditions, no_conditions, silent}
 use Rattle.inf_conditionals.specs.declared.judged.Judged.{Judged}
 use Rattle.inf_conditionals.specs.declared.judged.Site.{Site}
 use Rattle.inf_report.specs.Messages.{Message, NoInclude, TooManyFiles}
@@ -26,7 +26,7 @@ use Rattle.inf_settings.specs.declared.setting.Setting.{Setting}
 use Rattle.inf_settings.specs.declared.setting.Setting.TheVariants.{References}
 use Rattle.inf_unit.specs.Messages.{FileNames, flushed, location, none_reported, with_fatal, with_full}
 use Rattle.inf_unit.specs.Tokens.{Spelled}
-use Rattle.inf_reader.specs.Handing.{judged_taken, site_of}
+use Rattle.inf_reader.specs.Handing.{judged_taken, said_told, site_of}
 use Rattle.inf_reader.specs.Reading.{Reading, Stand, begun_stand, has_ended_at, is_mode_ended}
 use Rattle.inf_reader.specs.declared.mode.Mode.TheVariants as mode
 use Rattle.inf_session.specs.Choices.{Choices, most_quoted}
@@ -63,7 +63,7 @@ abbrev pub start : Sources → Choices → List ℕ → State
 start sources o name =
     let main = main_opened o.set (most_quoted o) sources name in
     let s = begun_with o main.names in
-    record { nesting = main; conditions = no_conditions; reading = s.reading; work = s.work; told = []; is_over = false; quoted = 0 }
+    record { nesting = main; conditions = no_conditions o.settings; reading = s.reading; work = s.work; told = []; is_over = false; quoted = 0 }
 
 -- how it is read and what was compiled
 abbrev pub stand_of : State → Stand
@@ -98,15 +98,15 @@ abbrev pub quoted_behind : Site → Judged → Spelled → ℕ → ℕ
 quoted_behind site j t quoted =
     if site.is_quiet || is_none j.token then quoted else if nat_lt quoted (quoted_bytes t) then quoted_bytes t else quoted
 
--- the conditionals say what becomes of it, and the reader takes what is handed on
+-- the conditionals say what becomes of it, and what there is to tell of a condition, and the reader takes what is handed on
 abbrev pub stepped : State → State
 stepped s =
     let t = token_of s.nesting.cursor in
     let b = judged (site_of s.reading) s.work.output.names t s.conditions in
-    let n = judged_taken s.nesting.names t b.judged (stand_of s) in
+    let n = judged_taken s.nesting.names t b.judged (said_told b.now.said s.nesting.names (stand_of s)) in
     record {
       nesting = record s.nesting { cursor = behind s.nesting.cursor (read s.nesting.cursor) };
-      conditions = b.now;
+      conditions = silent b.now;
       reading = n.reading;
       work = n.work;
       told = s.told;

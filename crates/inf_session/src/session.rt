@@ -75,7 +75,7 @@ impl<'a> Session<'a> {
         ensures files { IfOk result (λ session. session.open_files ≡ open_files) }
         ensures standing { IfOk result (λ session. standing session.progress ≡ begun_with (chosen setup.entry) session.open_files.nest.names) }
         ensures going { IfOk result (λ session. session.is_over ≡ false) }
-        ensures conditionals { IfOk result (λ session. session.conditionals ≡ no_conditions) }
+        ensures conditionals { IfOk result (λ session. session.conditionals ≡ no_conditions (chosen setup.entry).settings) }
         ensures quoted { IfOk result (λ session. session.quoted ≡ 0) }
         ensures setup { IfOk result (λ session. session.setup ≡ setup.entry) }
         ensures bounded { IfOk result (λ session. IsBounded session) }
@@ -88,7 +88,7 @@ impl<'a> Session<'a> {
             alloc,
             setup,
             open_files,
-            conditionals: Conditionals::new(alloc),
+            conditionals: Conditionals::new(alloc, setup.settings),
             progress,
             is_over: false,
             quoted: 0,
@@ -392,6 +392,8 @@ impl<'a> Session<'a> {
             .conditionals
             .take(site, &self.progress.work.output.names, &spelled)?;
         self.quoted = quoted_behind(site, judged, &spelled, self.quoted);
+        self.conditionals
+            .tell(self.open_files.names(), &mut self.progress.work.report)?;
         self.progress
             .take_judged(self.open_files.names(), &spelled, judged)?;
         Ok(())

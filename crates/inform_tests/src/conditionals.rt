@@ -3,7 +3,7 @@ use crate::running::read_folders;
 use std::test::Fail;
 
 /// Files of a folder, with all messages of `t.inf` among them.
-static FOLDERS: [(&[(&str, &[u8])], &str); 20] = [
+static FOLDERS: [(&[(&str, &[u8])], &str); 27] = [
     // A name of an included file is known; one that is declared later is not; a file ends with an open conditional.
     (
         &[
@@ -140,10 +140,69 @@ static FOLDERS: [(&[(&str, &[u8])], &str); 20] = [
         )],
         "Errors: 0, warnings: 0\n",
     ),
-    // Those with conditions have not come yet.
+    // A condition is a known number, and true where it is not 0.
     (
-        &[("t.inf", b"[ Main;\n#Iftrue 1; ];\nIffalse 1;")],
-        "t.inf(2): Error: Syntax error at \"Iftrue\"\nt.inf(3): Error: Syntax error at \"Iffalse\"\nErrors: 2, warnings: 0 (no output)\n",
+        &[(
+            "t.inf",
+            b"Constant K = 7;\nIftrue K == 7; Message \"a\"; Ifnot; Message \"no\"; Endif;\n#Iffalse k * 2 - 14 || 'a' ~= 97; Message \"b\"; #Endif;\nIftrue -1 < 0 && ~~(3 == 1 or 2) && 7 / -2 == -3; Message \"c\"; Endif;\nIftrue K = 7; Message \"d\"; [ Main; ];",
+        )],
+        "a\nb\nc\nt.inf(5): Error: Syntax error at \"=\"\nd\nErrors: 1, warnings: 0 (no output)\n",
+    ),
+    // With an error it is false.
+    (
+        &[(
+            "t.inf",
+            b"Iftrue X; Message \"no\"; Ifnot; Message \"a\"; Endif;\nIffalse 1 % 0; Message \"b\"; Endif;\nIffalse\nchild; Message \"c\"; Endif;\nIftrue 0 && X; Endif;\nIftrue\n(1 +\n5++) * 1 / 0; Endif;\nIftrue self || random(5); Endif;\nIftrue X(1, 2, 3, 4, 5, 6, 7, 8); Endif;\n[ Main; ];",
+        )],
+        "t.inf(1): Error: Not a constant known here\na\nt.inf(2): Error: Constant out of range\nb\nt.inf(4): Error: Wrong kind: \"child\"\nc\nt.inf(5): Error: Not a constant known here\nt.inf(6): Error: Not a constant known here\nt.inf(9): Error: Not a constant known here\nt.inf(10): Error: Not a constant known here\nErrors: 7, warnings: 0 (no output)\n",
+    ),
+    // It sees the names of the directives before, and no locals.
+    (
+        &[(
+            "t.inf",
+            b"Constant K = 3;\n[ Main K; #Iftrue K == 3; K; #Endif;\n#Iftrue L; #Endif; #Iffalse Main; #Endif; ];\nConstant L = 1;\n[ R; #Iftrue L; #Ifnot; ) #Endif; ];",
+        )],
+        "t.inf(3): Error: Not a constant known here\nt.inf(3): Error: Not a constant known here\nErrors: 2, warnings: 0 (no output)\n",
+    ),
+    // A conditional inside a condition chooses among its tokens, and belongs to the directive around both.
+    (
+        &[(
+            "t.inf",
+            b"Iftrue 1 #Iftrue 0; + #Ifnot; - 1 #Endif; ; Message \"no\"; Ifnot; Message \"a\"; Endif;\nIftrue #Iffalse #Iftrue 1; 0 #Endif; == 2; 3 #Endif; == 3; Message \"b\"; Endif;\nIftrue 1 #Iftrue 1; ; Message \"c\"; Endif;\n[ Main; #Iftrue 1 #Ifdef K; ( #Endif; ; print \"d\"; #Endif; #Iftrue 2\n#Iftrue 3;\n; #Endif; ];",
+        )],
+        "a\nb\nt.inf(3): Error: Conditional without its other end\nc\nt.inf(5): Error: Conditional without its other end\nErrors: 2, warnings: 0 (no output)\n",
+    ),
+    // What does not fit a condition is the bad token of the directive around it.
+    (
+        &[(
+            "t.inf",
+            b"Iftrue; Message \"a\";\nIftrue 5 5; Message \"b\";\nIffalse (1; Message \"c\";\nIftrue 1 Iftrue 1; Message \"d\";\n[ Main;\n#Iftrue 1\nx; print \"a\"; ];\n[ Main; #Iftrue 99999; ]; Message \"e\";\n[ Main; ];\nIftrue 1 #Iftrue = 1; ; Message \"f\";",
+        )],
+        "t.inf(1): Error: Syntax error at \";\"\na\nt.inf(2): Error: Syntax error at \"5\"\nb\nt.inf(3): Error: Syntax error at \";\"\nc\nt.inf(4): Error: Syntax error at \"Iftrue\"\nd\nt.inf(7): Error: Syntax error at \"x\"\nt.inf(8): Error: \"Main\" was declared at t.inf(5)\nt.inf(8): Error: Number out of range\ne\nt.inf(9): Error: \"Main\" was declared at t.inf(5)\nt.inf(10): Error: Syntax error at \"=\"\nf\nErrors: 9, warnings: 0 (no output)\n",
+    ),
+    // Among tokens that are passed over nothing is told of a condition.
+    (
+        &[(
+            "t.inf",
+            b") #Iftrue 1; 5 #Ifnot; ; #Endif; ; Message \"a\";\n) #Iffalse X / 0; ; #Ifnot; #Endif; Message \"b\"; ; Message \"c\";\n) #Iftrue ; Message \"d\"; [ Main; ];",
+        )],
+        "t.inf(1): Error: Syntax error at \")\"\na\nt.inf(2): Error: Syntax error at \")\"\nt.inf(2): Error: Conditional without its other end\nt.inf(2): Error: Conditional without its other end\nt.inf(2): Error: Conditional without its other end\nb\nc\nt.inf(3): Error: Syntax error at \")\"\nd\nErrors: 6, warnings: 0 (no output)\n",
+    ),
+    // Brackets of a condition are counted from 0.
+    (
+        &[(
+            "t.inf",
+            b"[ Main; { { { { { { { { { { { { { { { { { { { { #Iftrue (((((((((((((((((((((((((((((((((((((((((((((((((1))))))))))))))))))))))))))))))))))))))))))))))))); 5 #Endif; + 1; } } } } } } } } } } } } } } } } } } } } \n#Iftrue ((((((((((((((((((((((((((((((((((((((((((((((((((((((((((((((((\n(",
+        )],
+        "t.inf(3): Fatal error: Nesting over 64\n",
+    ),
+    // A condition has at most 100 tokens.
+    (
+        &[(
+            "t.inf",
+            b"Iftrue\n- - - - - - - - - - - - - - - - - - - - - - - - - - - - - - - - - - - - - - - - - - - - - - - - - - - - - - - - - - - - - - - - - - - - - - - - - - - - - - - - - - - - - - - - - - - - - - - - - - - 1; Message \"a\"; Endif;\nIftrue\n1 +1 +1 +1 +1 +1 +1 +1 +1 +1 +1 +1 +1 +1 +1 +1 +1 +1 +1 +1 +1 +1 +1 +1 +1 +1 +1 +1 +1 +1 +1 +1 +1 +1 +1 +1 +1 +1 +1 +1 +1 +1 +1 +1 +1 +1 +1 +1 +1 +1\n+\n1",
+        )],
+        "a\nt.inf(6): Fatal error: MAX_EXPRESSION_NODES is exceeded\n",
     ),
     // The names of the language are declared; what was used only is not.
     (

@@ -10,11 +10,13 @@ use Rattle.inf_reader.specs.Reading.{Stand, is_mode_ended}
 use Rattle.inf_reader.specs.Standing.{standing}
 use Rattle.inf_lexer.specs.Names.{Nest}
 use Rattle.inf_conditionals.specs.Judging.{judged}
+use Rattle.inf_conditionals.specs.Said.{with_said}
+use Rattle.inf_unit.specs.Messages.{Reported}
 use Rattle.inf_reader.specs.Handing.{judged_taken}
 use Rattle.inf_session.specs.Session.{State, quoted_behind, stand_of}
 use Rattle.inf_session.specs.Standing.{state}
 use Rattle.inf_session.proofs.Stepping.{end_ends, spelled_as}
-use Rattle.inf_session.proofs.Taking.{step_is, token_is}
+use Rattle.inf_session.proofs.Taking.{reporting, step_is, token_is}
 use Rattle.inf_session.proofs.Weighing.{room_less}
 use Rattle.inf_session.proofs.session.Session.take_token.Goals as goal
 
@@ -25,7 +27,7 @@ returns-clause-moves g c =
     let took = c.in-Ok.ensures.took in
     elim took.one [
       | inl end ↦ inl (ap (λ (s : Stand). is_mode_ended s.reading.mode) c.in_ok-take_judged.ensures
-          ∙ end_ends c.names.result.now.names token.kind c.spelling.result.now token.place before.progress.work.output.names before.conditionals (standing before.progress) c.site-site.result _ _ c.in_ok-judged.ensures end)
+          ∙ end_ends c.names-2.result.now.names token.kind c.spelling.result.now token.place before.progress.work.output.names before.conditionals (reporting (standing before.progress) c.tell.new.report) c.site-site.result _ _ c.in_ok-judged.ensures end)
       | inr less ↦ inr (room_less c.args.self.now.open_files.lexer c.next.new.self.lexer less c.in-Ok.ensures.few)
     ]
 
@@ -40,7 +42,7 @@ returns-in-Err-Read-clause-unfinished g c = λ honest start.
 pub returns-clause-limits : goal.returns-clause-limits
 returns-clause-limits g c =
     let token = c.in-Ok.token in
-    let same = judged_taken_same c.names.result.now.names (spelled_as token.kind c.spelling.result.now token.place) c.in_ok-judged.judged (standing c.args.self.now.progress) in
+    let same = judged_taken_same c.names-2.result.now.names (spelled_as token.kind c.spelling.result.now token.place) c.in_ok-judged.judged (reporting (standing c.args.self.now.progress) c.tell.new.report) in
     let is = c.in_ok-take_judged.ensures in
     (ap (λ (s : Stand). s.work.output.names.limit) is ∙ same.0, ap (λ (s : Stand). s.work.output.code.limits) is ∙ same.1)
 
@@ -60,13 +62,18 @@ returns-clause-stepped g c = λ honest start nested told.
     let now = nesting (files.sources c.args.files.now) start (files.openings c.next.new.files) c.next.new.self in
     let reads = c.in-Ok.ensures.token honest start nested in
     let bytes = c.spelling.result.now in
-    let names = c.names.result.now.names in
-    let same : names ≡ before.nesting.names = ap (λ (s : Nest). s.names) (c.names.ensures ∙ c.in-Ok.ensures.same.0) in
+    let names = before.nesting.names in
+    let told_names : c.names.result.now.names ≡ names = ap (λ (s : Nest). s.names) (c.names.ensures ∙ c.in-Ok.ensures.same.0) in
+    let taken_names : c.names-2.result.now.names ≡ names = ap (λ (s : Nest). s.names) (c.names-2.ensures ∙ c.in-Ok.ensures.same.0) in
     let spelled = spelled_as token.kind bytes token.place in
     let is = token_is before token.kind bytes token.place reads.kind reads.place (c.spelling.ensures ∙ reads.bytes) in
     let site = c.site-site.ensures in
     let behind_it = c.in_ok-judged.ensures ∙ ap (λ site. judged site before.work.output.names spelled before.conditions) site in
-    let taken = c.in_ok-take_judged.ensures ∙ ap (λ names. judged_taken names spelled c.in_ok-judged.judged (stand_of before)) same in
+    let said = c.take.new.self.said in
+    let told = c.in_ok-tell.ensures.told ∙ ap (λ names. with_said names said before.work.report) told_names in
+    let taken =
+    c.in_ok-take_judged.ensures ∙ ap (λ names. judged_taken names spelled c.in_ok-judged.judged (reporting (stand_of before) c.tell.new.report)) taken_names
+    ∙ ap (λ (r : Reported). judged_taken names spelled c.in_ok-judged.judged (reporting (stand_of before) r)) told in
     let longest = c.quoted_behind-self.ensures ∙ ap (λ site. quoted_behind site c.in_ok-judged.judged spelled before.quoted) site in
-    step_is before now (record { now = c.take.new.self; judged = c.in_ok-judged.judged }) (standing c.take_judged.new.self) c.quoted_behind-self.result spelled
-    reads.goes_on is behind_it taken longest
+    step_is before now (record { now = c.take.new.self; judged = c.in_ok-judged.judged }) c.tell.new.self (standing c.take_judged.new.self) c.quoted_behind-self.result spelled
+    reads.goes_on is behind_it c.in_ok-tell.ensures.silent taken longest

@@ -1,6 +1,6 @@
 use Rattle.std.proofs.Common.{◌≡◌, drop}
 use Rattle.inf_conditionals.specs.Ends.{with_all_lone}
-use Rattle.inf_conditionals.proofs.conditionals.tell_all.Given as goal
+use Rattle.inf_conditionals.proofs.ends.tell_all.Given as goal
 
 -- what is told, and then of the conditionals that are left, is what is told of all
 abbrev pub invariant-loop-conditional : goal.invariant-loop-conditional

@@ -1,0 +1,87 @@
+-- The condition of a conditional directive. The grammar reads the directive as it reads any other, from its word to its semicolon,
+-- by a machine of its own; at its end the condition is judged as a constant that has to be known.
+use Rattle.std.specs.Prelude.{ℕ, ◌==◌, List, [], ◌∷◌, map, Bool, true, false, not, Option, Some, None}
+use Rattle.inf_scanner.specs.declared.tokens.Place.{Place}
+use Rattle.inf_machine.specs.declared.symbols.Symbol.{Symbol}
+use Rattle.inf_machine.specs.declared.symbols.Symbol.TheVariants.{Rule}
+use Rattle.inf_machine.specs.Machine.{taken as read}
+use Rattle.inf_syntax.specs.declared.actions.Action.{Action}
+use Rattle.inf_grammar.specs.Language.{grammar, known}
+use Rattle.inf_expressions.specs.declared.findings.Finding.{Finding}
+use Rattle.inf_expressions.specs.declared.operators.Operand.{Operand}
+use Rattle.inf_expressions.specs.declared.operators.Operand.TheVariants.{Known}
+use Rattle.inf_expressions.specs.declared.units.Wanted.TheVariants.{Constant}
+use Rattle.inf_expressions.specs.Findings.{no_constant}
+use Rattle.inf_expressions.specs.Rooted.{Rooted}
+use Rattle.inf_expressions.specs.Trees.{Tree, Leaf}
+use Rattle.inf_expressions.specs.Units.{judged, trees_of}
+use Rattle.inf_names.specs.Symbols.{Table}
+use Rattle.inf_unit.specs.Tokens.{Spelled}
+use Rattle.inf_unit.specs.Units.{Unit, acted, no_unit, taken}
+use Rattle.inf_conditionals.specs.Atoms.{atom_of}
+use Rattle.inf_conditionals.specs.Operands.{operands_of}
+use Rattle.inf_conditionals.specs.declared.condition.Verdict.{Verdict}
+
+-- what of its directive is still to be read, and what was read
+pub record Condition : Type 0 where
+  pub stack : List (Symbol Action)
+  pub unit : Unit
+
+-- Its tokens
+
+-- the rule of the pieces
+abbrev pub piece_rule : ℕ
+piece_rule = 1
+
+abbrev pub condition_begun : Condition
+condition_begun = record { stack = Rule piece_rule ∷ []; unit = no_unit }
+
+abbrev pub all_acted : List Action → Unit → Unit
+all_acted [] u = u
+all_acted (a ∷ actions) u = all_acted actions (acted a u)
+
+-- a token that fits is taken: first the actions on the way to it gather
+abbrev pub condition_took : Spelled → Condition → Condition
+condition_took t k =
+    let n = read grammar known (atom_of t) k.stack in
+    record { stack = n.left; unit = taken t (all_acted n.actions k.unit) }
+
+-- whether the directive is whole
+abbrev pub is_none_left : List (Symbol Action) → Bool
+is_none_left [] = true
+is_none_left (symbol ∷ symbols) = false
+
+abbrev pub is_whole : Condition → Bool
+is_whole k = is_none_left k.stack
+
+-- Its value
+
+abbrev pub tree_in : Rooted → Tree
+tree_in r = r.tree
+
+-- the known number that the first of its trees is, if it is one
+abbrev pub number_of : List Tree → Option ℕ
+number_of ((Leaf (Known number)) ∷ trees) = Some number
+number_of _ = None
+
+-- What is wrong with it: also that it is no known number.
+abbrev pub finding_by : Option ℕ → Option Finding → Option Finding
+finding_by None None = Some (no_constant 0)
+finding_by number found = found
+
+-- with an error it is not true
+abbrev pub is_true_by : Option ℕ → Option Finding → Bool
+is_true_by (Some number) None = not (number == 0)
+is_true_by number found = false
+
+-- what it comes to, by what its leaves stand for
+abbrev pub verdict_by : Option ℕ → Option Finding → Verdict
+verdict_by number found = record { is_true = is_true_by number found; finding = finding_by number found }
+
+abbrev pub verdict_with : List Operand → Condition → Verdict
+verdict_with operands k =
+    verdict_by (number_of (map tree_in (trees_of Constant 0 operands k.unit.gathering.symbols))) (judged Constant 0 operands k.unit.gathering.symbols)
+
+-- where so many names were declared by the directives before
+abbrev pub verdict_of : ℕ → Table Place → Condition → Verdict
+verdict_of declared names k = verdict_with (operands_of declared names k.unit.tokens k.unit.gathering.leaves) k

@@ -1,0 +1,82 @@
+-- What the names of a condition stand for: those that were declared by the directives before the one in which it stands.
+use Rattle.std.specs.Prelude.{ℕ, List, [], ◌∷◌, ◌++◌, if◌then◌else◌, Option, Some, None}
+use Rattle.inf_area.specs.declared.targets.Target.TheVariants as target
+use Rattle.inf_scanner.specs.declared.tokens.Place.{Place}
+use Rattle.inf_expressions.specs.declared.operators.Function.{Function}
+use Rattle.inf_expressions.specs.declared.operators.Function.TheVariants as function
+use Rattle.inf_expressions.specs.declared.operators.Operand.{Operand}
+use Rattle.inf_expressions.specs.declared.operators.Operand.TheVariants as operand
+use Rattle.inf_gathering.specs.declared.gathering.Leaf.{Leaf}
+use Rattle.inf_gathering.specs.declared.gathering.Leaf.TheVariants as leaf
+use Rattle.inf_names.specs.Symbols.{Table, declared_before, found_in}
+use Rattle.inf_names.specs.declared.meanings.Function.{Function as NamedFunction}
+use Rattle.inf_names.specs.declared.meanings.Function.TheVariants as named
+use Rattle.inf_names.specs.declared.meanings.Meaning.{Meaning}
+use Rattle.inf_names.specs.declared.meanings.Meaning.TheVariants as meaning
+use Rattle.inf_names.specs.declared.symbols.Found.{Found}
+use Rattle.inf_names.specs.declared.symbols.Found.TheVariants as found
+use Rattle.inf_symbol.specs.Spellings.{Name}
+use Rattle.inf_unit.specs.Tokens.{Spelled}
+use Rattle.inf_unit.specs.Units.{name_at}
+
+-- Every other name is known later: no code asks for its number.
+abbrev pub later : Operand
+later = operand.Later (target.Name 0)
+
+abbrev pub function_of : NamedFunction → Function
+function_of named.Child = function.Child
+function_of named.Parent = function.Parent
+function_of named.Sibling = function.Sibling
+function_of named.Children = function.Children
+function_of named.Random = function.Random
+function_of named.Indirect = function.Indirect
+
+abbrev pub operand_of : Meaning → Operand
+operand_of (meaning.Number number) = operand.Known number
+operand_of (meaning.Variable number) = operand.Variable number
+operand_of (meaning.Attribute number) = operand.Known number
+operand_of (meaning.Property number is_additive) = operand.Known number
+operand_of (meaning.IndividualProperty number) = operand.Known number
+operand_of (meaning.Object number) = operand.Known number
+operand_of (meaning.Class number) = operand.Known number
+operand_of (meaning.FakeAction number) = operand.Known number
+operand_of (meaning.Function f) = operand.Function (function_of f)
+operand_of (meaning.Text place) = later
+operand_of (meaning.Word place) = later
+operand_of (meaning.LowString place) = later
+operand_of (meaning.Array place) = later
+operand_of (meaning.Routine place) = later
+
+abbrev pub found_operand : Found Place → Operand
+found_operand (found.System m) = operand_of m
+found_operand (found.Declared m place) = operand_of m
+found_operand found.Used = later
+found_operand found.Unknown = later
+
+-- what a name stands for, where so many names were declared by the directives before
+abbrev pub name_operand : ℕ → Table Place → List ℕ → Operand
+name_operand declared names bytes = if declared_before bytes declared names then found_operand (found_in bytes names) else later
+
+-- the name at a place among the tokens of the condition
+abbrev pub bytes_of : Option Name → List ℕ
+bytes_of None = []
+bytes_of (Some n) = n.bytes
+
+abbrev pub leaf_operand : ℕ → Table Place → List Spelled → Leaf → Operand
+leaf_operand declared names tokens (leaf.Name at) = name_operand declared names (bytes_of (name_at tokens at))
+leaf_operand declared names tokens (leaf.Alone at) = name_operand declared names (bytes_of (name_at tokens at))
+leaf_operand declared names tokens (leaf.Number number) = operand.Known number
+leaf_operand declared names tokens (leaf.Char zscii) = operand.Known zscii
+leaf_operand declared names tokens (leaf.Word word) = operand.Unknown
+leaf_operand declared names tokens (leaf.Text at) = operand.Unknown
+leaf_operand declared names tokens (leaf.Action at) = operand.Unknown
+leaf_operand declared names tokens (leaf.System at) = operand.Unknown
+
+-- behind others
+abbrev pub operands_from : ℕ → Table Place → List Spelled → List Leaf → List Operand → List Operand
+operands_from declared names tokens [] operands = operands
+operands_from declared names tokens (l ∷ leaves) operands =
+    operands_from declared names tokens leaves (operands ++ leaf_operand declared names tokens l ∷ [])
+
+abbrev pub operands_of : ℕ → Table Place → List Spelled → List Leaf → List Operand
+operands_of declared names tokens leaves = operands_from declared names tokens leaves []

@@ -1,0 +1,161 @@
+//! The condition of a conditional directive.
+ghost use Rattle.std.specs.Prelude.{◌≡◌, IfOk, OnOk, map, true};
+ghost use Rattle.inf_conditionals.specs.Condition.{all_acted, condition_begun, condition_took, finding_by, is_true_by, is_whole, number_of, tree_in, verdict_of};
+ghost use Rattle.inf_conditionals.specs.Atoms.{atom_of};
+ghost use Rattle.inf_conditionals.specs.Meant.{condition};
+ghost use Rattle.inf_expressions.specs.Forests.{trees_in};
+ghost use Rattle.inf_grammar.specs.Language.{grammar, known};
+ghost use Rattle.inf_machine.specs.Machine.{fits};
+ghost use Rattle.inf_unit.specs.AtHand.{unit as unit_of};
+ghost use Rattle.inf_unit.specs.Tokens.{spelled};
+
+use crate::atoms::atom_at;
+use crate::operands::operands_of;
+use inf_area::Value;
+use inf_expressions::{Finding, Forest, Wanted, build, constant, judge};
+use inf_grammar::{Action, Machine, PIECE};
+use inf_names::symbols::Symbols;
+use inf_scanner::Place;
+use inf_unit::tokens::Spelled;
+use inf_unit::unit::Unit;
+use std::alloc::{AllocError, Global};
+
+/// A conditional directive with a condition that is being read: by the grammar, as any other directive.
+#[derive(Drop)]
+pub struct Condition {
+    alloc: Global,
+    /// What of it is still to be read.
+    machine: Machine,
+    pub(crate) unit: Unit,
+    /// The actions on the way to the token at hand.
+    actions: Vec<Action>,
+}
+
+/// What a condition comes to.
+#[derive(Clone, Copy, Debug, PartialEq, Eq)]
+pub struct Verdict {
+    /// With an error it is not.
+    pub is_true: bool,
+    /// The least of what is wrong with it.
+    pub finding: Option<Finding>,
+}
+
+impl Condition {
+    /// It takes no memory until one begins.
+    pub(crate) fn new(alloc: Global) -> Condition {
+        Condition {
+            alloc,
+            machine: Machine::new(alloc),
+            unit: Unit::new(alloc),
+            actions: Vec::new(alloc),
+        }
+    }
+
+    /// Before the word of a directive.
+    pub(crate) fn begin(&mut self) -> Result<(), AllocError>
+        ensures { OnOk result (condition self.new ≡ condition_begun) }
+    {
+        self.unit.clear();
+        self.machine.clear();
+        self.machine.start(PIECE)
+    }
+
+    /// Takes the next token of its directive, if it fits. Answers whether it does.
+    pub(crate) fn take(&mut self, token: &Spelled<'_>) -> Result<bool, AllocError>
+        ensures fits { IfOk result (λ is_taken. is_taken ≡ fits grammar known (atom_of (spelled token.now)) (condition self.old).stack) }
+        ensures taken { IfOk result (λ is_taken. is_taken ≡ true → condition self.new ≡ condition_took (spelled token.now) (condition self.old)) }
+    {
+        self.actions.clear();
+        if !self.machine.read(atom_at(token), &mut self.actions)? {
+            return Ok(false);
+        }
+        act_all(self.actions.as_slice(), &mut self.unit)?;
+        self.unit.take(token)?;
+        Ok(true)
+    }
+
+    /// Whether the directive is whole.
+    pub(crate) fn is_whole(&self) -> bool
+        ensures { result ≡ is_whole (condition self.now) }
+    {
+        self.machine.is_done()
+    }
+
+    /// What it comes to, where so many names were declared by the directives before.
+    pub(crate) fn judge(
+        &self,
+        declared: usize,
+        names: &Symbols<Place>,
+    ) -> Result<Verdict, AllocError>
+        ensures { IfOk result (λ v. v ≡ verdict_of declared names.now (condition self.now)) }
+    {
+        let symbols = self.unit.gathering.symbols();
+        let operands = operands_of(
+            self.alloc,
+            declared,
+            names,
+            &self.unit.tokens,
+            self.unit.gathering.leaves(),
+        )?;
+        let found = judge(
+            self.alloc,
+            Wanted::Constant,
+            0,
+            symbols,
+            operands.as_slice(),
+        )?;
+        let forest = build(
+            self.alloc,
+            Wanted::Constant,
+            0,
+            symbols,
+            operands.as_slice(),
+        )?;
+        let number = number_of(&forest);
+        Ok(Verdict {
+            is_true: is_true(number, found),
+            finding: finding_of(number, found),
+        })
+    }
+}
+
+/// Some actions gather.
+fn act_all(actions: &[Action], unit: &mut Unit) -> Result<(), AllocError>
+    ensures { OnOk result (unit_of unit.new ≡ all_acted actions.now (unit_of unit.old)) }
+{
+    for action in actions {
+        unit.act(*action)?;
+    }
+    Ok(())
+}
+
+/// The known number that the first of some trees is, if it is one.
+fn number_of(forest: &Forest) -> Option<u16>
+    ensures { result ≡ number_of (map tree_in (trees_in forest.now)) }
+{
+    let root = forest.roots.first()?;
+    match constant(&forest.nodes, root.place)? {
+        Value::Known(number) => Some(number),
+        Value::Later(_) => None,
+    }
+}
+
+/// What is wrong with a condition: also that it is no known number.
+fn finding_of(number: Option<u16>, found: Option<Finding>) -> Option<Finding>
+    ensures { result ≡ finding_by number found }
+{
+    match (number, found) {
+        (None, None) => Some(Finding::no_constant(0)),
+        _ => found,
+    }
+}
+
+/// Whether it is true, which it is not with an error.
+fn is_true(number: Option<u16>, found: Option<Finding>) -> bool
+    ensures { result ≡ is_true_by number found }
+{
+    match (number, found) {
+        (Some(number), None) => number != 0,
+        _ => false,
+    }
+}

@@ -1,0 +1,32 @@
+//! What is told of conditionals that have no other end.
+ghost use Rattle.std.specs.Prelude.{◌≡◌, OnOk};
+ghost use Rattle.inf_conditionals.specs.Ends.{with_all_lone, with_lone};
+
+use crate::open::Conditional;
+use inf_lexer::Stack;
+use inf_report::messages::Message;
+use inf_scanner::Place;
+use inf_unit::messages::{Messages, location};
+use std::alloc::AllocError;
+
+/// Tells some conditionals that have no other end.
+pub(crate) fn tell_all(
+    unclosed: &[Conditional],
+    files: &Stack,
+    report: &mut Messages,
+) -> Result<(), AllocError>
+    ensures { OnOk result (report.new ≡ with_all_lone files.now.names unclosed.now report.old) }
+{
+    for conditional in unclosed {
+        tell_lone(conditional.place, files, report)?;
+    }
+    Ok(())
+}
+
+/// Tells a conditional directive without its other end, where it begins.
+pub fn tell_lone(place: Place, files: &Stack, report: &mut Messages) -> Result<(), AllocError>
+    ensures { OnOk result (report.new ≡ with_lone files.now.names place report.old) }
+{
+    let at = location(files, place);
+    report.error(at, at, &Message::LoneConditional)
+}

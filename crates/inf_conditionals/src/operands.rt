@@ -1,0 +1,116 @@
+//! What the names of a condition stand for.
+ghost use Rattle.std.specs.Prelude.{◌≡◌, ◌≤◌, IfOk, IfSome, length, option_map};
+ghost use Rattle.inf_unit.specs.NameTokens.{named};
+ghost use Rattle.inf_conditionals.specs.Operands.{bytes_of, found_operand, function_of, leaf_operand, name_operand, operand_of, operands_of};
+
+use inf_area::Target;
+use inf_expressions::{Function, Operand};
+use inf_gathering::gathering::Leaf;
+use inf_names::meanings::{Function as NamedFunction, Meaning};
+use inf_names::symbols::{Found, Symbols};
+use inf_scanner::Place;
+use inf_unit::unit_tokens::{NameToken, UnitTokens};
+use std::alloc::{AllocError, Global};
+
+/// A name that is known later. No code asks for its number.
+const LATER: Operand = Operand::Later(Target::Name(0));
+
+fn function_of(function: NamedFunction) -> Function
+    ensures { result ≡ function_of function }
+{
+    match function {
+        NamedFunction::Child => Function::Child,
+        NamedFunction::Parent => Function::Parent,
+        NamedFunction::Sibling => Function::Sibling,
+        NamedFunction::Children => Function::Children,
+        NamedFunction::Random => Function::Random,
+        NamedFunction::Indirect => Function::Indirect,
+    }
+}
+
+/// What a name is in a condition that was declared so.
+fn operand_of(meaning: Meaning) -> Operand
+    ensures { result ≡ operand_of meaning }
+{
+    match meaning {
+        Meaning::Variable(number) => Operand::Variable(number),
+        Meaning::Attribute(number) | Meaning::Property { number, .. } => {
+            Operand::Known(number as u16)
+        }
+        Meaning::Number(number)
+        | Meaning::IndividualProperty(number)
+        | Meaning::Object(number)
+        | Meaning::Class(number)
+        | Meaning::FakeAction(number) => Operand::Known(number),
+        Meaning::Function(function) => Operand::Function(function_of(function)),
+        Meaning::Text(_)
+        | Meaning::Word(_)
+        | Meaning::LowString(_)
+        | Meaning::Array(_)
+        | Meaning::Routine(_) => LATER,
+    }
+}
+
+fn found_operand(found: Found<Place>) -> Operand
+    ensures { result ≡ found_operand found }
+{
+    match found {
+        Found::System(meaning) | Found::Declared(meaning, _) => operand_of(meaning),
+        Found::Used | Found::Unknown => LATER,
+    }
+}
+
+/// What a name stands for, where so many names were declared by the directives before.
+fn name_operand(declared: usize, names: &Symbols<Place>, name: &[u8]) -> Operand
+    requires { length name.now ≤ 35 }
+    ensures { result ≡ name_operand declared names.now name.now }
+{
+    if names.declared_before(name, declared) {
+        found_operand(names.look(name))
+    } else {
+        LATER
+    }
+}
+
+/// The bytes of a name, if there is one.
+fn bytes_of<'t>(name: Option<NameToken<'t>>) -> &'t [u8]
+    requires { IfSome name (λ n. length n.bytes.now ≤ 32) }
+    ensures value { result.now ≡ bytes_of (option_map named name.entry) }
+    ensures few { length result.now ≤ 32 }
+{
+    match name {
+        Some(name) => name.bytes,
+        None => b"",
+    }
+}
+
+/// What a leaf stands for of a condition with these tokens.
+fn leaf_operand(declared: usize, names: &Symbols<Place>, tokens: &UnitTokens, leaf: Leaf) -> Operand
+    ensures { result ≡ leaf_operand declared names.now tokens.now leaf }
+{
+    match leaf {
+        Leaf::Name(at) | Leaf::Alone(at) => {
+            name_operand(declared, names, bytes_of(tokens.name_at(at)))
+        }
+        Leaf::Number(number) => Operand::Known(number),
+        Leaf::Char(zscii) => Operand::Known(u16::from(zscii.code())),
+        Leaf::Word(_) | Leaf::Text(_) | Leaf::Action(_) | Leaf::System(_) => Operand::Unknown,
+    }
+}
+
+/// What the leaves stand for of a condition with these tokens.
+pub(crate) fn operands_of(
+    alloc: Global,
+    declared: usize,
+    names: &Symbols<Place>,
+    tokens: &UnitTokens,
+    leaves: &[Leaf],
+) -> Result<Vec<Operand>, AllocError>
+    ensures { IfOk result (λ operands. operands.items ≡ operands_of declared names.now tokens.now leaves.now) }
+{
+    let mut operands = Vec::with_capacity(alloc, leaves.len())?;
+    for leaf in leaves {
+        operands.push(leaf_operand(declared, names, tokens, *leaf))?;
+    }
+    Ok(operands)
+}

@@ -1,0 +1,99 @@
+//! What is told of a condition.
+ghost use Rattle.std.specs.Prelude.{◌≡◌, OnOk, None, Some, if◌then◌else◌, option_map};
+ghost use Rattle.inf_report.specs.Meant.{meant, named};
+ghost use Rattle.inf_unit.specs.Blames.{blamed};
+ghost use Rattle.inf_unit.specs.Tokens.{spelled};
+ghost use Rattle.inf_conditionals.specs.Meant.{condition as condition_of, said_of};
+ghost use Rattle.inf_conditionals.specs.Said.{blame_of, message_of, too_deep, too_much, with_said};
+
+use crate::condition::Condition;
+use inf_expressions::{Finding, NOT_CONSTANT, OUT_OF_RANGE, WRONG_KIND};
+use inf_lexer::Stack;
+use inf_report::messages::{Message, Told};
+use inf_scanner::{Mark, Place};
+use inf_settings::setting::Setting;
+use inf_unit::messages::{Blame, Messages, location};
+use inf_unit::tokens::{Spelled, is_mark, told};
+use std::alloc::AllocError;
+
+/// How deep brackets may stand in one another.
+const MOST_NESTED: u32 = 64;
+
+/// What there is to tell of a condition.
+#[derive(Drop)]
+pub enum Said {
+    /// What is wrong with it. Its directive begins at this place.
+    Wrong(Place, Condition, Finding),
+    /// That it has too many tokens, of which the first stands here.
+    Long(Place),
+    /// That a bracket stands here too deep in others.
+    Deep(Place),
+}
+
+impl Said {
+    /// Tells it.
+    pub(crate) fn tell(&self, files: &Stack, report: &mut Messages) -> Result<(), AllocError>
+        ensures { OnOk result (report.new ≡ with_said files.now.names (Some (said_of self.now)) report.old) }
+    {
+        match self {
+            Said::Wrong(directive, condition, finding) => {
+                let blame = blame_of(*directive, condition, *finding);
+                report.fault(files, *directive, Some(blame))
+            }
+            Said::Long(place) => report.fatal(
+                location(files, *place),
+                &Message::Exceeded(Setting::ExpressionNodes),
+            ),
+            Said::Deep(place) => report.fatal(location(files, *place), &Message::DeepNesting),
+        }
+    }
+}
+
+/// What there is to tell behind a token that a condition took, which may have so many, unless it is passed over.
+pub(crate) fn too_much(
+    is_quiet: bool,
+    longest: usize,
+    token: &Spelled<'_>,
+    condition: &Condition,
+) -> Option<Said>
+    ensures { option_map said_of result ≡ (if is_quiet then None else too_much longest (spelled token.now) (condition_of condition.now)) }
+{
+    if is_quiet {
+        return None;
+    }
+    if let Some(place) = condition.unit.long_at(longest) {
+        return Some(Said::Long(place));
+    }
+    if is_mark(token.kind, Mark::OpenParenthesis) && condition.unit.depth > MOST_NESTED {
+        return Some(Said::Deep(token.place));
+    }
+    None
+}
+
+/// What a finding of a condition is told as, whose directive begins at a place.
+fn blame_of<'t>(directive: Place, condition: &'t Condition, finding: Finding) -> Blame<'t>
+    ensures { blamed result ≡ blame_of directive (condition_of condition.now) finding }
+{
+    match condition.unit.tokens.get(finding.order as usize) {
+        Some(token) => Blame {
+            place: token.place,
+            message: message_of(finding.number, told(&token)),
+        },
+        None => Blame {
+            place: directive,
+            message: message_of(finding.number, Told::End),
+        },
+    }
+}
+
+/// The message of a finding at a token, by its number in the table of errors.
+fn message_of<'t>(number: u8, token: Told<'t>) -> Message<'t>
+    ensures { meant result ≡ message_of number (named token.entry) }
+{
+    match number {
+        WRONG_KIND => Message::WrongKind(token),
+        NOT_CONSTANT => Message::NotConstant,
+        OUT_OF_RANGE => Message::ConstantOutOfRange,
+        _ => Message::TooManyArguments,
+    }
+}
