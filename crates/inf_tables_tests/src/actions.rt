@@ -1,0 +1,75 @@
+//! Actions and parsing routines.
+use crate::words::{number_at, repeated, word};
+use crate::writing::Written;
+use inf_verbs::{Actions, ParsingRoutines};
+use std::alloc::{AllocError, Global};
+
+/// What comes of a command to actions.
+fn obey(alloc: Global, actions: &mut Actions, command: &str) -> Result<String, AllocError> {
+    match word(command, 0) {
+        "add" => match actions.add(number_at(command, 1)) {
+            Ok(number) => format!(in alloc; "{number}"),
+            Err(fault) => format!(in alloc; "{fault:?}"),
+        },
+        "fake" => format!(in alloc; "{}", actions.add_fake()),
+        "of" => format!(in alloc; "{:?}", actions.number_of(number_at(command, 1))),
+        "len" => format!(in alloc; "{}", actions.len()),
+        _ => {
+            let mut written = Written::new(alloc, command)?;
+            let flat = actions.write(&mut written.flat.area, &mut written.flat.refs);
+            let paged = actions.write(&mut written.paged.area, &mut written.paged.refs);
+            written.told(alloc, flat, paged)
+        }
+    }
+}
+
+/// What comes of a line.
+pub(crate) fn answer(alloc: Global, line: &str) -> Result<String, AllocError> {
+    let mut actions = Actions::new(alloc, number_at(line, 1));
+    let mut told = String::from_str(alloc, "actions")?;
+    for command in line.split(" | ").skip(1) {
+        let (count, command) = repeated(command);
+        let mut last = String::new(alloc);
+        for _ in 0..count {
+            last = obey(alloc, &mut actions, command)?;
+        }
+        told.push_str(format!(in alloc; " | {last}")?.as_str())?;
+    }
+    Ok(told)
+}
+
+/// What comes of a command to parsing routines.
+fn obey_parsing(
+    alloc: Global,
+    routines: &mut ParsingRoutines,
+    command: &str,
+) -> Result<String, AllocError> {
+    match word(command, 0) {
+        "add" => {
+            let number = routines.add(number_at(command, 1))?;
+            format!(in alloc; "{number}")
+        }
+        "len" => format!(in alloc; "{}", routines.len()),
+        _ => {
+            let mut written = Written::new(alloc, command)?;
+            let flat = routines.write(&mut written.flat.area, &mut written.flat.refs);
+            let paged = routines.write(&mut written.paged.area, &mut written.paged.refs);
+            written.told(alloc, flat, paged)
+        }
+    }
+}
+
+/// What comes of a line of parsing routines.
+pub(crate) fn answer_parsing(alloc: Global, line: &str) -> Result<String, AllocError> {
+    let mut routines = ParsingRoutines::new(alloc);
+    let mut told = String::from_str(alloc, "parsing")?;
+    for command in line.split(" | ").skip(1) {
+        let (count, command) = repeated(command);
+        let mut last = String::new(alloc);
+        for _ in 0..count {
+            last = obey_parsing(alloc, &mut routines, command)?;
+        }
+        told.push_str(format!(in alloc; " | {last}")?.as_str())?;
+    }
+    Ok(told)
+}

@@ -1,0 +1,111 @@
+//! Arrays and global variables.
+use crate::words::{bytes_of, number_at, repeated, value_of, word};
+use crate::writing::Written;
+use inf_arrays::{ArrayFault, ArrayKind, Arrays, Globals};
+use std::alloc::{AllocError, Global};
+
+/// A kind by its name.
+fn kind_of(name: &str) -> ArrayKind {
+    match name {
+        "bytes" => ArrayKind::Bytes,
+        "words" => ArrayKind::Words,
+        "string" => ArrayKind::String,
+        _ => ArrayKind::Table,
+    }
+}
+
+/// What comes of some entries.
+fn told_of(alloc: Global, outcome: Result<(), ArrayFault>) -> Result<String, AllocError> {
+    match outcome {
+        Ok(()) => String::from_str(alloc, "ok"),
+        Err(fault) => format!(in alloc; "{fault:?}"),
+    }
+}
+
+/// What is written.
+fn write(alloc: Global, arrays: &Arrays, command: &str) -> Result<String, AllocError> {
+    let mut written = Written::new(alloc, command)?;
+    let flat = arrays.write(&mut written.flat.area, &mut written.flat.refs);
+    let paged = arrays.write(&mut written.paged.area, &mut written.paged.refs);
+    written.told(alloc, flat, paged)
+}
+
+/// What comes of entries of the open array.
+fn add(alloc: Global, arrays: &mut Arrays, command: &str) -> Result<String, AllocError> {
+    if !arrays.is_open() {
+        return String::from_str(alloc, "no array");
+    }
+    let outcome = match word(command, 0) {
+        "entry" => arrays.entry(value_of(word(command, 1))),
+        "zeros" => arrays.zeros((number_at(command, 1) % 65536) as u16),
+        _ => arrays.characters(bytes_of(alloc, word(command, 1))?.as_slice()),
+    };
+    told_of(alloc, outcome)
+}
+
+/// What comes of an array that is opened.
+fn open(alloc: Global, arrays: &mut Arrays, command: &str) -> Result<String, AllocError> {
+    match arrays.open(kind_of(word(command, 1))) {
+        Ok(place) => format!(in alloc; "{place}"),
+        Err(fault) => format!(in alloc; "{fault:?}"),
+    }
+}
+
+/// What comes of a command.
+fn obey(alloc: Global, arrays: &mut Arrays, command: &str) -> Result<String, AllocError> {
+    match word(command, 0) {
+        "open" => open(alloc, arrays, command),
+        "size" => format!(in alloc; "{}", arrays.size()),
+        "later" => format!(in alloc; "{}", arrays.later_count()),
+        "write" => write(alloc, arrays, command),
+        _ => add(alloc, arrays, command),
+    }
+}
+
+/// What comes of a line.
+pub(crate) fn answer(alloc: Global, line: &str) -> Result<String, AllocError> {
+    let mut arrays = Arrays::new(alloc, number_at(line, 1));
+    let mut told = String::from_str(alloc, "arrays")?;
+    for command in line.split(" | ").skip(1) {
+        let (count, command) = repeated(command);
+        let mut last = String::new(alloc);
+        for _ in 0..count {
+            last = obey(alloc, &mut arrays, command)?;
+        }
+        told.push_str(format!(in alloc; " | {last}")?.as_str())?;
+    }
+    Ok(told)
+}
+
+/// What comes of a command to global variables.
+fn obey_globals(alloc: Global, globals: &mut Globals, command: &str) -> Result<String, AllocError> {
+    match word(command, 0) {
+        "add" => match globals.add(value_of(word(command, 1))) {
+            Ok(number) => format!(in alloc; "{number}"),
+            Err(fault) => format!(in alloc; "{fault:?}"),
+        },
+        "len" => format!(in alloc; "{}", globals.len()),
+        "later" => format!(in alloc; "{}", globals.later_count()),
+        _ => {
+            let mut written = Written::new(alloc, command)?;
+            let flat = globals.write(&mut written.flat.area, &mut written.flat.refs);
+            let paged = globals.write(&mut written.paged.area, &mut written.paged.refs);
+            written.told(alloc, flat, paged)
+        }
+    }
+}
+
+/// What comes of a line of global variables.
+pub(crate) fn answer_globals(alloc: Global, line: &str) -> Result<String, AllocError> {
+    let mut globals = Globals::new(alloc);
+    let mut told = String::from_str(alloc, "globals")?;
+    for command in line.split(" | ").skip(1) {
+        let (count, command) = repeated(command);
+        let mut last = String::new(alloc);
+        for _ in 0..count {
+            last = obey_globals(alloc, &mut globals, command)?;
+        }
+        told.push_str(format!(in alloc; " | {last}")?.as_str())?;
+    }
+    Ok(told)
+}

@@ -1,0 +1,81 @@
+//! Dictionaries.
+use crate::words::{number, number_at, repeated, text_of, word};
+use crate::writing::Written;
+use inf_cells::WriteFault;
+use inf_dictionary::{Dictionary, WordUse};
+use std::alloc::{AllocError, Global};
+
+/// What a word is used as.
+fn use_of(kind: &str) -> WordUse {
+    if let Some(verb) = kind.strip_prefix("verb") {
+        return WordUse::Verb((number(verb) % 256) as u8);
+    }
+    if let Some(verb) = kind.strip_prefix("meta") {
+        return WordUse::MetaVerb((number(verb) % 256) as u8);
+    }
+    if kind == "prep" {
+        return WordUse::Preposition;
+    }
+    WordUse::Other
+}
+
+/// The texts behind the first word.
+fn texts_of(alloc: Global, command: &str) -> Result<Vec<[u8; 6]>, AllocError> {
+    let mut texts = Vec::new(alloc);
+    for text in command.split(' ').skip(1) {
+        texts.push(text_of(text))?;
+    }
+    Ok(texts)
+}
+
+/// What comes of a use.
+fn add(alloc: Global, words: &mut Dictionary, command: &str) -> Result<String, AllocError> {
+    let text = text_of(word(command, 1));
+    match words.add(text, use_of(word(command, 2)), word(command, 3) == "plural") {
+        Ok(()) => String::from_str(alloc, "ok"),
+        Err(fault) => format!(in alloc; "{fault:?}"),
+    }
+}
+
+/// What is written.
+fn write(alloc: Global, words: &Dictionary, command: &str) -> Result<String, AllocError> {
+    let mut written = Written::new(alloc, command)?;
+    let flat = words
+        .write(alloc, &mut written.flat.area)
+        .map_err(|_fault: AllocError| -> WriteFault { WriteFault::Memory });
+    let paged = words
+        .write(alloc, &mut written.paged.area)
+        .map_err(|_fault: AllocError| -> WriteFault { WriteFault::Memory });
+    written.told(alloc, flat, paged)
+}
+
+/// What comes of a command.
+fn obey(alloc: Global, words: &mut Dictionary, command: &str) -> Result<String, AllocError> {
+    let text = text_of(word(command, 1));
+    match word(command, 0) {
+        "use" => add(alloc, words, command),
+        "verb" => format!(in alloc; "{:?}", words.verb_of(&text)),
+        "misfit" => {
+            let misfit = words.first_misfit(alloc, texts_of(alloc, command)?.as_slice())?;
+            format!(in alloc; "{misfit:?}")
+        }
+        "rank" => format!(in alloc; "{}", words.places(alloc)?.rank(text)),
+        "len" => format!(in alloc; "{}", words.len()),
+        _ => write(alloc, words, command),
+    }
+}
+
+/// What comes of a line.
+pub(crate) fn answer(alloc: Global, line: &str) -> Result<String, AllocError> {
+    let mut words = Dictionary::new(alloc, number_at(line, 1));
+    let mut told = String::from_str(alloc, "dictionary")?;
+    for command in line.split(" | ").skip(1) {
+        let (count, command) = repeated(command);
+        let mut last = String::new(alloc);
+        for _ in 0..count {
+            last = obey(alloc, &mut words, command)?;
+        }
+        told.push_str(format!(in alloc; " | {last}")?.as_str())?;
+    }
+    Ok(told)
+}

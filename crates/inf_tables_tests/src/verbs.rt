@@ -1,0 +1,155 @@
+//! Verbs and their lines.
+use crate::words::{number, number_at, repeated, text_of, word};
+use crate::writing::Written;
+use inf_verbs::{LineToken, Noun, Place, Verbs};
+use std::alloc::{AllocError, Global};
+
+/// A place by its name.
+fn place_of(name: &str) -> Place {
+    match name {
+        "first" => Place::First,
+        "replace" => Place::Replace,
+        _ => Place::Last,
+    }
+}
+
+/// A noun by its name.
+fn noun_of(name: &str) -> Option<Noun> {
+    match name {
+        "noun" => Some(Noun::Noun),
+        "held" => Some(Noun::Held),
+        "multi" => Some(Noun::Multi),
+        "multiheld" => Some(Noun::MultiHeld),
+        "multiexcept" => Some(Noun::MultiExcept),
+        "multiinside" => Some(Noun::MultiInside),
+        "creature" => Some(Noun::Creature),
+        "special" => Some(Noun::Special),
+        "number" => Some(Noun::Number),
+        "topic" => Some(Noun::Topic),
+        _ => None,
+    }
+}
+
+/// What a letter with a number means.
+fn numbered(letter: &str, number: usize) -> Option<LineToken> {
+    match letter {
+        "f" => Some(LineToken::Filter((number % 65536) as u16)),
+        "a" => Some(LineToken::Attribute((number % 256) as u8)),
+        "s" => Some(LineToken::Scope((number % 65536) as u16)),
+        "r" => Some(LineToken::Routine((number % 65536) as u16)),
+        _ => None,
+    }
+}
+
+/// Words with `/` between them.
+fn add_words(tokens: &mut Vec<LineToken>, words: &str) -> Result<(), AllocError> {
+    let count = words.split('/').count();
+    for (place, text) in words.split('/').enumerate() {
+        tokens.push(LineToken::Preposition {
+            text: text_of(text),
+            is_first: place == 0,
+            is_last: place.saturating_add(1) == count,
+        })?;
+    }
+    Ok(())
+}
+
+/// A token.
+fn add_token(tokens: &mut Vec<LineToken>, told: &str) -> Result<(), AllocError> {
+    if let Some(noun) = noun_of(told) {
+        tokens.push(LineToken::Noun(noun))?;
+        return Ok(());
+    }
+    let Some((letter, rest)) = told.split_at_checked(1) else {
+        return Ok(());
+    };
+    match numbered(letter, number(rest)) {
+        Some(token) if told.len() < 12 => {
+            tokens.push(token)?;
+            Ok(())
+        }
+        _ => add_words(tokens, told),
+    }
+}
+
+/// The tokens of a line, which stand behind four words.
+fn tokens_of(alloc: Global, command: &str) -> Result<Vec<LineToken>, AllocError> {
+    let mut tokens = Vec::new(alloc);
+    for told in command.split(' ').skip(4) {
+        if told != "reverse" {
+            add_token(&mut tokens, told)?;
+        }
+    }
+    Ok(tokens)
+}
+
+/// What comes of a line of a verb.
+fn add_line(alloc: Global, verbs: &mut Verbs, command: &str) -> Result<String, AllocError> {
+    let number = (number_at(command, 1) % 256) as u8;
+    if number as usize >= verbs.len() {
+        return String::from_str(alloc, "no verb");
+    }
+    let tokens = tokens_of(alloc, command)?;
+    let action = (number_at(command, 3) % 65536) as u16;
+    let is_reverse = command.ends_with(" reverse");
+    match verbs.add_line(
+        number,
+        place_of(word(command, 2)),
+        action,
+        is_reverse,
+        &tokens,
+    ) {
+        Ok(()) => String::from_str(alloc, "ok"),
+        Err(fault) => format!(in alloc; "{fault:?}"),
+    }
+}
+
+/// What comes of a verb that is extended.
+fn extend(alloc: Global, verbs: &mut Verbs, command: &str) -> Result<String, AllocError> {
+    let number = (number_at(command, 1) % 256) as u8;
+    if number as usize >= verbs.len() {
+        return String::from_str(alloc, "no verb");
+    }
+    verbs.extend(number, place_of(word(command, 2)))?;
+    String::from_str(alloc, "ok")
+}
+
+/// What is written.
+fn write(alloc: Global, verbs: &Verbs, command: &str) -> Result<String, AllocError> {
+    let mut written = Written::new(alloc, command)?;
+    let flat = verbs.write(&mut written.flat.area, &mut written.flat.refs);
+    let paged = verbs.write(&mut written.paged.area, &mut written.paged.refs);
+    written.told(alloc, flat, paged)
+}
+
+/// What comes of a command.
+fn obey(alloc: Global, verbs: &mut Verbs, command: &str) -> Result<String, AllocError> {
+    match word(command, 0) {
+        "add" => match verbs.add() {
+            Ok(number) => format!(in alloc; "{number}"),
+            Err(fault) => format!(in alloc; "{fault:?}"),
+        },
+        "extend" => extend(alloc, verbs, command),
+        "line" => add_line(alloc, verbs, command),
+        "len" => format!(in alloc; "{}", verbs.len()),
+        "size" => format!(in alloc; "{}", verbs.size()),
+        "later" => format!(in alloc; "{}", verbs.later_count()),
+        "places" => format!(in alloc; "{:?}", verbs.places()?.as_slice()),
+        _ => write(alloc, verbs, command),
+    }
+}
+
+/// What comes of a line.
+pub(crate) fn answer(alloc: Global, line: &str) -> Result<String, AllocError> {
+    let mut verbs = Verbs::new(alloc, number_at(line, 1), number_at(line, 2));
+    let mut told = String::from_str(alloc, "verbs")?;
+    for command in line.split(" | ").skip(1) {
+        let (count, command) = repeated(command);
+        let mut last = String::new(alloc);
+        for _ in 0..count {
+            last = obey(alloc, &mut verbs, command)?;
+        }
+        told.push_str(format!(in alloc; " | {last}")?.as_str())?;
+    }
+    Ok(told)
+}

@@ -1,0 +1,140 @@
+//! Worlds.
+use crate::words::{bytes_of, number, number_at, repeated, value_of, word};
+use crate::writing::Written;
+use inf_area::Value;
+use inf_world::{AddFault, Limits, Parent, ShortName, World, WorldArea};
+use std::alloc::{AllocError, Global};
+
+/// A limit.
+fn limit(text: &str, place: usize) -> u32 {
+    u32::try_from(number_at(text, place)).unwrap_or(u32::MAX)
+}
+
+/// An area by its name.
+fn area_of(name: &str) -> WorldArea {
+    match name {
+        "defaults" => WorldArea::PropertyDefaults,
+        "objects" => WorldArea::Objects,
+        "tables" => WorldArea::PropertyTables,
+        "classes" => WorldArea::ClassNumbers,
+        _ => WorldArea::IndividualTables,
+    }
+}
+
+/// A parent, by its number behind `p`, or by so many arrows behind `a`.
+fn parent_of(told: &str) -> Parent {
+    if let Some(arrows) = told.strip_prefix("a") {
+        return Parent::Arrows(number(arrows));
+    }
+    match told.strip_prefix("p") {
+        Some(parent) => Parent::Object(number(parent)),
+        None => Parent::Object(0),
+    }
+}
+
+/// A short name.
+fn name_of(alloc: Global, digits: &str) -> Result<ShortName, AllocError> {
+    Ok(ShortName::new(bytes_of(alloc, digits)?))
+}
+
+/// The first value of a property, if it has one.
+fn first_of(command: &str) -> Option<Value> {
+    match word(command, 2) {
+        "" => None,
+        told => Some(value_of(told)),
+    }
+}
+
+/// What comes of a declaration or a header that has a number.
+fn declare(alloc: Global, world: &mut World, command: &str) -> Result<String, AllocError> {
+    let outcome = match word(command, 0) {
+        "attribute" => world.declare_attribute(),
+        "property" => {
+            world.declare_property(word(command, 1) == "additive", value_of(word(command, 2)))
+        }
+        "individual" => world.declare_individual(),
+        "class" => world.begin_class(name_of(alloc, word(command, 1))?),
+        _ => {
+            world.begin_object(
+                parent_of(word(command, 1)),
+                name_of(alloc, word(command, 2))?,
+            )
+        }
+    };
+    match outcome {
+        Ok(number) => format!(in alloc; "{number}"),
+        Err(fault) => format!(in alloc; "{fault:?}"),
+    }
+}
+
+/// What comes of an entry of a body, of its end, or of a header in error.
+fn entered(world: &mut World, command: &str) -> Result<(), AddFault> {
+    let number = number_at(command, 1);
+    match word(command, 0) {
+        "lost" => world.begin_lost(),
+        "give" => world.give_property(number, first_of(command)),
+        "value" => world.add_value(value_of(word(command, 1))),
+        "has" => world.set_attribute(number, true),
+        "hasnt" => world.set_attribute(number, false),
+        "of" => world.join_class(number),
+        "end" => world.end_body(),
+        _ => {
+            world.lose_property();
+            Ok(())
+        }
+    }
+}
+
+/// What comes of it, in words.
+fn enter(alloc: Global, world: &mut World, command: &str) -> Result<String, AllocError> {
+    match entered(world, command) {
+        Ok(()) => String::from_str(alloc, "ok"),
+        Err(fault) => format!(in alloc; "{fault:?}"),
+    }
+}
+
+/// What is written.
+fn write(alloc: Global, world: &World, command: &str) -> Result<String, AllocError> {
+    let area = area_of(word(command, 4));
+    let mut written = Written::new(alloc, command)?;
+    let flat = world.write(area, &mut written.flat.area, &mut written.flat.refs);
+    let paged = world.write(area, &mut written.paged.area, &mut written.paged.refs);
+    written.told(alloc, flat, paged)
+}
+
+/// What comes of a command.
+fn obey(alloc: Global, world: &mut World, command: &str) -> Result<String, AllocError> {
+    match word(command, 0) {
+        "attribute" | "property" | "individual" | "class" | "object" => {
+            declare(alloc, world, command)
+        }
+        "given" => format!(in alloc; "{}", world.is_given(number_at(command, 1))),
+        "count" => format!(in alloc; "{}", world.object_count()),
+        "size" => format!(in alloc; "{}", world.property_bytes()),
+        "later" => format!(in alloc; "{}", world.fixups()),
+        "laters" => format!(in alloc; "{}", world.later_count(area_of(word(command, 1)))),
+        "places" => format!(in alloc; "{:?}", world.table_places()?.as_slice()),
+        "individuals" => format!(in alloc; "{:?}", world.individual_places()?.as_slice()),
+        "write" => write(alloc, world, command),
+        _ => enter(alloc, world, command),
+    }
+}
+
+/// What comes of a line.
+pub(crate) fn answer(alloc: Global, line: &str) -> Result<String, AllocError> {
+    let limits = Limits {
+        objects: limit(line, 1),
+        property_bytes: limit(line, 2),
+    };
+    let mut world = World::new(alloc, limits);
+    let mut told = String::from_str(alloc, "world")?;
+    for command in line.split(" | ").skip(1) {
+        let (count, command) = repeated(command);
+        let mut last = String::new(alloc);
+        for _ in 0..count {
+            last = obey(alloc, &mut world, command)?;
+        }
+        told.push_str(format!(in alloc; " | {last}")?.as_str())?;
+    }
+    Ok(told)
+}
