@@ -298,7 +298,7 @@ fn routines_are_written_out(rt: HostRuntime) -> Result<(), Fail> {
         let mut code = Code::new(alloc, ROOMY, Scale::Four)?;
         take_all(&rt, alloc, &mut code, case, steps);
         let Ok(written) = handed_over(alloc, code) else {
-            return Err(Fail::new(alloc, "no memory")?);
+            return Err(Fail::new("no memory"));
         };
         expect_written(&rt, case, &written, fixups, bytes);
     }

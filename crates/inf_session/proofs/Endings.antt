@@ -1,8 +1,11 @@
 -- What the ends of compilations come to: one with an error has no story, and the lines of one without end with the line that says so.
 use Rattle.std.specs.Prelude.{not, ◌&&◌, ◌==◌, Result, Ok, Err, IfOk}
-use Rattle.std.proofs.Common.{◌≡◌, ℕ, [], Bool, true, false, cond, List, ◌++◌, append_assoc, Option, Some, None, refl, sym, ap, subst, ◌∙◌}
+use Rattle.std.proofs.Common.{◌≡◌, ◌⊎◌, inl, inr, ℕ, ◌%◌, [], Bool, true, false, cond, List, ◌++◌, append_assoc, Option, Some, None, refl, sym, ap, subst, ◌∙◌}
 use Rattle.std.proofs.lemmas.Bool.{eqb-true}
 use Rattle.inf_area.specs.declared.targets.Value.{Value}
+use Rattle.inf_cells.specs.Scales.{most_bytes}
+use Rattle.inf_cells.specs.declared.scale.Scale.{Scale}
+use Rattle.inf_cells.specs.declared.scale.Scale.TheVariants as scale
 use Rattle.inf_code.specs.Code.{Routines}
 use Rattle.inf_link.specs.declared.link.LinkFault.{LinkFault}
 use Rattle.inf_link.specs.declared.link.LinkFault.TheVariants as link_fault
@@ -10,15 +13,38 @@ use Rattle.inf_story.specs.Names.{values_of}
 use Rattle.inf_story.specs.Stories.{too_long}
 use Rattle.inf_work.specs.Actions.{Work, begun_at}
 use Rattle.inf_unit.proofs.Cases.{of_both}
-use Rattle.inf_unit.specs.Messages.{FileNames, Reported}
+use Rattle.inf_unit.specs.Messages.{FileNames, Reported, with_fatal}
 use Rattle.inf_unit.specs.Names.{main_of, with_all_undeclared}
+use Rattle.inf_report.specs.Messages.{StoryTooLong}
 use Rattle.inf_report.specs.Reports.{Counts, closing, closing_lines}
 use Rattle.inf_symbol.specs.Sinks.{Takes}
 use Rattle.inf_session.specs.Delivered.{Delivers, EndsClean, IsClean}
 use Rattle.inf_session.specs.declared.compiled.Compiled.{Compiled}
-use Rattle.inf_session.specs.Ending.{Ending, begun, fields_of, finished, is_clean, laid, linked, named, refused}
+use Rattle.inf_session.specs.declared.ending.Ending.{Ending as CodeEnding}
+use Rattle.inf_session.specs.Ending.{Ending, begun, fields_of, finished, first_line, is_clean, laid, linked, named, refused, seen}
 use Rattle.inf_session.specs.Session.{first_place}
 use Rattle.inf_session.specs.declared.compiled.Status.TheVariants as status
+
+-- the most bytes of a story fit a number of four bytes
+pub most_is_small : (s : Scale) → most_bytes s % 4294967296 ≡ most_bytes s
+most_is_small scale.Four = refl
+most_is_small scale.Eight = refl
+
+-- A story that would be too long for its version, as it is told.
+pub longest_told : {E : Type 0} (serial : List ℕ) (files : FileNames) (main : ℕ) (names : List Value) (code : Routines) (r : Reported) (s : Scale) (strings : List ℕ) (most : ℕ) (fault : LinkFault)
+    (result : Result CodeEnding E) → s ≡ code.scale → strings ≡ [] → most ≡ most_bytes s → fault ≡ link_fault.StoryTooLong
+    → (fault ≡ link_fault.Memory) ⊎ (too_long (record { release = 1; serial = serial; scale = s }) main code.finished strings ≡ Some fault)
+    → IfOk result (λ t. seen t ≡ refused (with_fatal (first_line files) (StoryTooLong most) r))
+    → IfOk result (λ t. seen t ≡ linked serial files main names code r (too_long (fields_of serial code) main code.finished []))
+longest_told serial files main names code r s strings most fault result same none bytes is why given =
+    let long : Scale → List ℕ → Option LinkFault = λ q a. too_long (record { release = 1; serial = serial; scale = q }) main code.finished a in
+    let found : long code.scale [] ≡ Some link_fault.StoryTooLong = elim why [
+      | inl memory ↦ (let never : link_fault.Memory ≡ link_fault.StoryTooLong = sym memory ∙ is in cc)
+      | inr told ↦ sym (ap (λ q. long q []) same) ∙ sym (ap (λ a. long s a) none) ∙ told ∙ ap (λ f. Some f) is
+    ] in
+    subst (λ e. IfOk result (λ t. seen t ≡ e))
+    (ap (λ n. refused (with_fatal (first_line files) (StoryTooLong n) r)) (bytes ∙ ap most_bytes same) ∙ sym (ap (λ o. linked serial files main names code r o) found))
+    given
 
 abbrev HasNone : Ending → Type 0
 HasNone e = e.status ≡ status.Errors → e.story ≡ None

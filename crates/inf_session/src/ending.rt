@@ -1,5 +1,6 @@
 //! What comes at the end of a compilation.
 ghost use Rattle.std.specs.Prelude.{◌≡◌, [], IfOk, OnOk, Some};
+ghost use Rattle.inf_cells.specs.Scales.{most_bytes};
 ghost use Rattle.inf_report.specs.Meant.{meant};
 ghost use Rattle.inf_story.specs.Stories.{too_long};
 ghost use Rattle.inf_unit.specs.Messages.{with_closing, with_error, with_fatal};
@@ -11,6 +12,7 @@ ghost use Rattle.inf_session.specs.Session.{first_place};
 
 use crate::compiled::Status;
 use inf_area::{PagedArea, Value};
+use inf_cells::Scale;
 use inf_code::code::Code;
 use inf_lexer::{Place, Stack};
 use inf_link::HeaderFields;
@@ -143,6 +145,14 @@ fn laid(
     }
 }
 
+/// The most bytes of a story whose packed addresses are multiplied by this.
+#[tactic(auto, using(crate::proofs::Endings::most_is_small))]
+fn most_of(scale: Scale) -> u32
+    ensures { result ≡ most_bytes scale }
+{
+    scale.most_bytes() as u32
+}
+
 /// Ends it with its story. One that would be too long is a fatal error.
 fn linked(
     alloc: Global,
@@ -165,12 +175,12 @@ fn linked(
         Ok(story) => compiled(story, report),
         Err(LinkFault::ReadableTooLong) => given_up(files, report, &Message::ReadableTooLong),
         Err(LinkFault::StoryTooLong) => {
-            let most = scale.most_bytes() as u32;
-            given_up(files, report, &Message::StoryTooLong(most))
+            given_up(files, report, &Message::StoryTooLong(most_of(scale)))
         }
         Err(LinkFault::Memory) => Err(AllocError),
     }
 }
+
 /// The outcome of a compilation without an error.
 fn compiled(story: Story, mut report: Messages) -> Result<Ending, AllocError>
     ensures { IfOk result (λ t. seen t ≡ record { messages = (with_closing report).lines; story = Some story.bytes; status = Status.Success }) }

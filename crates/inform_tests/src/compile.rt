@@ -160,8 +160,8 @@ fn a_failed_write_of_the_story_is_told(rt: HostRuntime) -> Result<(), Fail> {
 /// Sources in which words of statements stand as names.
 static WORDS: [(&[u8], &str); 3] = [
     (
-        b"[ while; ];\n[ Main x;\nprint \"a\";\nwhile (x); ];\n",
-        "t.inf(4): Error: Syntax error at \"while\"\nErrors: 1, warnings: 0 (no output)\n",
+        b"[ while; ];\n[ Main;\nprint \"a\";\nwhile(); ];\n",
+        "t.inf(4): Error: Syntax error at \")\"\nErrors: 1, warnings: 0 (no output)\n",
     ),
     (
         b"[ while; ];\n[ Main if;\nreturn while; F(if, while); ]; [ F a; return a; ];\n",
@@ -170,8 +170,8 @@ static WORDS: [(&[u8], &str); 3] = [
     (b"[ default; ];\n[ Main;\ndefault(); ];\n", NO_ERRORS),
 ];
 
-/// The words of all statements are keywords where a statement begins, also of those that the compiler does not have yet, and
-/// names elsewhere. `default` would be one only before a colon.
+/// The words of all statements are keywords where a statement begins, and names elsewhere. `default` would be one only before a
+/// colon.
 #[test]
 fn words_of_statements_begin_no_calls(rt: HostRuntime) -> Result<(), Fail> {
     for (source, lines) in &WORDS {
@@ -182,8 +182,8 @@ fn words_of_statements_begin_no_calls(rt: HostRuntime) -> Result<(), Fail> {
 
 /// Sources whose bad token the grammar has, with what is told of it.
 static ROWS: [(&[u8], &str); 7] = [
-    (b"[ Main; while (F) ; ];", "\"while\""),
-    (b"[ Main; print (char) 5; ];", "\"5\""),
+    (b"[ Main; string 3 \"ab\"; ];", "\"string\""),
+    (b"[ Main; <Take>; ];", "\"<\""),
     (b"[ Main; F('word'); ];", "\"'word'\""),
     (b"[ Main; F(\"text\"); ];", "text"),
     (b"[ Main; return ##F; ];", "\"##\""),
