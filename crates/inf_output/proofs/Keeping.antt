@@ -1,5 +1,5 @@
--- No code changes what there may be of names and of code: word by word.
-use Rattle.std.proofs.Common.{◌≡◌, ℕ, Bool, true, false, cond, List, [], ◌∷◌, Option, Some, None, refl, ◌∙◌}
+-- No code changes what there may be of names, of code, of strings and in tables: word by word.
+use Rattle.std.proofs.Common.{◌≡◌, ℕ, Bool, true, false, cond, List, [], ◌∷◌, Option, Some, None, refl, ap, ◌∙◌}
 use Rattle.inf_scanner.specs.declared.tokens.Place.{Place}
 use Rattle.inf_opcode.specs.declared.instructions.Branch.{Branch}
 use Rattle.inf_opcode.specs.declared.instructions.Label.{Label}
@@ -22,8 +22,16 @@ use Rattle.inf_output.specs.declared.operands.Simple.{Simple}
 use Rattle.inf_output.specs.declared.output.Past.{Past}
 use Rattle.inf_output.specs.declared.veneer.Veneer.{Veneer}
 use Rattle.inf_output.specs.Veneer.{name_of}
-use Rattle.inf_output.specs.Limits.{Keeps, SameLimits}
-use Rattle.inf_output.specs.Output.{Code, Out, apart, behind, begun, begun_by, closed, closed_by, declared, declared_by, fitted, full_item, grown, in_routine, instruction, jumped, laid, laid_all, laid_by, marked, naming, next_label, nothing, opened, opened_by, passed, referred, referred_by, routine, symbols_passed, together, used, used_by, with_label, with_routine, ◌▸◌}
+use Rattle.inf_code.specs.declared.code.CodeLimits.{CodeLimits}
+use Rattle.inf_output.specs.Limits.{Keeps, SameLimits, bounds, table_bounds}
+use Rattle.inf_output.specs.Strings.{fits}
+use Rattle.inf_output.specs.Output.{Code, Out, apart, behind, begun, begun_by, closed, closed_by, declared, declared_by, fitted, full_item, grown, in_routine, instruction, jumped, laid, laid_all, laid_by, marked, naming, next_label, nothing, opened, opened_by, passed, passed_table, referred, referred_by, routine, symbols_passed, together, used, used_by, with_label, with_routine, with_text, with_text_by, with_word, with_word_by, ◌▸◌}
+use Rattle.inf_dictionary.specs.declared.dictionary.AddFault.{AddFault as WordFault}
+use Rattle.inf_dictionary.specs.declared.dictionary.AddFault.TheVariants as word_fault
+use Rattle.inf_dictionary.specs.declared.uses.WordUse.{WordUse}
+use Rattle.inf_dictionary.specs.Texts.{Text}
+use Rattle.inf_dictionary.specs.Words.{add_fault, word_of}
+use Rattle.inf_settings.specs.declared.setting.Setting.{Setting}
 
 -- Outputs
 
@@ -72,12 +80,16 @@ first_keeps place o = (refl, refl)
 pub passed_keeps : (item : Item) → Keeps (passed item)
 passed_keeps item o = (refl, refl)
 
+-- where code may hold as much as before
+bounded : (o : Out) {limits : CodeLimits} → limits ≡ o.code.limits → (limits, o.strings.limit, table_bounds o.tables) ≡ bounds o
+bounded o same = ap (λ (l : CodeLimits). (l, o.strings.limit, table_bounds o.tables)) same
+
 grown_same : (item : Item) (r : Routines) → (grown item r).limits ≡ r.limits
 grown_same (Instruction parts) r = refl
 grown_same (Mark label) r = refl
 
 fitted_keeps : (full : Option CodeSetting) (item : Item) → Keeps (fitted full item)
-fitted_keeps None item o = (refl, grown_same item o.code)
+fitted_keeps None item o = (refl, bounded o (grown_same item o.code))
 fitted_keeps (Some limit) item o = (refl, refl)
 
 in_routine_keeps : (past : Option Past) (item : Item) → Keeps (in_routine past item)
@@ -117,8 +129,8 @@ begun_same None r = refl
 begun_same (Some limit) r = refl
 
 begun_by_keeps : (full : Option CodeSetting) → Keeps (begun_by full)
-begun_by_keeps None o = (refl, begun_same (full_begun o.code) o.code)
-begun_by_keeps (Some limit) o = (refl, begun_same (full_begun o.code) o.code)
+begun_by_keeps None o = (refl, bounded o (begun_same (full_begun o.code) o.code))
+begun_by_keeps (Some limit) o = (refl, bounded o (begun_same (full_begun o.code) o.code))
 
 pub begun_keeps : Keeps begun
 begun_keeps o = begun_by_keeps (full_begun o.code) o
@@ -157,6 +169,30 @@ referred_by_keeps (Some fault) name place o = (refl, refl)
 
 pub referred_keeps : (name : List ℕ) (place : Place) → Keeps (referred name place)
 referred_keeps name place o = referred_by_keeps (refer_fault name o.names) name place o
+
+-- Strings
+
+with_text_by_keeps : (b : Bool) (text : List ℕ) → Keeps (with_text_by b text)
+with_text_by_keeps true text o = (refl, refl)
+with_text_by_keeps false text o = (refl, refl)
+
+pub with_text_keeps : (text : List ℕ) → Keeps (with_text text)
+with_text_keeps text o = with_text_by_keeps (fits text o.strings) text o
+
+-- Tables
+
+pub passed_table_keeps : (limit : Setting) → Keeps (passed_table limit)
+passed_table_keeps limit o = (refl, refl)
+
+with_word_by_keeps : (fault : Option WordFault) (text : Text) (how : WordUse) (is_plural : Bool) → Keeps (with_word_by fault text how is_plural)
+with_word_by_keeps None text how is_plural o = (refl, refl)
+with_word_by_keeps (Some word_fault.Full) text how is_plural o = (refl, refl)
+with_word_by_keeps (Some word_fault.OtherVerb) text how is_plural o = (refl, refl)
+with_word_by_keeps (Some word_fault.Memory) text how is_plural o = (refl, refl)
+
+pub with_word_keeps : (text : Text) (how : WordUse) (is_plural : Bool) → Keeps (with_word text how is_plural)
+with_word_keeps text how is_plural o =
+    with_word_by_keeps (add_fault (word_of text o.tables.dictionary.list) how o.tables.dictionary) text how is_plural o
 
 -- Words
 

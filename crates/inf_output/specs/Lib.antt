@@ -1,4 +1,5 @@
 pub mod Limits
 pub mod Operands
+pub mod Strings
 pub mod Output
 pub mod Veneer

@@ -1,6 +1,8 @@
 -- Code, as what it adds to an output, and the words by which pieces of code are put together.
 use Rattle.std.specs.Prelude.{◌≡◌, ℕ, ◌+◌, ◌-◌, ◌≤◌, min, Bool, true, false, nat_lt, if◌then◌else◌, List, [], ◌∷◌, ◌++◌, length, map, Option, Some, None}
 use Rattle.inf_scanner.specs.declared.tokens.Place.{Place}
+use Rattle.inf_area.specs.declared.targets.AreaName.TheVariants as area
+use Rattle.inf_area.specs.declared.targets.Target.{Target}
 use Rattle.inf_area.specs.declared.targets.Target.TheVariants as target
 use Rattle.inf_opcode.specs.declared.instructions.Branch.{Branch}
 use Rattle.inf_opcode.specs.declared.instructions.Destination.TheVariants.{To}
@@ -39,9 +41,18 @@ use Rattle.inf_output.specs.declared.output.Output.{Output}
 use Rattle.inf_output.specs.declared.output.Past.{Past}
 use Rattle.inf_output.specs.declared.veneer.Veneer.{Veneer}
 use Rattle.inf_output.specs.Operands.{written}
+use Rattle.inf_output.specs.Strings.{fits, with_string}
+use Rattle.inf_dictionary.specs.declared.dictionary.AddFault.{AddFault as WordFault}
+use Rattle.inf_dictionary.specs.declared.dictionary.AddFault.TheVariants as word_fault
+use Rattle.inf_dictionary.specs.declared.uses.WordUse.{WordUse}
+use Rattle.inf_dictionary.specs.Texts.{Text}
+use Rattle.inf_dictionary.specs.Words.{add_fault, with_use, word_of}
+use Rattle.inf_settings.specs.Settings.{place_of}
+use Rattle.inf_tables.specs.declared.tables.Tables.{Tables}
+use Rattle.inf_tables.specs.Tables.{references}
 use Rattle.inf_output.specs.Veneer.{name_of}
 
--- What is laid: the routines of the story, the names, the place of the first token of the unit at hand, the number of the next label of the
+-- What is laid: the routines of the story, its strings, its tables, the names, the place of the first token of the unit at hand, the number of the next label of the
 -- routine, what is left of each limit once one was passed, and the items of code that is kept apart, if there is such code.
 abbrev pub Out : Type 0
 Out = Output
@@ -53,7 +64,7 @@ Code = Out → Out
 
 -- so much is left, and no limit was passed
 abbrev pub whole : CodeLimits → Past
-whole limits = record { symbols = false; labels = Some limits.labels; code = Some limits.code; refs = Some limits.refs }
+whole limits = record { symbols = false; labels = Some limits.labels; tables = None; code = Some limits.code; strings = false; refs = Some limits.refs }
 
 -- so much more of a limit; nothing is left of one that is passed
 abbrev pub less : Option ℕ → ℕ → Option ℕ
@@ -89,17 +100,31 @@ abbrev pub full_of : Option ℕ → Setting → Option Setting → Option Settin
 full_of None limit others = Some limit
 full_of (Some rest) limit others = others
 
+abbrev pub or_full : Option Setting → Option Setting → Option Setting
+or_full None others = others
+or_full (Some limit) others = Some limit
+
 abbrev pub full_past : Past → Option Setting
 full_past past =
     if past.symbols then Some setting.Symbols else
-    full_of past.labels setting.Labels (full_of past.code setting.Code (full_of past.refs setting.References None))
+    full_of past.labels setting.Labels (or_full past.tables (full_of past.code setting.Code (
+    if past.strings then Some setting.Strings else full_of past.refs setting.References None)))
 
-abbrev pub full_by : Option Past → Option Setting
-full_by None = None
-full_by (Some past) = full_past past
+-- Of the references so many more stand in tables.
+abbrev pub counted : ℕ → Past → Past
+counted references past = record past { refs = less past.refs references }
 
 abbrev pub full : Out → Option Setting
-full o = full_by o.past
+full o = full_past (counted (references o.tables) (past_of o))
+
+-- the first of two limits of tables, in the order of the settings
+abbrev pub first_table : Option Setting → Setting → Setting
+first_table None limit = limit
+first_table (Some other) limit = if nat_lt (place_of limit) (place_of other) then limit else other
+
+-- a limit of a table is passed
+abbrev pub table_passed : Setting → Past → Past
+table_passed limit past = record past { tables = Some (first_table past.tables limit) }
 
 -- Items
 
@@ -178,6 +203,39 @@ closed_by (Some fault) kind o = record o { code = with_none_open o.code }
 
 abbrev pub closed : RoutineKind → Code
 closed kind o = closed_by (fault_closed kind o.code) kind o
+
+-- Strings
+
+-- where the next one begins
+abbrev pub string_at : Out → Target
+string_at o = target.Place area.Strings (length o.strings.bytes)
+
+-- A string of these bytes is added. Where it would pass the limit nothing is, and the limit is passed.
+abbrev pub with_text_by : Bool → List ℕ → Code
+with_text_by true text o = record o { strings = with_string text o.strings }
+with_text_by false text o = record o { past = Some (record (past_of o) { strings = true }) }
+
+abbrev pub with_text : List ℕ → Code
+with_text text o = with_text_by (fits text o.strings) text o
+
+-- Tables
+
+-- One would hold more than it may.
+abbrev pub passed_table : Setting → Code
+passed_table limit o = record o { past = Some (table_passed limit (past_of o)) }
+
+abbrev pub with_dictionary : Text → WordUse → Bool → Tables → Tables
+with_dictionary text how is_plural tables = record tables { dictionary = with_use text how is_plural tables.dictionary }
+
+-- A word is used. Where it would be one too many it is not, and the limit is passed; nor where it is one of another verb's.
+abbrev pub with_word_by : Option WordFault → Text → WordUse → Bool → Code
+with_word_by None text how is_plural o = record o { tables = with_dictionary text how is_plural o.tables }
+with_word_by (Some word_fault.Full) text how is_plural o = passed_table setting.DictionaryEntries o
+with_word_by (Some word_fault.OtherVerb) text how is_plural o = o
+with_word_by (Some word_fault.Memory) text how is_plural o = o
+
+abbrev pub with_word : Text → WordUse → Bool → Code
+with_word text how is_plural o = with_word_by (add_fault (word_of text o.tables.dictionary.list) how o.tables.dictionary) text how is_plural o
 
 -- Names
 

@@ -1,4 +1,4 @@
-//! What the units of a routine are laid into: the code of a story, the names that it uses, and the number of the next label.
+//! What the units of a routine are laid into: the code of a story, its strings, the names that it uses, and the number of the next label.
 //!
 //! Code is defined as what it adds to an `Output`, and pieces of code are put together by a few words: one behind another, with a label of its
 //! own, with a routine of the veneer. A limit that is passed is no error of the call that passes it: nothing more is laid, but counted, so
@@ -10,9 +10,11 @@
 mod items;
 mod operands;
 mod output;
+mod strings;
 mod veneer;
 
 pub use items::{Item, Items, KeptInstruction};
 pub use operands::Simple;
 pub use output::{Output, Past};
+pub use strings::Strings;
 pub use veneer::Veneer;

@@ -7,13 +7,14 @@ ghost use Rattle.inf_code.specs.Code.{fault_closed};
 ghost use Rattle.inf_names.specs.Symbols.{declare_fault};
 ghost use Rattle.inf_names.specs.declared.meanings.Meaning.{Meaning as Standing};
 ghost use Rattle.inf_output.specs.declared.items.Item.TheVariants as item;
-ghost use Rattle.inf_output.specs.Output.{Takes, TakesVariable, apart, begun, behind, closed, declared, found_simple, full, full_of, full_past, in_routine, instruction, items_of, jumped, laid, laid_all, less, marked, naming, next_label, opened, passed, passed_limit, past_of, referred, referred_as, routine, simple_by, standing_simple, symbols_passed, taken, together, used, whole};
+ghost use Rattle.inf_output.specs.Output.{Takes, TakesVariable, apart, begun, behind, closed, counted, declared, first_table, found_simple, full, full_of, full_past, in_routine, instruction, items_of, jumped, laid, laid_all, less, marked, naming, next_label, opened, or_full, passed, passed_limit, passed_table, past_of, referred, referred_as, routine, simple_by, standing_simple, string_at, symbols_passed, table_passed, taken, together, used, whole, with_text, with_word};
 
 use crate::items::{Item, Items, proper_operands};
 use crate::operands::{Simple, with_written};
+use crate::strings::Strings;
 use crate::veneer::Veneer;
 use arrayvec::ArrayVec;
-use inf_area::Target;
+use inf_area::{AreaName, Target};
 use inf_assembler::{CloseFault, GrowFault, RoutineKind, Setting as CodeSetting};
 use inf_code::code::{Code, CodeLimits};
 use inf_names::meanings::Meaning;
@@ -21,6 +22,7 @@ use inf_names::symbols::{DeclareFault, Found, ReferFault, Symbols};
 use inf_opcode::{Branch, Counts, Instruction, Label, Opcode, Operand, instruction_counts};
 use inf_scanner::Place;
 use inf_settings::setting::Setting;
+use inf_tables::{Tables, WordFault, WordUse};
 use std::alloc::{AllocError, Global};
 
 /// What is left of each limit, one of which was passed; nothing of those that were.
@@ -30,8 +32,12 @@ pub struct Past {
     pub symbols: bool,
     /// The labels, branches and jumps that the open routine may still take.
     pub labels: Option<usize>,
+    /// The first limit of a table that was passed, in the order of the settings.
+    pub tables: Option<Setting>,
     /// The bytes of code.
     pub code: Option<usize>,
+    /// Whether there are more bytes of strings than there may be.
+    pub strings: bool,
     /// The references.
     pub refs: Option<usize>,
 }
@@ -40,6 +46,8 @@ pub struct Past {
 #[derive(Drop)]
 pub struct Output {
     pub code: Code,
+    pub strings: Strings,
+    pub tables: Tables,
     pub names: Symbols<Place>,
     /// The place of the first token of the unit at hand, where routines of the veneer are used.
     pub first: Place,
@@ -68,6 +76,27 @@ fn full_of(rest: Option<usize>, limit: Setting, others: Option<Setting>) -> Opti
     }
 }
 
+/// The first limit of a table that was passed, or one behind it.
+fn or_full(passed: Option<Setting>, others: Option<Setting>) -> Option<Setting>
+    ensures { result ≡ or_full passed others }
+{
+    match passed {
+        None => others,
+        Some(limit) => Some(limit),
+    }
+}
+
+/// The first of two limits of tables, in the order of the settings.
+fn first_table(passed: Option<Setting>, limit: Setting) -> Setting
+    ensures { result ≡ first_table passed limit }
+{
+    match passed {
+        None => limit,
+        Some(other) if limit.place() < other.place() => limit,
+        Some(other) => other,
+    }
+}
+
 impl Past {
     /// So much is left, and no limit was passed.
     fn whole(limits: CodeLimits) -> Past
@@ -76,7 +105,9 @@ impl Past {
         Past {
             symbols: false,
             labels: Some(limits.labels),
+            tables: None,
             code: Some(limits.code),
+            strings: false,
             refs: Some(limits.refs),
         }
     }
@@ -88,7 +119,9 @@ impl Past {
         Past {
             symbols: self.symbols,
             labels: less(self.labels, counts.labels),
+            tables: self.tables,
             code: less(self.code, counts.bytes),
+            strings: self.strings,
             refs: less(self.refs, counts.fixups),
         }
     }
@@ -107,6 +140,26 @@ impl Past {
         }
     }
 
+    /// So many more references stand in tables.
+    fn counted(self, references: usize) -> Past
+        ensures { result ≡ counted references self }
+    {
+        Past {
+            refs: less(self.refs, references),
+            ..self
+        }
+    }
+
+    /// A limit of a table is passed.
+    fn table_passed(self, limit: Setting) -> Past
+        ensures { result ≡ table_passed limit self }
+    {
+        Past {
+            tables: Some(first_table(self.tables, limit)),
+            ..self
+        }
+    }
+
     /// The first of the limits that were passed, in the order of the settings.
     fn full(self) -> Option<Setting>
         ensures { result ≡ full_past self }
@@ -114,12 +167,13 @@ impl Past {
         if self.symbols {
             return Some(Setting::Symbols);
         }
-        let others = full_of(self.refs, Setting::References, None);
-        full_of(
-            self.labels,
-            Setting::Labels,
-            full_of(self.code, Setting::Code, others),
-        )
+        let others = if self.strings {
+            Some(Setting::Strings)
+        } else {
+            full_of(self.refs, Setting::References, None)
+        };
+        let others = full_of(self.code, Setting::Code, others);
+        full_of(self.labels, Setting::Labels, or_full(self.tables, others))
     }
 }
 
@@ -180,12 +234,21 @@ fn found(found: Found<Place>, number: Option<usize>) -> Simple
 }
 
 impl Output {
-    /// An output for some code and names, of which no routine was begun.
-    pub fn new(code: Code, names: Symbols<Place>, first: Place) -> Output
-        ensures { result ≡ record { code = code; names = names; first = first; next = 0; past = None; kept = None } }
+    /// An output for some code, strings, tables and names, of which no routine was begun.
+    pub fn new(
+        code: Code,
+        strings: Strings,
+        tables: Tables,
+        names: Symbols<Place>,
+        first: Place,
+    ) -> Output
+        ensures { result
+            ≡ record { code = code; strings = strings; tables = tables; names = names; first = first; next = 0; past = None; kept = None } }
     {
         Output {
             code,
+            strings,
+            tables,
             names,
             first,
             next: 0,
@@ -194,11 +257,12 @@ impl Output {
         }
     }
 
-    /// The first limit that was passed, in the order of the settings, counted over all that was laid since.
+    /// The first limit that was passed, in the order of the settings, counted over all that was laid since. The references of all tables count with those
+    /// of code.
     pub fn full(&self) -> Option<Setting>
         ensures { result ≡ full self.now }
     {
-        self.past?.full()
+        self.rest().counted(self.tables.references()).full()
     }
 
     /// Opens a routine of so many locals, at most 15, which is lost or not; its labels are counted from 0. Where that would pass a limit none
@@ -458,6 +522,48 @@ impl Output {
             symbols: true,
             ..self.rest()
         });
+    }
+
+    /// A string of these bytes is added, which are a packed text. Answers what it is. Where it would pass the limit nothing is added, and the limit is passed.
+    pub fn string(&mut self, text: &[u8]) -> Result<Target, AllocError>
+        ensures target { IfOk result (λ target. target ≡ string_at self.old) }
+        ensures value { OnOk result (self.new ≡ with_text text.now self.old) }
+    {
+        let place = self.strings.len();
+        if !self.strings.add(text)? {
+            self.past = Some(Past {
+                strings: true,
+                ..self.rest()
+            });
+        }
+        Ok(Target::Place(AreaName::Strings, place))
+    }
+
+    /// A table would hold more than this limit allows.
+    pub fn pass_table(&mut self, limit: Setting)
+        ensures { self.new ≡ passed_table limit self.old }
+    {
+        self.past = Some(self.rest().table_passed(limit));
+    }
+
+    /// A use of the word with this text. Where it would be one too many it is not added, and the limit is passed; nor is it where it would become a word
+    /// of another verb.
+    pub fn word(
+        &mut self,
+        text: [u8; 6],
+        word_use: WordUse,
+        is_plural: bool,
+    ) -> Result<(), AllocError>
+        ensures { OnOk result (self.new ≡ with_word text word_use is_plural self.old) }
+    {
+        match self.tables.dictionary.add(text, word_use, is_plural) {
+            Ok(()) | Err(WordFault::OtherVerb) => Ok(()),
+            Err(WordFault::Full) => {
+                self.pass_table(Setting::DictionaryEntries);
+                Ok(())
+            }
+            Err(WordFault::Memory) => Err(AllocError),
+        }
     }
 
     /// The operand by which a routine of the veneer is called, whose name is looked up, and used at the first token of the unit.

@@ -1,0 +1,74 @@
+//! The strings of a story.
+ghost use Rattle.std.specs.Prelude.{◌≡◌, ◌≤◌, IfOk, if◌then◌else◌, length};
+ghost use Rattle.inf_output.specs.Strings.{fits, with_string};
+
+use inf_area::{Area, PagedArea};
+use inf_cells::Scale;
+use std::alloc::{AllocError, Global};
+use std::marker::Model;
+
+/// The packed texts of a story's strings, one behind the other in the order in which they came, each filled up with zeros to a packed address
+/// (Z-Machine Standard 1.1, section 1.2.3).
+#[derive(Drop)]
+pub struct Strings {
+    area: PagedArea,
+    limit: usize,
+    scale: Scale,
+}
+
+impl Model for Strings {
+    ghost use Rattle.std.specs.Prelude.{◌≤◌, length};
+    ghost use Rattle.inf_output.specs.Strings.{StringArea};
+
+    ghost Value = { StringArea };
+
+    ghost view = { λ strings. record { bytes = strings.area; limit = strings.limit; scale = strings.scale } };
+
+    ghost invariant = { λ strings. length strings.area ≤ strings.limit };
+}
+
+impl Strings {
+    ghost use Rattle.inf_output.specs.Strings.{no_strings};
+
+    /// None, of at most so many bytes, in a story whose packed addresses are multiplied by this. They take no memory until the first one comes.
+    pub fn new(alloc: Global, limit: usize, scale: Scale) -> Strings
+        ensures { result ≡ no_strings limit scale }
+    {
+        Strings {
+            area: PagedArea::new(alloc),
+            limit,
+            scale,
+        }
+    }
+
+    /// How many bytes they have: the place of the next one.
+    pub fn len(&self) -> usize
+        ensures value { result ≡ length self.now.bytes }
+        ensures few { result ≤ self.now.limit }
+    {
+        self.area.len()
+    }
+
+    /// Adds a string of these bytes, and answers that it was added; or that it would pass the limit.
+    pub fn add(&mut self, text: &[u8]) -> Result<bool, AllocError>
+        ensures { IfOk result (λ added. (added ≡ fits text.now self.old)
+            × (self.new ≡ if fits text.now self.old then with_string text.now self.old else self.old)) }
+    {
+        let zeros: &[u8] = &[0, 0, 0, 0, 0, 0, 0];
+        let behind = &zeros[..self.scale.gap(text.len())];
+        let room = self.limit - self.area.len();
+        if room < text.len() || room - text.len() < behind.len() {
+            return Ok(false);
+        }
+        self.area.append(text)?;
+        self.area.append(behind)?;
+        Ok(true)
+    }
+
+    /// Their area.
+    pub fn into_area(self) -> PagedArea
+        ensures { result ≡ self.bytes }
+    {
+        self.area
+    }
+}

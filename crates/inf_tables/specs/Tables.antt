@@ -1,0 +1,38 @@
+-- The tables of a story, as far as its source told them.
+use Rattle.std.specs.Prelude.{ℕ, ◌+◌, min, [], length}
+use Rattle.inf_settings.specs.Settings.{number_of}
+use Rattle.inf_settings.specs.declared.setting.Setting.TheVariants as setting
+use Rattle.inf_settings.specs.declared.settings.Settings.{Settings}
+use Rattle.inf_arrays.specs.Arrays.{all_of, arrays_laters, no_arrays}
+use Rattle.inf_arrays.specs.Kinds.{laters}
+use Rattle.inf_verbs.specs.Verbs.{verbs_laters}
+use Rattle.inf_world.specs.World.{fixups_now, no_world}
+use Rattle.inf_world.specs.declared.kinds.Limits.{Limits}
+use Rattle.inf_tables.specs.declared.tables.Tables.{Tables}
+
+-- what there may be of the world
+abbrev pub world_limits : Settings → Limits
+world_limits settings = record { objects = number_of setting.Objects settings; property_bytes = number_of setting.PropertyTables settings }
+
+-- of a source that told nothing yet
+abbrev pub no_tables : Settings → Tables
+no_tables settings = record {
+  dictionary = record { list = []; limit = number_of setting.DictionaryEntries settings };
+  arrays = no_arrays (number_of setting.Arrays settings);
+  globals = [];
+  world = no_world (world_limits settings);
+  verbs = record { list = []; limit = number_of setting.Verbs settings; space = number_of setting.GrammarLines settings };
+  actions = record { routines = []; fakes = 0; limit = number_of setting.Actions settings };
+  parsing = [];
+}
+
+-- a count and another one: no number of the program is above the greatest
+unfoldable pub more : ℕ → ℕ → ℕ
+more count other = min (count + other) 18446744073709551615
+
+-- How many numbers in the tables are known when the story is laid out: in the world as if the open body ended here, first values of variables, entries of
+-- arrays, addresses of verbs' lines and of prepositions, and one for each action and each routine that parses.
+abbrev pub references : Tables → ℕ
+references t =
+    more (more (more (fixups_now t.world) (laters t.globals)) (arrays_laters (all_of t.arrays)))
+    (more (verbs_laters t.verbs.list) (more (length t.actions.routines) (length t.parsing)))

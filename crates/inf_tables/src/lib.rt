@@ -1,0 +1,12 @@
+//! The tables of a story, as far as its source told them: words, arrays and variables, the world, and the grammar.
+//!
+//! Each table is a layer of its own, with calls that refuse what does not fit. `Tables` has one of each, with the limits that the settings give.
+#![tactic(auto)]
+
+mod tables;
+
+pub use inf_arrays::{ArrayFault, ArrayKind, Arrays, GlobalFault, Globals};
+pub use inf_dictionary::{AddFault as WordFault, Dictionary, Places, Word, WordUse};
+pub use inf_verbs::{ActionFault, Actions, LineFault, LineToken, Noun, ParsingRoutines, VerbFault, Verbs};
+pub use inf_world::{Limit, Limits, Misfit, Parent, ShortName, World, WorldArea};
+pub use tables::Tables;

@@ -1,0 +1,75 @@
+//! One of each table.
+ghost use Rattle.std.specs.Prelude.{◌≡◌};
+ghost use Rattle.inf_tables.specs.Tables.{more, no_tables, references, world_limits};
+
+use inf_arrays::{Arrays, Globals};
+use inf_dictionary::Dictionary;
+use inf_settings::setting::Setting;
+use inf_settings::settings::Settings;
+use inf_verbs::{Actions, ParsingRoutines, Verbs};
+use inf_world::{Limits, World};
+use std::alloc::Global;
+
+/// The tables of a story so far.
+#[derive(Drop)]
+pub struct Tables {
+    pub dictionary: Dictionary,
+    pub arrays: Arrays,
+    pub globals: Globals,
+    pub world: World,
+    pub verbs: Verbs,
+    pub actions: Actions,
+    pub parsing: ParsingRoutines,
+}
+
+/// What there may be of the world.
+fn world_limits(settings: &Settings) -> Limits
+    ensures { result ≡ world_limits settings.now }
+{
+    Limits {
+        objects: settings.of(Setting::Objects),
+        property_bytes: settings.of(Setting::PropertyTables),
+    }
+}
+
+/// A count and another one; no number of the program is above the greatest.
+#[tactic(auto, unfolding(crate::specs::Tables::more))]
+fn more(count: usize, other: usize) -> usize
+    ensures { result ≡ more count other }
+{
+    count.saturating_add(other)
+}
+
+impl Tables {
+    /// Tables of a source that told nothing yet: the world has its first four objects. Of each there may be as much as the settings say. They
+    /// take no memory.
+    pub fn new(alloc: Global, settings: &Settings) -> Tables
+        ensures { result ≡ no_tables settings.now }
+    {
+        Tables {
+            dictionary: Dictionary::new(alloc, settings.of(Setting::DictionaryEntries) as usize),
+            arrays: Arrays::new(alloc, settings.of(Setting::Arrays) as usize),
+            globals: Globals::new(alloc),
+            world: World::new(alloc, world_limits(settings)),
+            verbs: Verbs::new(
+                alloc,
+                settings.of(Setting::Verbs) as usize,
+                settings.of(Setting::GrammarLines) as usize,
+            ),
+            actions: Actions::new(alloc, settings.of(Setting::Actions) as usize),
+            parsing: ParsingRoutines::new(alloc),
+        }
+    }
+
+    /// How many references the tables have so far: numbers that are known when the story is laid out.
+    pub fn references(&self) -> usize
+        ensures { result ≡ references self.now }
+    {
+        let world = more(self.world.fixups(), self.globals.later_count());
+        let grammar = more(
+            self.verbs.later_count(),
+            more(self.actions.len(), self.parsing.len()),
+        );
+        more(more(world, self.arrays.later_count()), grammar)
+    }
+}
