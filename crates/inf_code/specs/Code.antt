@@ -106,9 +106,10 @@ no_routines limits scale = record { limits = limits; scale = scale; has_begun = 
 abbrev pub code_cells : Target → List CodeCell → List CodeCell
 code_cells called finished = first_cells called ++ finished
 
--- What is left of the limits for the routines of the source: the first routine has a reference.
+-- What is left of the limits for the routines of the source. The first routine has a reference; the addresses of the property tables of the four
+-- objects that each story has are four more.
 abbrev pub room : CodeLimits → CodeLimits
-room limits = record limits { refs = limits.refs - 1 }
+room limits = record limits { refs = limits.refs - 5 }
 
 -- an instruction more in a routine, and in the one that is open
 abbrev pub with_instruction : Parts → Contents → Contents
@@ -167,7 +168,7 @@ most is_lost limits = if is_lost then record { labels = limits.labels; code = un
 abbrev pub full_first : CodeLimits → Option Setting
 full_first limits =
     if nat_lt limits.code 8 then Some setting.Code else
-    if nat_lt limits.refs 1 then Some setting.Refs else None
+    if nat_lt limits.refs 5 then Some setting.Refs else None
 
 -- nothing, where it has begun
 abbrev pub full_unless : Bool → CodeLimits → Option Setting
@@ -189,7 +190,7 @@ abbrev pub code_count : Routines → ℕ
 code_count routines = (if routines.has_begun then 8 else 0) + size_of routines.finished
 
 abbrev pub reference_count : Routines → ℕ
-reference_count routines = if routines.has_begun then 1 + later_count routines.finished else later_count routines.finished
+reference_count routines = (if routines.has_begun then 5 else 4) + later_count routines.finished
 
 -- the first limit that another routine would pass at a place: it begins with the number of its locals, and code begins with it
 abbrev pub full_behind_bytes : CodeLimits → Bool → Bool → ℕ → Option Setting
@@ -303,4 +304,4 @@ IsSpare refs = refs ≡ record { list = []; limit = unlimited }
 
 -- code that has begun has room for its beginning; limits are numbers of the program
 abbrev pub HasRoom : Bool → CodeLimits → Type 0
-HasRoom has_begun limits = ((limits.code < 2 ^ 64) × (limits.refs < 2 ^ 64)) × (has_begun ≡ true → (8 ≤ limits.code) × (1 ≤ limits.refs))
+HasRoom has_begun limits = ((limits.code < 2 ^ 64) × (limits.refs < 2 ^ 64)) × (has_begun ≡ true → (8 ≤ limits.code) × (5 ≤ limits.refs))

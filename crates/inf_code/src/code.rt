@@ -26,8 +26,11 @@ const FIRST_ROUTINE_BYTES: usize = 8;
 /// Where in it the number of what it calls stands.
 const CALLED: usize = 2;
 
-/// The references of the first routine.
-const FIRST_REFERENCES: usize = 1;
+/// The references of each story in tables: the addresses of the property tables of its first four objects.
+const TABLE_REFERENCES: usize = 4;
+
+/// These, and that of the first routine.
+const FIRST_REFERENCES: usize = TABLE_REFERENCES + 1;
 
 /// What code may hold.
 #[derive(Clone, Copy, Debug, PartialEq, Eq)]
@@ -37,7 +40,7 @@ pub struct CodeLimits {
     /// The most bytes of all routines: the first one, which has 8, the finished ones with the zeros behind them, and the open one with
     /// every branch long.
     pub code: usize,
-    /// The most references of the routines whose numbers are known later.
+    /// The most references whose numbers are known later: those of the routines, and four in tables.
     pub refs: usize,
 }
 
@@ -172,15 +175,16 @@ impl Code {
         }
     }
 
-    /// How many references the code has so far: that of the first routine, once code has begun, and those of the finished routines.
+    /// How many references the story has so far: four in tables, that of the first routine, once code has begun, and those of the
+    /// finished routines.
     pub fn references(&self) -> usize
         ensures value { result ≡ reference_count self.now }
-        ensures few { result ≤ self.now.limits.refs }
+        ensures few { 4 ≤ self.now.limits.refs → result ≤ self.now.limits.refs }
     {
         if self.has_begun {
             FIRST_REFERENCES + self.refs.len()
         } else {
-            self.refs.len()
+            TABLE_REFERENCES + self.refs.len()
         }
     }
 

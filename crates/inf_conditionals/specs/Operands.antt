@@ -67,8 +67,8 @@ leaf_operand declared names tokens (leaf.Name at) = name_operand declared names 
 leaf_operand declared names tokens (leaf.Alone at) = name_operand declared names (bytes_of (name_at tokens at))
 leaf_operand declared names tokens (leaf.Number number) = operand.Known number
 leaf_operand declared names tokens (leaf.Char zscii) = operand.Known zscii
-leaf_operand declared names tokens (leaf.Word word) = operand.Unknown
-leaf_operand declared names tokens (leaf.Text at) = operand.Unknown
+leaf_operand declared names tokens (leaf.Word word) = later
+leaf_operand declared names tokens (leaf.Text at) = later
 leaf_operand declared names tokens (leaf.Action at) = operand.Unknown
 leaf_operand declared names tokens (leaf.System at) = operand.Unknown
 

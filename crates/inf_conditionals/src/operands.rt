@@ -94,7 +94,8 @@ fn leaf_operand(declared: usize, names: &Symbols<Place>, tokens: &UnitTokens, le
         }
         Leaf::Number(number) => Operand::Known(number),
         Leaf::Char(zscii) => Operand::Known(u16::from(zscii.code())),
-        Leaf::Word(_) | Leaf::Text(_) | Leaf::Action(_) | Leaf::System(_) => Operand::Unknown,
+        Leaf::Word(_) | Leaf::Text(_) => LATER,
+        Leaf::Action(_) | Leaf::System(_) => Operand::Unknown,
     }
 }
 

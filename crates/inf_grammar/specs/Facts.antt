@@ -5,66 +5,66 @@ use Rattle.std.specs.Prelude.{ℕ, List, [], ◌∷◌, Bool, true, false}
 abbrev pub beginnings : List ℕ
 beginnings =
     0x220200011480021000110100008a40010801022000000 ∷ 0x220200011480021000110100008a40010801022000000 ∷ 0x220200011480021000110100008a40010800020000000 ∷ 0x3ffffffffffffffffffffffffffffffffffff0000000000
-    ∷ 0x2ff7effdcdff7e7feffffbf7fee6ffbf3ff7ff828a00602c ∷ 0x200000000000000000000000000000000000000000000000 ∷ 0x410000000000000000208000000000000000000000003 ∷ 0xff7fffdcdff7e7ffffffbfffee6ffbf3fffff0028000004
-    ∷ 0xff7fffdcdff7e7ffffffbfffee6ffbf3fffff0008000004 ∷ 0xff7fffdcdff7e7ffffffbfffee6ffbf3fffff000a000004 ∷ 0x1 ∷ 0x1
+    ∷ 0x3ff7effdcdff7e7feffffbf7fee6ffbf3ff7ff828a00602c ∷ 0x200000000000000000000000000000000000000000000000 ∷ 0x410000000000000000208000000000000000000000003 ∷ 0x3ff7fffdcdff7e7ffffffbfffee6ffbf3fffff0028000004
+    ∷ 0x3ff7fffdcdff7e7ffffffbfffee6ffbf3fffff0008000004 ∷ 0x3ff7fffdcdff7e7ffffffbfffee6ffbf3fffff000a000004 ∷ 0x1 ∷ 0x1
     ∷ 0x200004000800000000100002000400000000000000 ∷ 0x40 ∷ 0x20000000000000000010000000000000000000 ∷ 0x100000000000000000000000000000000000000000000000
     ∷ 0x10040 ∷ 0x40 ∷ 0x220200011480021000110100008a40010800000000000 ∷ 0x80000000000000000040000000000
-    ∷ 0x1000000000000000000800000000000 ∷ 0xff7fffdcdff7e7ffffffbfffee6ffbf3fffff000801602c ∷ 0x3ffffffffffffffffffffffffffffffffffff0000000000 ∷ 0xff7fffdcdff7e7ffffffbfffee6ffbf3fffff000800602c
-    ∷ 0x4000000000000480002000000000000240000000000000 ∷ 0xff7fffdcdff7e7ffff7fbfffee6ffbf3ffffb000800602c ∷ 0xff7fffdcdff7e7ffff7fbfffee6ffbf3ffffb000800602c ∷ 0xff7fffdcdff7e7ffffffbfffee6ffbf3fffff0008000004
+    ∷ 0x1000000000000000000800000000000 ∷ 0x3ff7fffdcdff7e7ffffffbfffee6ffbf3fffff000801602c ∷ 0x3ffffffffffffffffffffffffffffffffffff0000000000 ∷ 0x3ff7fffdcdff7e7ffffffbfffee6ffbf3fffff000800602c
+    ∷ 0x4000000000000480002000000000000240000000000000 ∷ 0x3ff7fffdcdff7e7ffff7fbfffee6ffbf3ffffb000800602c ∷ 0x3ff7fffdcdff7e7ffff7fbfffee6ffbf3ffffb000800602c ∷ 0x3ff7fffdcdff7e7ffffffbfffee6ffbf3fffff0008000004
     ∷ 0x23ffffffffffffffffffffffffffffffffffff0003000000 ∷ 0x22ffffffffffff7fff7f7fffffffffffbfffbf0000000000 ∷ 0x200000000000000000000000000000000000000000000000 ∷ 0x2ffffffffffff7fff7f7fffffffffffbfffbf0000000000
     ∷ 0x2ffffffffffff7fff7f7fffffffffffbfffbf0000000000 ∷ 0x10000000000008000808000000000004000400001000000 ∷ 0x10000000000008000808000000000004000400000000000 ∷ 0x2ffffffffffff7fff7f7fffffffffffbfffbf0000002000
     ∷ 0x2ffffffffffff7fff7f7fffffffffffbfffbf0000000000 ∷ 0x10000000000008000808000000000004000400001000000 ∷ 0x3ffffffffffffffffffffffffffffffffffff0000000000 ∷ 0x2ffffffffffff7fff7f7fffffffffffbfffbf0000000000
-    ∷ 0xef7fffdcdff7e7fff7f7bfffee6ffbf3fffbf0028000004 ∷ 0xef7fffdcdff7e7fff7f7bfffee6ffbf3fffbf0028000004 ∷ 0xef7fffdcdff7e7fff7f7bfffee6ffbf3fffbf0028000004 ∷ 0xef7fffdcdff7e7fff7f7bfffee6ffbf3fffbf0008000004
-    ∷ 0x3ffffffffffffffffffffffffffffffffffff0000000000 ∷ 0x2ff7effdcdff7e7feffffbf7fee6ffbf3ff7ff828a00602c ∷ 0xef7fffdcdff7e7fff7f7bfffee6ffbf3fffbf0008000000 ∷ 0x2ffffffffffff7fff7f7fffffffffffbfffbf0000002000
+    ∷ 0x3ef7fffdcdff7e7fff7f7bfffee6ffbf3fffbf0028000004 ∷ 0x3ef7fffdcdff7e7fff7f7bfffee6ffbf3fffbf0028000004 ∷ 0x3ef7fffdcdff7e7fff7f7bfffee6ffbf3fffbf0028000004 ∷ 0x3ef7fffdcdff7e7fff7f7bfffee6ffbf3fffbf0008000004
+    ∷ 0x3ffffffffffffffffffffffffffffffffffff0000000000 ∷ 0x3ff7effdcdff7e7feffffbf7fee6ffbf3ff7ff828a00602c ∷ 0x3ef7fffdcdff7e7fff7f7bfffee6ffbf3fffbf0008000000 ∷ 0x2ffffffffffff7fff7f7fffffffffffbfffbf0000002000
     ∷ 0x2ffffffffffff7fff7f7fffffffffffbfffbf0000002000 ∷ 0x40 ∷ 0x13ffffffffffffffffffffffffffffffffffff0000000000 ∷ 0x10000
-    ∷ 0x80 ∷ 0x800000000000000000400000000000000000000000 ∷ 0xff7fffdcdff7e7ffffffbfffee6ffbf3fffff000800602c ∷ 0x1000000
-    ∷ 0xff7fffdcdff7e7ffffffbfffee6ffbf3fffff000800602c ∷ 0xc000000000000000000000000000000000000000800602c ∷ 0x6028 ∷ 0x10000
-    ∷ 0x10000 ∷ 0xff7fffdcdff7e7ffffffbfffee6ffbf3fffff000800602c ∷ 0x1400 ∷ 0x1400
-    ∷ 0xff7fffdcdff7e7ffffffbfffee6ffbf3fffff000800602c ∷ 0x2120081800000000001090040c0000000003e8000 ∷ 0x2120081800000000001090040c0000000003e8000 ∷ 0x2120081800000000001090040c0000000003e8000
-    ∷ 0xff7fffdcdff7e7ffffffbfffee6ffbf3fffff000800202c ∷ 0x2000000000000000001000000000000000000000 ∷ 0xff7fffdcdff7e7ffffffbfffee6ffbf3fffff000800202c ∷ 0x14
-    ∷ 0x14 ∷ 0xff7fffdcdff7e7ffffffbfffee6ffbf3fffff000800202c ∷ 0xbc0 ∷ 0xbc0
-    ∷ 0xff7fffdcdff7e7ffffffbfffee6ffbf3fffff000800202c ∷ 0x3 ∷ 0x3 ∷ 0xff7fffdcdff7e7ffffffbfffee6ffbf3fffff000800002c
-    ∷ 0xff7fffdcdff7e7ffffffbfffee6ffbf3fffff0008000028 ∷ 0x28 ∷ 0x28 ∷ 0x28
-    ∷ 0xc00000000 ∷ 0xc00000000 ∷ 0xff7fffdcdff7e7ffffffbfffee6ffbf3fffff0008000000 ∷ 0x208000000
-    ∷ 0x8000000 ∷ 0xff7fffdcdff7e7ffffffbfffee6ffbf3fffff000800602c ∷ 0x1000000 ∷ 0xff7fffdcdff7e7ffffffbfffee6ffbf3fffff0008000000
-    ∷ 0xc0000000000000000000000000000000000000008000000 ∷ 0x8000000 ∷ 0xc0000000000000000000000000000000000000000000000 ∷ 0xff7fffdcdff7e7ffffffbfffee6ffbf3fffff0008000004
+    ∷ 0x80 ∷ 0x800000000000000000400000000000000000000000 ∷ 0x3ff7fffdcdff7e7ffffffbfffee6ffbf3fffff000800602c ∷ 0x1000000
+    ∷ 0x3ff7fffdcdff7e7ffffffbfffee6ffbf3fffff000800602c ∷ 0x3c000000000000000000000000000000000000000800602c ∷ 0x6028 ∷ 0x10000
+    ∷ 0x10000 ∷ 0x3ff7fffdcdff7e7ffffffbfffee6ffbf3fffff000800602c ∷ 0x1400 ∷ 0x1400
+    ∷ 0x3ff7fffdcdff7e7ffffffbfffee6ffbf3fffff000800602c ∷ 0x2120081800000000001090040c0000000003e8000 ∷ 0x2120081800000000001090040c0000000003e8000 ∷ 0x2120081800000000001090040c0000000003e8000
+    ∷ 0x3ff7fffdcdff7e7ffffffbfffee6ffbf3fffff000800202c ∷ 0x2000000000000000001000000000000000000000 ∷ 0x3ff7fffdcdff7e7ffffffbfffee6ffbf3fffff000800202c ∷ 0x14
+    ∷ 0x14 ∷ 0x3ff7fffdcdff7e7ffffffbfffee6ffbf3fffff000800202c ∷ 0xbc0 ∷ 0xbc0
+    ∷ 0x3ff7fffdcdff7e7ffffffbfffee6ffbf3fffff000800202c ∷ 0x3 ∷ 0x3 ∷ 0x3ff7fffdcdff7e7ffffffbfffee6ffbf3fffff000800002c
+    ∷ 0x3ff7fffdcdff7e7ffffffbfffee6ffbf3fffff0008000028 ∷ 0x28 ∷ 0x28 ∷ 0x28
+    ∷ 0xc00000000 ∷ 0xc00000000 ∷ 0x3ff7fffdcdff7e7ffffffbfffee6ffbf3fffff0008000000 ∷ 0x208000000
+    ∷ 0x8000000 ∷ 0x3ff7fffdcdff7e7ffffffbfffee6ffbf3fffff000800602c ∷ 0x1000000 ∷ 0x3ff7fffdcdff7e7ffffffbfffee6ffbf3fffff0008000000
+    ∷ 0x3c0000000000000000000000000000000000000008000000 ∷ 0x8000000 ∷ 0x1c0000000000000000000000000000000000000000000000 ∷ 0x3ff7fffdcdff7e7ffffffbfffee6ffbf3fffff0008000004
     ∷ 0x2120081800000000001090040c000000e083f9fff ∷ 0x2120081800000000001090040c0000000003f9fd7 ∷ 0x2120081800000000001090040c000000e083f9fff ∷ 0x2120081800000000001090040c000000e003f9fff
-    ∷ 0xe08000028 ∷ 0xe00000028 ∷ 0x2120081800000000001090040c0000000003f9fd7 ∷ 0x2ff7effdcdff7e7feffffbf7fee6ffbf3ff7ff828a00602c
-    ∷ 0xc0000000000000000000000000000000000000008000000 ∷ 0x602c ∷ 0x8080000800021008004040000400010804000000000000 ∷ 0xc000000000000000006000000000000000000000
+    ∷ 0xe08000028 ∷ 0xe00000028 ∷ 0x2120081800000000001090040c0000000003f9fd7 ∷ 0x3ff7effdcdff7e7feffffbf7fee6ffbf3ff7ff828a00602c
+    ∷ 0x1c0000000000000000000000000000000000000008000000 ∷ 0x602c ∷ 0x8080000800021008004040000400010804000000000000 ∷ 0xc000000000000000006000000000000000000000
     ∷ 0x8100000000000000004080000000000000000000000 ∷ 0x3040100000002400001820080000001200000000000 ∷ 0x2000000 ∷ 0x3000000
-    ∷ 0x8282000000 ∷ 0x2ff7effdcdff7e7feffffbf7fee6ffbf3ff7ff828a00602c ∷ 0x200000000000000000000000000000000000000000000000 ∷ 0x2000000
+    ∷ 0x8282000000 ∷ 0x3ff7effdcdff7e7feffffbf7fee6ffbf3ff7ff828a00602c ∷ 0x200000000000000000000000000000000000000000000000 ∷ 0x2120081800000000001090040c000000e0b3f9fff
     ∷ 0x2120081800000000001090040c000000e093f9fff ∷ 0x8000000 ∷ 0x10000000000000000008000000000000 ∷ 0x8000000
-    ∷ 0x2ff7effdcdff7e7feffffbf7fee6ffbf3ff7ff828a00602c ∷ 0x8000000 ∷ 0xff7fffdcdff7e7ffffffbfffee6ffbf3fffff000800602c ∷ 0xff7fffdcdff7e7ffffffbfffee6ffbf3fffff000800602c
-    ∷ 0xff7fffdcdff7e7ffffffbfffee6ffbf3fffff000800602c ∷ 0x8000000 ∷ 0x8000000 ∷ 0xff7fffdcdff7e7ffffffbfffee6ffbf3fffff0008000004
-    ∷ 0x2ff7effdcdff7e7ffffffbf7fee6ffbf3fffff828a00602c ∷ 0x2ff7fffdcdff7e7ffffffbfffee6ffbf3fffff000800602c ∷ 0x1000000 ∷ 0xff7fffdcdff7e7ffffffbfffee6ffbf3fffff000a00602c
-    ∷ 0xff7fffdcdff7e7ffffffbfffee6ffbf3fffff000800602c ∷ 0x3ffffffffffffffffffffffffffffffffffff0000000000 ∷ 0xff7fffdcdff7e7ffffffbfffee6ffbf3fffff0008000000 ∷ 0xff7fffdcdff7e7ffffffbfffee6ffbf3fffff0008002000
-    ∷ 0xff7fffdcdff7e7ffffffbfffee6ffbf3fffff0008000000 ∷ 0xff7fffdcdff7e7ffffffbfffee6ffbf3fffff000800602c ∷ 0xff7fffdcdff7e7ffffffbfffee6ffbf3fffff000800602c ∷ 0x3ffffffffffffffffffffffffffffffffffff0000000000
-    ∷ 0x3ffffffffffffffffffffffffffffffffffff0008000000 ∷ 0x3ffffffffffffffffffffffffffffffffffff0008000000 ∷ 0xff7fffdcdff7e7ffffffbfffee6ffbf3fffff0008000000 ∷ 0xff7fffdcdff7e7ffffffbfffee6ffbf3fffff0008000000
-    ∷ 0x2ff7fffdcdff7e7ffffffbfffee6ffbf3fffff4008000005 ∷ 0x0 ∷ 0xff7fffdcdff7e7ffffffbfffee6ffbf3fffff4008000005 ∷ 0xff7fffdcdff7e7ffffffbfffee6ffbf3fffff0008000004
-    ∷ 0xff7fffdcdff7e7ffffffbfffee6ffbf3fffff4008000005 ∷ 0xff7fffdcdff7e7ffffffbfffee6ffbf3fffff0008000004 ∷ 0x4000000001 ∷ 0x4000000001
-    ∷ 0x4000000000 ∷ 0x4000000000 ∷ 0x3ffffffffffffffffffffffffffffffffffff0000002000 ∷ 0x2ff7fffdcdff7e7ffffffbfffee6ffbf3fffff000800602c
-    ∷ 0x0 ∷ 0xff7fffdcdff7e7ffffffbfffee6ffbf3fffff000000602c ∷ 0xfffffffffffffffffffffffffffffffffffff000800602c ∷ 0x2120081800000000001090040c000000e193f9fff
-    ∷ 0xff7ffffdffffffffffffbffffefffffffffff0e083f9fff ∷ 0x2120081800000000001090040c000000e093f9fff ∷ 0xff7fffdcdff7e7ffffffbfffee6ffbf3fffff0008000000 ∷ 0x2ff7effdcdff7e7feffffbf7fee6ffbf3ff7ff828a00602c
-    ∷ 0x2120081800000000001090040c000000e0b3f9fff ∷ 0x2120081800000000001090040c000000e0b3f9fff ∷ 0xc0000000000000000000000000000000000000008000000 ∷ 0x602c
-    ∷ 0x8000000 ∷ 0x8000000 ∷ 0x2ff7effdcdff7e7feffffbf7fee6ffbf3ff7ff828a00602c ∷ 0x8000000
-    ∷ 0x8000000 ∷ 0x8000000 ∷ 0xc000000000000000006000000000000000000000 ∷ 0x2ff7fffdcdff7e7ffffffbfffee6ffbf3fffff000800602c
-    ∷ 0xff7fffdcdff7e7ffffffbfffee6ffbf3fffff000a00602c ∷ 0x2000000 ∷ 0x3ffffffffffffffffffffffffffffffffffff0000000000 ∷ 0xff7fffdcdff7e7ffffffbfffee6ffbf3fffff0008000000
-    ∷ 0xff7fffdcdff7e7ffffffbfffee6ffbf3fffff0008000000 ∷ 0x8100000000000000004080000000000000000000000 ∷ 0xff7fffdcdff7e7ffffffbfffee6ffbf3fffff000800602c ∷ 0xffffffdcdff7e7ffffffffffee6ffbf3fffff000d00602c
+    ∷ 0x3ff7effdcdff7e7feffffbf7fee6ffbf3ff7ff828a00602c ∷ 0x8000000 ∷ 0x3ff7fffdcdff7e7ffffffbfffee6ffbf3fffff000800602c ∷ 0x3ff7fffdcdff7e7ffffffbfffee6ffbf3fffff000800602c
+    ∷ 0x3ff7fffdcdff7e7ffffffbfffee6ffbf3fffff000800602c ∷ 0x8000000 ∷ 0x8000000 ∷ 0x3ff7fffdcdff7e7ffffffbfffee6ffbf3fffff0008000004
+    ∷ 0x3ff7effdcdff7e7ffffffbf7fee6ffbf3fffff828a00602c ∷ 0x3ff7fffdcdff7e7ffffffbfffee6ffbf3fffff000800602c ∷ 0x1000000 ∷ 0x3ff7fffdcdff7e7ffffffbfffee6ffbf3fffff000a00602c
+    ∷ 0x3ff7fffdcdff7e7ffffffbfffee6ffbf3fffff000800602c ∷ 0x3ffffffffffffffffffffffffffffffffffff0000000000 ∷ 0x3ff7fffdcdff7e7ffffffbfffee6ffbf3fffff0008000000 ∷ 0x3ff7fffdcdff7e7ffffffbfffee6ffbf3fffff0008002000
+    ∷ 0x3ff7fffdcdff7e7ffffffbfffee6ffbf3fffff0008000000 ∷ 0x3ff7fffdcdff7e7ffffffbfffee6ffbf3fffff000800602c ∷ 0x3ff7fffdcdff7e7ffffffbfffee6ffbf3fffff000800602c ∷ 0x3ffffffffffffffffffffffffffffffffffff0000000000
+    ∷ 0x3ffffffffffffffffffffffffffffffffffff0008000000 ∷ 0x3ffffffffffffffffffffffffffffffffffff0008000000 ∷ 0x3ff7fffdcdff7e7ffffffbfffee6ffbf3fffff0008000000 ∷ 0x3ff7fffdcdff7e7ffffffbfffee6ffbf3fffff0008000000
+    ∷ 0x3ff7fffdcdff7e7ffffffbfffee6ffbf3fffff4008000005 ∷ 0x3ff7fffdcdff7e7ffffffbfffee6ffbf3fffff4008000005 ∷ 0x3ff7fffdcdff7e7ffffffbfffee6ffbf3fffff4008000005 ∷ 0x1ff7fffdcdff7e7ffffffbfffee6ffbf3fffff0008000004
+    ∷ 0x3ff7fffdcdff7e7ffffffbfffee6ffbf3fffff4008000005 ∷ 0x3ff7fffdcdff7e7ffffffbfffee6ffbf3fffff0008000004 ∷ 0x4000000001 ∷ 0x4000000001
+    ∷ 0x4000000000 ∷ 0x4000000000 ∷ 0x3ffffffffffffffffffffffffffffffffffff0000002000 ∷ 0x3ff7fffdcdff7e7ffffffbfffee6ffbf3fffff000800602c
+    ∷ 0x2120081800000000001090040c000000e083f9fff ∷ 0x1ff7fffdcdff7e7ffffffbfffee6ffbf3fffff000000602c ∷ 0x3fffffffffffffffffffffffffffffffffffff000800602c ∷ 0x2120081800000000001090040c000000e193f9fff
+    ∷ 0x3ff7ffffdffffffffffffbffffefffffffffff0e083f9fff ∷ 0x2120081800000000001090040c000000e093f9fff ∷ 0x3ff7fffdcdff7e7ffffffbfffee6ffbf3fffff0008000000 ∷ 0x3ff7effdcdff7e7feffffbf7fee6ffbf3ff7ff828a00602c
+    ∷ 0x2120081800000000001090040c000000e0b3f9fff ∷ 0x2120081800000000001090040c000000e0b3f9fff ∷ 0x1c0000000000000000000000000000000000000008000000 ∷ 0x602c
+    ∷ 0x8000000 ∷ 0x8000000 ∷ 0x3ff7effdcdff7e7feffffbf7fee6ffbf3ff7ff828a00602c ∷ 0x8000000
+    ∷ 0x8000000 ∷ 0x8000000 ∷ 0xc000000000000000006000000000000000000000 ∷ 0x3ff7fffdcdff7e7ffffffbfffee6ffbf3fffff000800602c
+    ∷ 0x3ff7fffdcdff7e7ffffffbfffee6ffbf3fffff000a00602c ∷ 0x2000000 ∷ 0x3ffffffffffffffffffffffffffffffffffff0000000000 ∷ 0x3ff7fffdcdff7e7ffffffbfffee6ffbf3fffff0008000000
+    ∷ 0x3ff7fffdcdff7e7ffffffbfffee6ffbf3fffff0008000000 ∷ 0x8100000000000000004080000000000000000000000 ∷ 0x3ff7fffdcdff7e7ffffffbfffee6ffbf3fffff000800602c ∷ 0x3ffffffdcdff7e7ffffffffffee6ffbf3fffff000d00602c
     ∷ 0x3f7fffffffffffffffffbffffffffffffffff0000000000 ∷ 0x4000000 ∷ 0x800000000000000000400000000000000000005000000 ∷ 0x800000000000000000400000000000000000005000000
     ∷ 0x800000000000000000400000000000000000000000000 ∷ 0x5000000 ∷ 0x1000000 ∷ 0x800000000000000000400000000000000000000000000
-    ∷ 0x2120081800000000001090040c000000e0b3f9fff ∷ 0xff7fffdcdff7e7ffffffbfffee6ffbf3fffff000800602c ∷ 0x2120081800000000001090040c000000e0b3f9fff ∷ 0x3000000
-    ∷ 0xff7fffdcdff7e7ffffffbfffee6ffbf3fffff0008000004 ∷ 0x800000000000000000400000000000000000005000000 ∷ 0x800000000000000000400000000000000000001000000 ∷ 0xff7fffdcdff7e7ffbfffbfffee6ffbf3ffdff0008000004
-    ∷ 0x800000000000000000400000000000000000005000000 ∷ 0x5000000 ∷ 0x1000000 ∷ 0xff7fffdcdff7e7ffffffbfffee6ffbf3fffff0008000004
-    ∷ 0x800000000000000000400000000000000000000000000 ∷ 0x800000000000000000400000000000000000000000000 ∷ 0x2ff7effdcdff7e7ffffffbf7fee6ffbf3fffff828a00602c ∷ 0x2000000
+    ∷ 0x2120081800000000001090040c000000e0b3f9fff ∷ 0x3ff7fffdcdff7e7ffffffbfffee6ffbf3fffff000800602c ∷ 0x2120081800000000001090040c000000e0b3f9fff ∷ 0x3000000
+    ∷ 0x3ff7fffdcdff7e7ffffffbfffee6ffbf3fffff0008000004 ∷ 0x800000000000000000400000000000000000005000000 ∷ 0x800000000000000000400000000000000000001000000 ∷ 0x3ff7fffdcdff7e7ffbfffbfffee6ffbf3ffdff0008000004
+    ∷ 0x800000000000000000400000000000000000005000000 ∷ 0x5000000 ∷ 0x1000000 ∷ 0x3ff7fffdcdff7e7ffffffbfffee6ffbf3fffff0008000004
+    ∷ 0x800000000000000000400000000000000000000000000 ∷ 0x800000000000000000400000000000000000000000000 ∷ 0x3ff7effdcdff7e7ffffffbf7fee6ffbf3fffff828a00602c ∷ 0x80002120081800000040001090040c000000e0f3f9fff
     ∷ 0x80002120081800000040001090040c000000e0d3f9fff ∷ 0x80002120081800000040001090040c000000e0f3f9fff ∷ 0x80002120081800000040001090040c000000e0f3f9fff ∷ 0x80002120081800000040001090040c000000e0b3f9fff
-    ∷ 0xc0000000000000000000000000000000000000008000000 ∷ 0x80002120081800000040001090040c000000e0f3f9fff ∷ 0xff7fffdcdff7e7ffffffbfffee6ffbf3fffff000800002c ∷ 0x2c
-    ∷ 0x80000000000000000040000000000000000000d000000 ∷ 0x80000000000000000040000000000000000000d000000 ∷ 0x2fffeffdcdff7e7feffffff7fee6ffbf3ff7ff828f00602c ∷ 0x80000000000000000040000000000000000000d000000
-    ∷ 0x80000000000000000040000000000000000000d000000 ∷ 0x80000000000000000040000000000000000000d000000 ∷ 0xc000000000000000006000000000000000000000 ∷ 0x2ffffffdcdff7e7ffffffffffee6ffbf3fffff000d00602c
-    ∷ 0xffffffdcdff7e7ffffffffffee6ffbf3fffff000f00602c ∷ 0x800000000000000000400000000000000000007000000 ∷ 0x3ffffffffffffffffffffffffffffffffffff0005000000 ∷ 0xffffffdcdff7e7ffffffffffee6ffbf3fffff000d000000
-    ∷ 0xffffffdcdff7e7ffffffffffee6ffbf3fffff000d000000 ∷ 0x8100000000000000004080000000000000000000000 ∷ 0xffffffdcdff7e7ffffffffffee6ffbf3fffff000d00602c ∷ 0xffffffdcdff7e7ffffffffffee6ffbf3fffff000d00602c
+    ∷ 0x1c0000000000000000000000000000000000000008000000 ∷ 0x80002120081800000040001090040c000000e0f3f9fff ∷ 0x3ff7fffdcdff7e7ffffffbfffee6ffbf3fffff000800002c ∷ 0x2c
+    ∷ 0x80000000000000000040000000000000000000d000000 ∷ 0x80000000000000000040000000000000000000d000000 ∷ 0x3fffeffdcdff7e7feffffff7fee6ffbf3ff7ff828f00602c ∷ 0x80000000000000000040000000000000000000d000000
+    ∷ 0x80000000000000000040000000000000000000d000000 ∷ 0x80000000000000000040000000000000000000d000000 ∷ 0xc000000000000000006000000000000000000000 ∷ 0x3ffffffdcdff7e7ffffffffffee6ffbf3fffff000d00602c
+    ∷ 0x3ffffffdcdff7e7ffffffffffee6ffbf3fffff000f00602c ∷ 0x800000000000000000400000000000000000007000000 ∷ 0x3ffffffffffffffffffffffffffffffffffff0005000000 ∷ 0x3ffffffdcdff7e7ffffffffffee6ffbf3fffff000d000000
+    ∷ 0x3ffffffdcdff7e7ffffffffffee6ffbf3fffff000d000000 ∷ 0x8100000000000000004080000000000000000000000 ∷ 0x3ffffffdcdff7e7ffffffffffee6ffbf3fffff000d00602c ∷ 0x3ffffffdcdff7e7ffffffffffee6ffbf3fffff000d00602c
     ∷ 0x3ffffffffffffffffffffffffffffffffffff0005000000 ∷ 0x800000000000000000400000000000000000005000000 ∷ 0x800000000000000000400000000000000000005000000 ∷ 0x80002120081800000040001090040c000000e0f3f9fff
-    ∷ 0x80002120081800000040001090040c0000000073f9fd7 ∷ 0x80002120081800000040001090040c000000e093f9fff ∷ 0x80002120081800000040001090040c0000000013f9fd7 ∷ 0xff7fffdcdff7e7ffffffbfffee6ffbf3fffff000800602c
-    ∷ 0xff7fffdcdff7e7ffffffbfffee6ffbf3fffff000800002c ∷ 0x2c ∷ 0x80002120081800000040001090040c000000e0f3f9fff ∷ 0x80002120081800000040001090040c000000e0f3f9fff
+    ∷ 0x80002120081800000040001090040c0000000073f9fd7 ∷ 0x80002120081800000040001090040c000000e093f9fff ∷ 0x80002120081800000040001090040c0000000013f9fd7 ∷ 0x3ff7fffdcdff7e7ffffffbfffee6ffbf3fffff000800602c
+    ∷ 0x3ff7fffdcdff7e7ffffffbfffee6ffbf3fffff000800002c ∷ 0x2c ∷ 0x80002120081800000040001090040c000000e0f3f9fff ∷ 0x80002120081800000040001090040c000000e0f3f9fff
     ∷ 0x80002120081800000040001090040c0000000073f9fd7 ∷ 0x7000000
     ∷ []
 
@@ -77,12 +77,12 @@ followers =
     ∷ 0x0 ∷ 0x0 ∷ 0x0 ∷ 0x0
     ∷ 0x0 ∷ 0x0 ∷ 0x2000000 ∷ 0x0
     ∷ 0x3ffffffffffffffffffffffffffffffffffff0000000000 ∷ 0x2000000 ∷ 0x0 ∷ 0x0
-    ∷ 0x200000000000000000000000000000000000000000000000 ∷ 0x0 ∷ 0x0 ∷ 0xff7fffdcdff7e7ffffffbfffee6ffbf3fffff004a000004
+    ∷ 0x200000000000000000000000000000000000000000000000 ∷ 0x0 ∷ 0x0 ∷ 0x3ff7fffdcdff7e7ffffffbfffee6ffbf3fffff004a000004
     ∷ 0x0 ∷ 0x10000000000008000808000000000004000400003000000 ∷ 0x3ffffffffffffffffffffffffffffffffffff0003000000 ∷ 0x10000000000008000808000000000004000400003000000
     ∷ 0x10000000000008000808000000000004000400003000000 ∷ 0x2000000 ∷ 0x2000000 ∷ 0x10000000000008000808000000000004000400003000000
     ∷ 0x10000000000008000808000000000004000400003000000 ∷ 0x2000000 ∷ 0x2000000 ∷ 0x10000000000008000808000000000004000400003000000
-    ∷ 0x10000000000008000808000000000004000400003000000 ∷ 0x10000000000008000808000000000004000400003000000 ∷ 0xff7fffdcdff7efffffffbfffee6ffbf7fffff002b000004 ∷ 0xff7fffdcdff7efffffffbfffee6ffbf7fffff002b000004
-    ∷ 0x2000000 ∷ 0x40000000 ∷ 0xff7fffdcdff7efffffffbfffee6ffbf7fffff002b000004 ∷ 0x3ffffffffffffffffffffffffffffffffffff0003002000
+    ∷ 0x10000000000008000808000000000004000400003000000 ∷ 0x10000000000008000808000000000004000400003000000 ∷ 0x3ff7fffdcdff7efffffffbfffee6ffbf7fffff002b000004 ∷ 0x3ff7fffdcdff7efffffffbfffee6ffbf7fffff002b000004
+    ∷ 0x2000000 ∷ 0x40000000 ∷ 0x3ff7fffdcdff7efffffffbfffee6ffbf7fffff002b000004 ∷ 0x3ffffffffffffffffffffffffffffffffffff0003002000
     ∷ 0x3ffffffffffffffffffffffffffffffffffff0003002000 ∷ 0x40 ∷ 0x1 ∷ 0x13ffffffffffffffffffffffffffffffffffff0000000001
     ∷ 0x13ffffffffffffffffffffffffffffffffffff0000000001 ∷ 0x40 ∷ 0x16000000 ∷ 0x16000000
     ∷ 0x200000000000000000000000000000000000000017000000 ∷ 0x13000000 ∷ 0x200000000000000000000000000000000000000017000000 ∷ 0x200000000000000000000000000000000000000017000000
@@ -92,47 +92,47 @@ followers =
     ∷ 0x20000002320081800000000001190040c0000000173f9414 ∷ 0x20000002320081800000000001190040c0000000173f9414 ∷ 0x20000002320081800000000001190040c0000000173f9414 ∷ 0x20000002320081800000000001190040c0000000173f9fd4
     ∷ 0x20000002320081800000000001190040c0000000173f9fd4 ∷ 0x20000002320081800000000001190040c0000000173f9fd4 ∷ 0x20000002320081800000000001190040c0000000173f9fd7 ∷ 0x20000002320081800000000001190040c0000000173f9fd7
     ∷ 0x20000002320081800000000001190040c0000000173f9fd7 ∷ 0x20000002320081800000000001190040c0000000173f9fd7 ∷ 0x20000002320081800000000001190040c0000000173f9fd7 ∷ 0x20000002320081800000000001190040c0000000173f9fff
-    ∷ 0x20000002320081800000000001190040c0000000173f9fff ∷ 0x20000002320081800000000001190040c000000c173f9fff ∷ 0x2fffffffffffffffffffffffffffffffffffff0c1f3fbfff ∷ 0x2fffffffffffffffffffffffffffffffffffff0c1f3fbfff
-    ∷ 0x2fffffffffffffffffffffffffffffffffffff0e1f3fbfff ∷ 0x10000000 ∷ 0x10000000 ∷ 0x2fffffffffffffffffffffffffffffffffffff4e5f3fbfff
-    ∷ 0x2fffffffffffffffffffffffffffffffffffff4e7f3fbfff ∷ 0x2fffffffffffffffffffffffffffffffffffff4e7f3fbfff ∷ 0x2fffffffffffffffffffffffffffffffffffff4e7f3fbfff ∷ 0xffffffdcdff7e7ffffffffffee6ffbf3fffff404f000005
+    ∷ 0x20000002320081800000000001190040c0000000173f9fff ∷ 0x20000002320081800000000001190040c000000c173f9fff ∷ 0x3fffffffffffffffffffffffffffffffffffff0c1f3fbfff ∷ 0x3fffffffffffffffffffffffffffffffffffff0c1f3fbfff
+    ∷ 0x3fffffffffffffffffffffffffffffffffffff0e1f3fbfff ∷ 0x10000000 ∷ 0x10000000 ∷ 0x3fffffffffffffffffffffffffffffffffffff4e5f3fbfff
+    ∷ 0x3fffffffffffffffffffffffffffffffffffff4e7f3fbfff ∷ 0x3fffffffffffffffffffffffffffffffffffff4e7f3fbfff ∷ 0x3fffffffffffffffffffffffffffffffffffff4e7f3fbfff ∷ 0x3ffffffdcdff7e7ffffffffffee6ffbf3fffff404f000005
     ∷ 0x200000000000000000000000000000000000000017000000 ∷ 0x200000000000000000000000000000000000000017000000 ∷ 0x13000000 ∷ 0x13000000
-    ∷ 0x2120081800000000001090040c0000000033f9fd7 ∷ 0x2120081800000000001090040c0000000133f9fd7 ∷ 0x13000000 ∷ 0x2ff7effdcdff7e7ffffffbf7fee6ffbf3fffff83ca00602c
-    ∷ 0x2120081800000000001090040c000000e0b3f9fff ∷ 0x3000000 ∷ 0x2ff7effdcdff7e7ffffffbf7fee6ffbf3fffff83ca00602c ∷ 0x2ff7fffdcdff7e7ffffffbfffee6ffbf3fffff000800602c
-    ∷ 0xff7fffdcdff7e7ffffffbfffee6ffbf3fffff000800602c ∷ 0x800000000000000000400000000000000000007000000 ∷ 0x2ff7effdcdff7e7ffffffbf7fee6ffbf3fffff83ca00602c ∷ 0x2ff7effdcdff7e7ffffffbf7fee6ffbf3fffff83ca00602c
-    ∷ 0x2ff7effdcdff7e7ffffffbf7fee6ffbf3fffff83ca00602c ∷ 0x100000000 ∷ 0x2ff7effdcdff7e7ffffffbf7fee6ffbf3fffff83ca00602c ∷ 0x2ff7effdcdff7e7ffffffbf7fee6ffbf3fffff83ca00602c
-    ∷ 0x0 ∷ 0x2ff7effdcdff7e7ffffffbf7fee6ffbf3fffff83ca00602c ∷ 0x2ff7effdcdff7e7ffffffbf7fee6ffbf3fffff83ca00602c ∷ 0x2ff7effdcdff7e7ffffffbf7fee6ffbf3fffff83ca00602c
-    ∷ 0x2ff7effdcdff7e7ffffffbf7fee6ffbf3fffff83ca00602c ∷ 0x2ff7effdcdff7e7ffffffbf7fee6ffbf3fffff83ca00602c ∷ 0x4000000 ∷ 0x4000000
-    ∷ 0x10000000 ∷ 0x2ff7effdcdff7e7ffffffbf7fee6ffbf3fffff83ca00602c ∷ 0x2ff7effdcdff7e7ffffffbf7fee6ffbf3fffff83ca00602c ∷ 0x100000000
-    ∷ 0x100000000 ∷ 0x2ff7effdcdff7e7ffffffbf7fee6ffbf3fffff83ca00602c ∷ 0x2000000 ∷ 0x2ff7effdcdff7e7ffffffbf7fee6ffbf3fffff83ca00602c
-    ∷ 0x2000000 ∷ 0x2ff7effdcdff7e7ffffffbf7fee6ffbf3fffff83ca00602c ∷ 0x2ff7effdcdff7e7ffffffbf7fee6ffbf3fffff83ca00602c ∷ 0x2000000
-    ∷ 0x2ff7effdcdff7e7ffffffbf7fee6ffbf3fffff83ca00602c ∷ 0x2ff7effdcdff7e7ffffffbf7fee6ffbf3fffff83ca00602c ∷ 0x0 ∷ 0x2ff7effdcdff7e7ffffffbf7fee6ffbf3fffff83ca00602c
-    ∷ 0x0 ∷ 0xff7fffdcdff7e7ffffffbfffee6ffbf3fffff0008000000 ∷ 0x0 ∷ 0x0
-    ∷ 0x2000000 ∷ 0x2000000 ∷ 0x0 ∷ 0xff7fffdcdff7e7ffffffbfffee6ffbf3fffff400a000005
+    ∷ 0x2120081800000000001090040c0000000033f9fd7 ∷ 0x2120081800000000001090040c0000000133f9fd7 ∷ 0x13000000 ∷ 0x3ff7effdcdff7e7ffffffbf7fee6ffbf3fffff83ca00602c
+    ∷ 0x2120081800000000001090040c000000e0b3f9fff ∷ 0x3000000 ∷ 0x3ff7effdcdff7e7ffffffbf7fee6ffbf3fffff83ca00602c ∷ 0x3ff7fffdcdff7e7ffffffbfffee6ffbf3fffff000800602c
+    ∷ 0x3ff7fffdcdff7e7ffffffbfffee6ffbf3fffff000800602c ∷ 0x800000000000000000400000000000000000007000000 ∷ 0x3ff7effdcdff7e7ffffffbf7fee6ffbf3fffff83ca00602c ∷ 0x3ff7effdcdff7e7ffffffbf7fee6ffbf3fffff83ca00602c
+    ∷ 0x3ff7effdcdff7e7ffffffbf7fee6ffbf3fffff83ca00602c ∷ 0x100000000 ∷ 0x3ff7effdcdff7e7ffffffbf7fee6ffbf3fffff83ca00602c ∷ 0x3ff7effdcdff7e7ffffffbf7fee6ffbf3fffff83ca00602c
+    ∷ 0x3ff7effdcdff7e7ffffffbf7fee6ffbf3fffff83ca00602c ∷ 0x3ff7effdcdff7e7ffffffbf7fee6ffbf3fffff83ca00602c ∷ 0x3ff7effdcdff7e7ffffffbf7fee6ffbf3fffff83ca00602c ∷ 0x3ff7effdcdff7e7ffffffbf7fee6ffbf3fffff83ca00602c
+    ∷ 0x3ff7effdcdff7e7ffffffbf7fee6ffbf3fffff83ca00602c ∷ 0x3ff7effdcdff7e7ffffffbf7fee6ffbf3fffff83ca00602c ∷ 0x4000000 ∷ 0x4000000
+    ∷ 0x10000000 ∷ 0x3ff7effdcdff7e7ffffffbf7fee6ffbf3fffff83ca00602c ∷ 0x3ff7effdcdff7e7ffffffbf7fee6ffbf3fffff83ca00602c ∷ 0x100000000
+    ∷ 0x100000000 ∷ 0x3ff7effdcdff7e7ffffffbf7fee6ffbf3fffff83ca00602c ∷ 0x2000000 ∷ 0x3ff7effdcdff7e7ffffffbf7fee6ffbf3fffff83ca00602c
+    ∷ 0x2000000 ∷ 0x3ff7effdcdff7e7ffffffbf7fee6ffbf3fffff83ca00602c ∷ 0x3ff7effdcdff7e7ffffffbf7fee6ffbf3fffff83ca00602c ∷ 0x2000000
+    ∷ 0x3ff7effdcdff7e7ffffffbf7fee6ffbf3fffff83ca00602c ∷ 0x3ff7effdcdff7e7ffffffbf7fee6ffbf3fffff83ca00602c ∷ 0x0 ∷ 0x3ff7effdcdff7e7ffffffbf7fee6ffbf3fffff83ca00602c
+    ∷ 0x0 ∷ 0x3ff7fffdcdff7e7ffffffbfffee6ffbf3fffff0008000000 ∷ 0x0 ∷ 0x0
+    ∷ 0x2000000 ∷ 0x2000000 ∷ 0x2000000 ∷ 0x3ff7fffdcdff7e7ffffffbfffee6ffbf3fffff400a000005
     ∷ 0x2000000 ∷ 0x4002000001 ∷ 0x2000000 ∷ 0x2000000
     ∷ 0x2000000 ∷ 0x2000000 ∷ 0x2000000 ∷ 0x3000000
     ∷ 0x3000000 ∷ 0x3000000 ∷ 0x3000000 ∷ 0x3000000
-    ∷ 0x3000000 ∷ 0x10000000 ∷ 0x3000000 ∷ 0x2ff7effdcdff7e7feffffbf7fee6ffbf3ff7ff82ca00602c
-    ∷ 0x2ff7effdcdff7e7feffffbf7fee6ffbf3ff7ff82ca00602c ∷ 0x2ff7effdcdff7e7feffffbf7fee6ffbf3ff7ff82ca00602c ∷ 0x2120081800000000001090040c000000e0b3f9fff ∷ 0x3000000
-    ∷ 0x2ff7effdcdff7e7feffffbf7fee6ffbf3ff7ff82ca00602c ∷ 0x2ff7effdcdff7e7feffffbf7fee6ffbf3ff7ff82ca00602c ∷ 0x2ff7effdcdff7e7feffffbf7fee6ffbf3ff7ff82ca00602c ∷ 0x2ff7effdcdff7e7feffffbf7fee6ffbf3ff7ff82ca00602c
-    ∷ 0x2ff7effdcdff7e7feffffbf7fee6ffbf3ff7ff82ca00602c ∷ 0x2ff7effdcdff7e7feffffbf7fee6ffbf3ff7ff82ca00602c ∷ 0x2ff7fffdcdff7e7ffffffbfffee6ffbf3fffff000800602c ∷ 0x2ff7effdcdff7e7feffffbf7fee6ffbf3ff7ff82ca00602c
-    ∷ 0x2ff7effdcdff7e7feffffbf7fee6ffbf3ff7ff82ca00602c ∷ 0x2ff7effdcdff7e7feffffbf7fee6ffbf3ff7ff82ca00602c ∷ 0x2ff7effdcdff7e7feffffbf7fee6ffbf3ff7ff82ca00602c ∷ 0x2ff7effdcdff7e7feffffbf7fee6ffbf3ff7ff82ca00602c
-    ∷ 0x2ff7effdcdff7e7feffffbf7fee6ffbf3ff7ff82ca00602c ∷ 0xff7fffdcdff7e7ffffffbfffee6ffbf3fffff000800602c ∷ 0x2ff7effdcdff7e7feffffbf7fee6ffbf3ff7ff82ca00602c ∷ 0x0
-    ∷ 0x2ff7effdcdff7e7feffffbf7fee6ffbf3ff7ff82ca00602c ∷ 0x2ff7effdcdff7e7ffffffbf7fee6ffbf3fffff838a00602c ∷ 0x0 ∷ 0x0
+    ∷ 0x3000000 ∷ 0x10000000 ∷ 0x3000000 ∷ 0x3ff7effdcdff7e7feffffbf7fee6ffbf3ff7ff82ca00602c
+    ∷ 0x3ff7effdcdff7e7feffffbf7fee6ffbf3ff7ff82ca00602c ∷ 0x3ff7effdcdff7e7feffffbf7fee6ffbf3ff7ff82ca00602c ∷ 0x2120081800000000001090040c000000e0b3f9fff ∷ 0x3000000
+    ∷ 0x3ff7effdcdff7e7feffffbf7fee6ffbf3ff7ff82ca00602c ∷ 0x3ff7effdcdff7e7feffffbf7fee6ffbf3ff7ff82ca00602c ∷ 0x3ff7effdcdff7e7feffffbf7fee6ffbf3ff7ff82ca00602c ∷ 0x3ff7effdcdff7e7feffffbf7fee6ffbf3ff7ff82ca00602c
+    ∷ 0x3ff7effdcdff7e7feffffbf7fee6ffbf3ff7ff82ca00602c ∷ 0x3ff7effdcdff7e7feffffbf7fee6ffbf3ff7ff82ca00602c ∷ 0x3ff7fffdcdff7e7ffffffbfffee6ffbf3fffff000800602c ∷ 0x3ff7effdcdff7e7feffffbf7fee6ffbf3ff7ff82ca00602c
+    ∷ 0x3ff7effdcdff7e7feffffbf7fee6ffbf3ff7ff82ca00602c ∷ 0x3ff7effdcdff7e7feffffbf7fee6ffbf3ff7ff82ca00602c ∷ 0x3ff7effdcdff7e7feffffbf7fee6ffbf3ff7ff82ca00602c ∷ 0x3ff7effdcdff7e7feffffbf7fee6ffbf3ff7ff82ca00602c
+    ∷ 0x3ff7effdcdff7e7feffffbf7fee6ffbf3ff7ff82ca00602c ∷ 0x3ff7fffdcdff7e7ffffffbfffee6ffbf3fffff000800602c ∷ 0x3ff7effdcdff7e7feffffbf7fee6ffbf3ff7ff82ca00602c ∷ 0x0
+    ∷ 0x3ff7effdcdff7e7feffffbf7fee6ffbf3ff7ff82ca00602c ∷ 0x3ff7effdcdff7e7ffffffbf7fee6ffbf3fffff838a00602c ∷ 0x0 ∷ 0x0
     ∷ 0x0 ∷ 0x0 ∷ 0x4000000 ∷ 0x5000000
-    ∷ 0x2ff7effdcdff7e7feffffbf7fee6ffbf3ff7ff82ca00602c ∷ 0x2ff7effdcdff7e7feffffbf7fee6ffbf3ff7ff82ca00602c ∷ 0x2ff7effdcdff7e7feffffbf7fee6ffbf3ff7ff82ca00602c ∷ 0x2ff7effdcdff7e7feffffbf7fee6ffbf3ff7ff82ca00602c
-    ∷ 0x2ff7effdcdff7e7ffffffbf7fee6ffbf3fffff838a00602c ∷ 0x2ff7effdcdff7e7ffffffbf7fee6ffbf3fffff838a00602c ∷ 0x2ff7effdcdff7e7ffffffbf7fee6ffbf3fffff838a00602c ∷ 0x800000000000000000400000000000000000005000000
-    ∷ 0x2ff7effdcdff7e7ffffffbf7fee6ffbf3fffff838a00602c ∷ 0x2ff7effdcdff7e7ffffffbf7fee6ffbf3fffff838a00602c ∷ 0x4000000 ∷ 0x5000000
-    ∷ 0x5000000 ∷ 0x5000000 ∷ 0x2ff7effdcdff7e7ffffffbf7fee6ffbf3fffff838a00602c ∷ 0x2ff7effdcdff7e7ffffffbf7fee6ffbf3fffff838a00602c
-    ∷ 0x0 ∷ 0x2ff7effdcdff7e7ffffffbf7fee6ffbf3fffff838a00602c ∷ 0x2ff7effdcdff7e7ffffffbf7fee6ffbf3fffff838a00602c ∷ 0x2ff7effdcdff7e7ffffffbf7fee6ffbf3fffff838a00602c
-    ∷ 0x80002120081800000040001090040c000000e0f3f9fff ∷ 0x2ff7effdcdff7e7ffffffbf7fee6ffbf3fffff838a00602c ∷ 0x2ff7effdcdff7e7ffffffbf7fee6ffbf3fffff838a00602c ∷ 0x2120081800000000001090040c0000000033f9fd7
-    ∷ 0x2ff7effdcdff7e7ffffffbf7fee6ffbf3fffff838a00602c ∷ 0x2ff7effdcdff7e7ffffffbf7fee6ffbf3fffff838a00602c ∷ 0x2ff7effdcdff7e7ffffffbf7fee6ffbf3fffff838a00602c ∷ 0x2ff7effdcdff7e7ffffffbf7fee6ffbf3fffff838a00602c
-    ∷ 0x2ff7effdcdff7e7ffffffbf7fee6ffbf3fffff838a00602c ∷ 0x2ff7effdcdff7e7ffffffbf7fee6ffbf3fffff838a00602c ∷ 0x2ffffffdcdff7e7ffffffffffee6ffbf3fffff000d00602c ∷ 0x2ff7effdcdff7e7ffffffbf7fee6ffbf3fffff838a00602c
-    ∷ 0x2ff7effdcdff7e7ffffffbf7fee6ffbf3fffff838a00602c ∷ 0x2ff7effdcdff7e7ffffffbf7fee6ffbf3fffff838a00602c ∷ 0x2ff7effdcdff7e7ffffffbf7fee6ffbf3fffff838a00602c ∷ 0x2ff7effdcdff7e7ffffffbf7fee6ffbf3fffff838a00602c
-    ∷ 0x2ff7effdcdff7e7ffffffbf7fee6ffbf3fffff838a00602c ∷ 0xffffffdcdff7e7ffffffffffee6ffbf3fffff000d00602c ∷ 0x2ff7effdcdff7e7ffffffbf7fee6ffbf3fffff838a00602c ∷ 0x0
-    ∷ 0x2ff7effdcdff7e7ffffffbf7fee6ffbf3fffff838a00602c ∷ 0x2ff7effdcdff7e7ffffffbf7fee6ffbf3fffff838a00602c ∷ 0x2ff7effdcdff7e7ffffffbf7fee6ffbf3fffff838a00602c ∷ 0x2ff7effdcdff7e7ffffffbf7fee6ffbf3fffff838a00602c
-    ∷ 0x2ff7effdcdff7e7ffffffbf7fee6ffbf3fffff838a00602c ∷ 0x2ff7effdcdff7e7ffffffbf7fee6ffbf3fffff838a00602c ∷ 0x2ff7effdcdff7e7ffffffbf7fee6ffbf3fffff838a00602c ∷ 0x2ff7effdcdff7e7ffffffbf7fee6ffbf3fffff838a00602c
-    ∷ 0x2ff7effdcdff7e7ffffffbf7fee6ffbf3fffff838a00602c ∷ 0x2120081800000000001090040c0000000033f9fd7 ∷ 0x2ff7effdcdff7e7ffffffbf7fee6ffbf3fffff838a00602c ∷ 0x2ff7effdcdff7e7ffffffbf7fee6ffbf3fffff838a00602c
-    ∷ 0x2ff7effdcdff7e7ffffffbf7fee6ffbf3fffff838a00602c ∷ 0x2ff7effdcdff7e7ffffffbf7fee6ffbf3fffff838a00602c
+    ∷ 0x3ff7effdcdff7e7feffffbf7fee6ffbf3ff7ff82ca00602c ∷ 0x3ff7effdcdff7e7feffffbf7fee6ffbf3ff7ff82ca00602c ∷ 0x3ff7effdcdff7e7feffffbf7fee6ffbf3ff7ff82ca00602c ∷ 0x3ff7effdcdff7e7feffffbf7fee6ffbf3ff7ff82ca00602c
+    ∷ 0x3ff7effdcdff7e7ffffffbf7fee6ffbf3fffff838a00602c ∷ 0x3ff7effdcdff7e7ffffffbf7fee6ffbf3fffff838a00602c ∷ 0x3ff7effdcdff7e7ffffffbf7fee6ffbf3fffff838a00602c ∷ 0x800000000000000000400000000000000000005000000
+    ∷ 0x3ff7effdcdff7e7ffffffbf7fee6ffbf3fffff838a00602c ∷ 0x3ff7effdcdff7e7ffffffbf7fee6ffbf3fffff838a00602c ∷ 0x4000000 ∷ 0x5000000
+    ∷ 0x5000000 ∷ 0x5000000 ∷ 0x3ff7effdcdff7e7ffffffbf7fee6ffbf3fffff838a00602c ∷ 0x3ff7effdcdff7e7ffffffbf7fee6ffbf3fffff838a00602c
+    ∷ 0x3ff7effdcdff7e7ffffffbf7fee6ffbf3fffff838a00602c ∷ 0x3ff7effdcdff7e7ffffffbf7fee6ffbf3fffff838a00602c ∷ 0x3ff7effdcdff7e7ffffffbf7fee6ffbf3fffff838a00602c ∷ 0x3ff7effdcdff7e7ffffffbf7fee6ffbf3fffff838a00602c
+    ∷ 0x80002120081800000040001090040c000000e0f3f9fff ∷ 0x3ff7effdcdff7e7ffffffbf7fee6ffbf3fffff838a00602c ∷ 0x3ff7effdcdff7e7ffffffbf7fee6ffbf3fffff838a00602c ∷ 0x2120081800000000001090040c0000000033f9fd7
+    ∷ 0x3ff7effdcdff7e7ffffffbf7fee6ffbf3fffff838a00602c ∷ 0x3ff7effdcdff7e7ffffffbf7fee6ffbf3fffff838a00602c ∷ 0x3ff7effdcdff7e7ffffffbf7fee6ffbf3fffff838a00602c ∷ 0x3ff7effdcdff7e7ffffffbf7fee6ffbf3fffff838a00602c
+    ∷ 0x3ff7effdcdff7e7ffffffbf7fee6ffbf3fffff838a00602c ∷ 0x3ff7effdcdff7e7ffffffbf7fee6ffbf3fffff838a00602c ∷ 0x3ffffffdcdff7e7ffffffffffee6ffbf3fffff000d00602c ∷ 0x3ff7effdcdff7e7ffffffbf7fee6ffbf3fffff838a00602c
+    ∷ 0x3ff7effdcdff7e7ffffffbf7fee6ffbf3fffff838a00602c ∷ 0x3ff7effdcdff7e7ffffffbf7fee6ffbf3fffff838a00602c ∷ 0x3ff7effdcdff7e7ffffffbf7fee6ffbf3fffff838a00602c ∷ 0x3ff7effdcdff7e7ffffffbf7fee6ffbf3fffff838a00602c
+    ∷ 0x3ff7effdcdff7e7ffffffbf7fee6ffbf3fffff838a00602c ∷ 0x3ffffffdcdff7e7ffffffffffee6ffbf3fffff000d00602c ∷ 0x3ff7effdcdff7e7ffffffbf7fee6ffbf3fffff838a00602c ∷ 0x0
+    ∷ 0x3ff7effdcdff7e7ffffffbf7fee6ffbf3fffff838a00602c ∷ 0x3ff7effdcdff7e7ffffffbf7fee6ffbf3fffff838a00602c ∷ 0x3ff7effdcdff7e7ffffffbf7fee6ffbf3fffff838a00602c ∷ 0x3ff7effdcdff7e7ffffffbf7fee6ffbf3fffff838a00602c
+    ∷ 0x3ff7effdcdff7e7ffffffbf7fee6ffbf3fffff838a00602c ∷ 0x3ff7effdcdff7e7ffffffbf7fee6ffbf3fffff838a00602c ∷ 0x3ff7effdcdff7e7ffffffbf7fee6ffbf3fffff838a00602c ∷ 0x3ff7effdcdff7e7ffffffbf7fee6ffbf3fffff838a00602c
+    ∷ 0x3ff7effdcdff7e7ffffffbf7fee6ffbf3fffff838a00602c ∷ 0x2120081800000000001090040c0000000033f9fd7 ∷ 0x3ff7effdcdff7e7ffffffbf7fee6ffbf3fffff838a00602c ∷ 0x3ff7effdcdff7e7ffffffbf7fee6ffbf3fffff838a00602c
+    ∷ 0x3ff7effdcdff7e7ffffffbf7fee6ffbf3fffff838a00602c ∷ 0x3ff7effdcdff7e7ffffffbf7fee6ffbf3fffff838a00602c
     ∷ []
 
 -- whether it can be empty
@@ -233,7 +233,7 @@ step_bounds =
     ∷ 4 ∷ 3 ∷ 3 ∷ 7
     ∷ 3 ∷ 4 ∷ 2 ∷ 2
     ∷ 2 ∷ 2 ∷ 3 ∷ 6
-    ∷ 5 ∷ 8 ∷ 3 ∷ 5
+    ∷ 5 ∷ 8 ∷ 3 ∷ 9
     ∷ 6 ∷ 3 ∷ 3 ∷ 3
     ∷ 9 ∷ 3 ∷ 9 ∷ 9
     ∷ 9 ∷ 3 ∷ 3 ∷ 7
@@ -241,10 +241,10 @@ step_bounds =
     ∷ 8 ∷ 2 ∷ 7 ∷ 6
     ∷ 7 ∷ 8 ∷ 7 ∷ 2
     ∷ 3 ∷ 2 ∷ 7 ∷ 7
-    ∷ 5 ∷ 2 ∷ 7 ∷ 3
+    ∷ 5 ∷ 11 ∷ 7 ∷ 3
     ∷ 12 ∷ 7 ∷ 4 ∷ 3
     ∷ 3 ∷ 2 ∷ 2 ∷ 6
-    ∷ 2 ∷ 4 ∷ 6 ∷ 8
+    ∷ 8 ∷ 4 ∷ 6 ∷ 8
     ∷ 8 ∷ 6 ∷ 7 ∷ 7
     ∷ 7 ∷ 8 ∷ 3 ∷ 4
     ∷ 4 ∷ 4 ∷ 10 ∷ 4
@@ -256,7 +256,7 @@ step_bounds =
     ∷ 6 ∷ 5 ∷ 6 ∷ 4
     ∷ 6 ∷ 5 ∷ 3 ∷ 4
     ∷ 7 ∷ 6 ∷ 2 ∷ 6
-    ∷ 3 ∷ 2 ∷ 6 ∷ 5
+    ∷ 3 ∷ 2 ∷ 6 ∷ 9
     ∷ 6 ∷ 6 ∷ 8 ∷ 6
     ∷ 3 ∷ 6 ∷ 5 ∷ 3
     ∷ 11 ∷ 11 ∷ 11 ∷ 11

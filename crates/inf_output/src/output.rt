@@ -257,8 +257,8 @@ impl Output {
         }
     }
 
-    /// The first limit that was passed, in the order of the settings, counted over all that was laid since. The references of all tables count with those
-    /// of code.
+    /// The first limit that was passed, in the order of the settings, counted over all that was laid since. The references of tables count with those of
+    /// code.
     pub fn full(&self) -> Option<Setting>
         ensures { result ≡ full self.now }
     {

@@ -1,7 +1,13 @@
 -- What the leaves of a unit stand for.
 use Rattle.std.specs.Prelude.{ℕ, List, [], ◌∷◌, ◌++◌, codes, Bool, false, if◌then◌else◌, Option, Some, None, unwrap_or}
 use Rattle.std.specs.Str.{str_eq_ignore_ascii_case}
+use Rattle.inf_area.specs.declared.targets.AreaName.TheVariants as area
 use Rattle.inf_area.specs.declared.targets.Target.TheVariants as target
+use Rattle.inf_characters.specs.declared.characters.CharSet.{CharSet}
+use Rattle.inf_characters.specs.declared.texts.TextItem.{TextItem}
+use Rattle.inf_dictionary.specs.declared.uses.WordUse.TheVariants as word_use
+use Rattle.inf_scanner.specs.declared.tokens.DictionaryWord.{DictionaryWord}
+use Rattle.inf_text.specs.Packing.{packed}
 use Rattle.inf_scanner.specs.declared.tokens.Place.{Place}
 use Rattle.inf_expressions.specs.declared.operators.Function.{Function}
 use Rattle.inf_expressions.specs.declared.operators.Function.TheVariants as function
@@ -22,7 +28,8 @@ use Rattle.inf_unit.specs.Tokens.{Spelled}
 use Rattle.inf_unit.specs.Units.{bytes_at, name_at}
 use Rattle.inf_unit.specs.declared.items.Item.{Item}
 use Rattle.inf_unit.specs.declared.items.Item.TheVariants as item
-use Rattle.inf_output.specs.Output.{Out, referred, referred_as}
+use Rattle.inf_output.specs.Output.{Code, Out, referred, referred_as, string_at, with_text, with_word}
+use Rattle.inf_statements.specs.Printing.{text_at}
 
 -- Names
 
@@ -83,14 +90,18 @@ is_stack name None = str_eq_ignore_ascii_case name (codes "sp")
 abbrev pub looked_alone : List Local → Table Place → List ℕ → Operand
 looked_alone locals names name = if is_stack name (number_of name locals) then operand.Variable 0 else looked_name locals names name
 
--- What a leaf stands for, where its name is only looked up. Words, texts, actions and system constants are in no expression yet.
+-- a word of the dictionary is known by its text
+abbrev pub word_operand : DictionaryWord → Operand
+word_operand word = operand.Later (target.Word word.text)
+
+-- What a leaf stands for, where its name is only looked up: a text is some string. Actions and system constants are in no expression yet.
 abbrev pub looked : List Local → Table Place → List Spelled → Leaf → Operand
 looked locals names tokens (leaf.Name at) = looked_name locals names (bytes_at tokens at)
 looked locals names tokens (leaf.Alone at) = looked_alone locals names (bytes_at tokens at)
 looked locals names tokens (leaf.Number number) = operand.Known number
 looked locals names tokens (leaf.Char zscii) = operand.Known zscii
-looked locals names tokens (leaf.Word word) = operand.Unknown
-looked locals names tokens (leaf.Text at) = operand.Unknown
+looked locals names tokens (leaf.Word word) = word_operand word
+looked locals names tokens (leaf.Text at) = operand.Later (target.Place area.Strings 0)
 looked locals names tokens (leaf.Action at) = operand.Unknown
 looked locals names tokens (leaf.System at) = operand.Unknown
 
@@ -125,24 +136,39 @@ abbrev pub settled_alone : List Local → List Spelled → ℕ → Out → Out �
 settled_alone locals tokens at o =
     if is_stack (bytes_at tokens at) (number_of (bytes_at tokens at) locals) then (o, operand.Variable 0) else settled_name locals (name_at tokens at) o
 
+-- a text, whose characters are these, is a string of the story, which is added
+abbrev pub settled_text : Option (List TextItem) → Out → Out × Operand
+settled_text None o = (o, operand.Unknown)
+settled_text (Some items) o = (with_text (packed items []) o, operand.Later (string_at o))
+
+-- a word of the dictionary, which is used
+abbrev pub settled_word : DictionaryWord → Out → Out × Operand
+settled_word word o = (with_word word.text word_use.Other word.is_plural o, word_operand word)
+
 -- a leaf, whose name is used where it is no local
-abbrev pub settled_leaf : List Local → List Spelled → Leaf → Out → Out × Operand
-settled_leaf locals tokens (leaf.Name at) o = settled_name locals (name_at tokens at) o
-settled_leaf locals tokens (leaf.Alone at) o = settled_alone locals tokens at o
-settled_leaf locals tokens (leaf.Number number) o = (o, operand.Known number)
-settled_leaf locals tokens (leaf.Char zscii) o = (o, operand.Known zscii)
-settled_leaf locals tokens (leaf.Word word) o = (o, operand.Unknown)
-settled_leaf locals tokens (leaf.Text at) o = (o, operand.Unknown)
-settled_leaf locals tokens (leaf.Action at) o = (o, operand.Unknown)
-settled_leaf locals tokens (leaf.System at) o = (o, operand.Unknown)
+abbrev pub settled_leaf : CharSet → List Local → List Spelled → Leaf → Out → Out × Operand
+settled_leaf set locals tokens (leaf.Name at) o = settled_name locals (name_at tokens at) o
+settled_leaf set locals tokens (leaf.Alone at) o = settled_alone locals tokens at o
+settled_leaf set locals tokens (leaf.Number number) o = (o, operand.Known number)
+settled_leaf set locals tokens (leaf.Char zscii) o = (o, operand.Known zscii)
+settled_leaf set locals tokens (leaf.Word word) o = settled_word word o
+settled_leaf set locals tokens (leaf.Text at) o = settled_text (text_at set tokens at) o
+settled_leaf set locals tokens (leaf.Action at) o = (o, operand.Unknown)
+settled_leaf set locals tokens (leaf.System at) o = (o, operand.Unknown)
+
+-- what a leaf that is a text or a word by itself adds to a story
+abbrev pub leaf_added : CharSet → List Spelled → List Leaf → Code
+leaf_added set tokens ((leaf.Text at) ∷ leaves) o = (settled_text (text_at set tokens at) o).0
+leaf_added set tokens ((leaf.Word word) ∷ leaves) o = (settled_word word o).0
+leaf_added set tokens _ o = o
 
 abbrev pub with_settled : Out × Operand → List Operand → Settled
 with_settled s operands = record { out = s.0; operands = operands ++ s.1 ∷ [] }
 
 -- the leaves from left to right
-abbrev pub settled : List Local → List Spelled → List Leaf → Settled → Settled
-settled locals tokens [] s = s
-settled locals tokens (l ∷ leaves) s = settled locals tokens leaves (with_settled (settled_leaf locals tokens l s.out) s.operands)
+abbrev pub settled : CharSet → List Local → List Spelled → List Leaf → Settled → Settled
+settled set locals tokens [] s = s
+settled set locals tokens (l ∷ leaves) s = settled set locals tokens leaves (with_settled (settled_leaf set locals tokens l s.out) s.operands)
 
 -- a unit names its locals
 abbrev pub leaf_named : List Spelled → Leaf → List Local → List Local

@@ -1,18 +1,22 @@
 //! What the leaves of a unit stand for.
-ghost use Rattle.std.specs.Prelude.{◌≡◌, ◌≤◌, [], ◌∷◌, ◌++◌, List, IfOk, IfSome, length, option_map};
+ghost use Rattle.std.specs.Prelude.{◌≡◌, ◌≤◌, [], ◌∷◌, ◌++◌, List, IfOk, IfSome, OnOk, length, option_map};
 ghost use Rattle.inf_symbol.specs.LocalList.{listed};
 ghost use Rattle.inf_unit.specs.NameTokens.{named};
-ghost use Rattle.inf_statements.specs.Operands.{Settled, all_looked, found_operand, function_of, is_stack, leaf_named, leaves_named, looked, looked_alone, looked_name, operand_by, referring, settled, settled_alone, settled_as, settled_leaf, settled_name, standing, stores_named};
+ghost use Rattle.inf_statements.specs.Operands.{Settled, all_looked, found_operand, function_of, is_stack, leaf_added, leaf_named, leaves_named, looked, looked_alone, looked_name, operand_by, referring, settled, settled_alone, settled_as, settled_leaf, settled_name, settled_text, settled_word, standing, stores_named, word_operand};
+ghost use Rattle.inf_statements.specs.Printing.{text_at};
 
-use inf_area::Target;
+use inf_area::{AreaName, Target};
 use inf_expressions::{Function, Operand};
 use inf_gathering::gathering::Leaf;
 use inf_names::meanings::{Function as NamedFunction, Meaning};
 use inf_names::symbols::{Found, Symbols};
 use inf_output::Output;
-use inf_scanner::Place;
+use inf_scanner::{DictionaryWord, Place};
 use inf_symbol::locals::Locals;
+use inf_tables::WordUse;
+use inf_text::{CharSet, pack};
 use inf_unit::items::Item;
+use inf_unit::texts::text_of;
 use inf_unit::unit_tokens::{NameToken, UnitTokens};
 use std::alloc::{AllocError, Global};
 
@@ -113,7 +117,14 @@ fn looked_alone(locals: &Locals, names: &Symbols<Place>, name: &[u8]) -> Operand
     }
 }
 
-/// What a leaf of a unit with these tokens stands for, where its name is only looked up.
+/// What a word of the dictionary is.
+fn word_operand(word: DictionaryWord) -> Operand
+    ensures { result ≡ word_operand word }
+{
+    Operand::Later(Target::Word(word.text))
+}
+
+/// What a leaf of a unit with these tokens stands for, where its name is only looked up: a text is some string.
 fn looked(locals: &Locals, names: &Symbols<Place>, tokens: &UnitTokens, leaf: Leaf) -> Operand
     ensures { result ≡ looked (listed locals.now) names.now tokens.now leaf }
 {
@@ -122,7 +133,9 @@ fn looked(locals: &Locals, names: &Symbols<Place>, tokens: &UnitTokens, leaf: Le
         Leaf::Alone(at) => looked_alone(locals, names, tokens.bytes_at(at)),
         Leaf::Number(number) => Operand::Known(number),
         Leaf::Char(zscii) => Operand::Known(u16::from(zscii.code())),
-        Leaf::Word(_) | Leaf::Text(_) | Leaf::Action(_) | Leaf::System(_) => Operand::Unknown,
+        Leaf::Word(word) => word_operand(word),
+        Leaf::Text(_) => Operand::Later(Target::Place(AreaName::Strings, 0)),
+        Leaf::Action(_) | Leaf::System(_) => Operand::Unknown,
     }
 }
 
@@ -187,38 +200,94 @@ fn settled_alone(
     settled_name(locals, tokens.name_at(at), out)
 }
 
-/// What a leaf of a unit with these tokens stands for, whose name is used.
+/// What the text at a place of these tokens is, in a character set: a string of the story, which is added.
+fn settled_text(
+    alloc: Global,
+    set: CharSet,
+    tokens: &UnitTokens,
+    at: usize,
+    out: &mut Output,
+) -> Result<Operand, AllocError>
+    ensures { IfOk result (λ operand. (out.new, operand) ≡ settled_text (text_at set tokens.now at) out.old) }
+{
+    let Some(token) = tokens.get(at) else {
+        return Ok(Operand::Unknown);
+    };
+    let Some(text) = text_of(alloc, set, &token)? else {
+        return Ok(Operand::Unknown);
+    };
+    let packed = pack(alloc, &text, None)?;
+    let target = out.string(packed.as_slice())?;
+    Ok(Operand::Later(target))
+}
+
+/// What a word of the dictionary is, which is used.
+fn settled_word(word: DictionaryWord, out: &mut Output) -> Result<Operand, AllocError>
+    ensures { IfOk result (λ operand. (out.new, operand) ≡ settled_word word out.old) }
+{
+    out.word(word.text, WordUse::Other, word.is_plural)?;
+    Ok(word_operand(word))
+}
+
+/// What a leaf that is a text or a word by itself adds to a story.
+pub fn add_leaf(
+    alloc: Global,
+    set: CharSet,
+    tokens: &UnitTokens,
+    leaves: &[Leaf],
+    out: &mut Output,
+) -> Result<(), AllocError>
+    ensures { OnOk result (out.new ≡ leaf_added set tokens.now leaves.now out.old) }
+{
+    match leaves.first() {
+        Some(Leaf::Text(at)) => {
+            settled_text(alloc, set, tokens, *at, out)?;
+        }
+        Some(Leaf::Word(word)) => {
+            settled_word(*word, out)?;
+        }
+        _ => {}
+    }
+    Ok(())
+}
+
+/// What a leaf of a unit with these tokens stands for, whose name or word is used, and whose text is added.
 fn settled_leaf(
+    alloc: Global,
+    set: CharSet,
     locals: &Locals,
     tokens: &UnitTokens,
     leaf: Leaf,
     out: &mut Output,
 ) -> Result<Operand, AllocError>
-    ensures { IfOk result (λ operand. (out.new, operand) ≡ settled_leaf (listed locals.now) tokens.now leaf out.old) }
+    ensures { IfOk result (λ operand. (out.new, operand) ≡ settled_leaf set (listed locals.now) tokens.now leaf out.old) }
 {
     match leaf {
         Leaf::Name(at) => settled_name(locals, tokens.name_at(at), out),
         Leaf::Alone(at) => settled_alone(locals, tokens, at, out),
         Leaf::Number(number) => Ok(Operand::Known(number)),
         Leaf::Char(zscii) => Ok(Operand::Known(u16::from(zscii.code()))),
-        Leaf::Word(_) | Leaf::Text(_) | Leaf::Action(_) | Leaf::System(_) => Ok(Operand::Unknown),
+        Leaf::Word(word) => settled_word(word, out),
+        Leaf::Text(at) => settled_text(alloc, set, tokens, at, out),
+        Leaf::Action(_) | Leaf::System(_) => Ok(Operand::Unknown),
     }
 }
 
-/// What the leaves of a unit with these tokens stand for, from left to right, whose names are used.
+/// What the leaves of a unit with these tokens stand for, from left to right, whose names and words are used and whose texts are added.
 pub fn settled(
     alloc: Global,
+    set: CharSet,
     locals: &Locals,
     tokens: &UnitTokens,
     leaves: &[Leaf],
     out: &mut Output,
 ) -> Result<Vec<Operand>, AllocError>
     ensures { let before : Settled = record { out = out.old; operands = [] } in
-        IfOk result (λ operands. record { out = out.new; operands = operands.items } ≡ settled (listed locals.now) tokens.now leaves.now before) }
+        IfOk result (λ operands. record { out = out.new; operands = operands.items } ≡ settled set (listed locals.now) tokens.now leaves.now before) }
 {
     let mut operands = Vec::with_capacity(alloc, leaves.len())?;
     for leaf in leaves {
-        operands.push(settled_leaf(locals, tokens, *leaf, out)?)?;
+        operands.push(settled_leaf(alloc, set, locals, tokens, *leaf, out)?)?;
     }
     Ok(operands)
 }

@@ -1,5 +1,5 @@
 -- The tables of a story, as far as its source told them.
-use Rattle.std.specs.Prelude.{ℕ, ◌+◌, min, [], length}
+use Rattle.std.specs.Prelude.{ℕ, ◌+◌, ◌-◌, min, [], length}
 use Rattle.inf_settings.specs.Settings.{number_of}
 use Rattle.inf_settings.specs.declared.setting.Setting.TheVariants as setting
 use Rattle.inf_settings.specs.declared.settings.Settings.{Settings}
@@ -31,8 +31,13 @@ unfoldable pub more : ℕ → ℕ → ℕ
 more count other = min (count + other) 18446744073709551615
 
 -- How many numbers in the tables are known when the story is laid out: in the world as if the open body ended here, first values of variables, entries of
--- arrays, addresses of verbs' lines and of prepositions, and one for each action and each routine that parses.
+-- arrays, addresses of verbs' lines and of prepositions, and one for each action and each routine that parses. The addresses of the tables of the first
+-- four objects are not counted here: code keeps as many back from its limit.
 abbrev pub references : Tables → ℕ
 references t =
-    more (more (more (fixups_now t.world) (laters t.globals)) (arrays_laters (all_of t.arrays)))
+    more (more (more (fixups_now t.world - 4) (laters t.globals)) (arrays_laters (all_of t.arrays)))
     (more (verbs_laters t.verbs.list) (more (length t.actions.routines) (length t.parsing)))
+
+-- with so many others
+abbrev pub references_with : ℕ → Tables → ℕ
+references_with others t = more others (references t)

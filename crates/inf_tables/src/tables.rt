@@ -1,6 +1,6 @@
 //! One of each table.
 ghost use Rattle.std.specs.Prelude.{◌≡◌};
-ghost use Rattle.inf_tables.specs.Tables.{more, no_tables, references, world_limits};
+ghost use Rattle.inf_tables.specs.Tables.{more, no_tables, references, references_with, world_limits};
 
 use inf_arrays::{Arrays, Globals};
 use inf_dictionary::Dictionary;
@@ -9,6 +9,9 @@ use inf_settings::settings::Settings;
 use inf_verbs::{Actions, ParsingRoutines, Verbs};
 use inf_world::{Limits, World};
 use std::alloc::Global;
+
+/// The references of each story: the addresses of the property tables of its first four objects.
+const FIRST_REFERENCES: usize = 4;
 
 /// The tables of a story so far.
 #[derive(Drop)]
@@ -61,15 +64,23 @@ impl Tables {
         }
     }
 
-    /// How many references the tables have so far: numbers that are known when the story is laid out.
+    /// How many references the tables have so far, numbers that are known when the story is laid out, beside the four of the first objects.
     pub fn references(&self) -> usize
         ensures { result ≡ references self.now }
     {
-        let world = more(self.world.fixups(), self.globals.later_count());
+        let objects = self.world.fixups().saturating_sub(FIRST_REFERENCES);
+        let world = more(objects, self.globals.later_count());
         let grammar = more(
             self.verbs.later_count(),
             more(self.actions.len(), self.parsing.len()),
         );
         more(more(world, self.arrays.later_count()), grammar)
+    }
+
+    /// These with so many others.
+    pub fn references_with(&self, others: usize) -> usize
+        ensures { result ≡ references_with others self.now }
+    {
+        more(others, self.references())
     }
 }

@@ -46,12 +46,14 @@ use Rattle.inf_unit.specs.Messages.{FileNames, Blame, Reported, location, nothin
 use Rattle.inf_unit.specs.Names.{no_symbols}
 use Rattle.inf_unit.specs.Tokens.{Spelled, is_mark, number_of}
 use Rattle.inf_unit.specs.Units.{Unit, acted as unit_acted, bytes_at, first_place, kind_at, long_at, name_order, names_in, no_unit, over, quoted_in, taken as unit_taken}
+use Rattle.inf_output.specs.Strings.{no_strings}
+use Rattle.inf_tables.specs.Tables.{no_tables}
 use Rattle.inf_output.specs.Output.{Code, Out, begun, closed, declared, full, opened, referred}
 use Rattle.inf_work.specs.Findings.{blame_of, header_fault, name_fault}
 use Rattle.inf_work.specs.Words.{nowhere}
 use Rattle.inf_statements.specs.declared.constructs.Construct.{Construct}
 use Rattle.inf_statements.specs.Labels.{NamedLabel, spelled_as}
-use Rattle.inf_statements.specs.Operands.{Settled, all_looked, leaves_named, settled, stores_named}
+use Rattle.inf_statements.specs.Operands.{Settled, all_looked, leaf_added, leaves_named, settled, stores_named, word_operand}
 use Rattle.inf_statements.specs.Statements.{tree_in}
 
 -- what code may hold, as the settings say: the labels, branches and jumps of a routine, bytes, and references
@@ -63,7 +65,16 @@ limits_of settings = record {
 }
 
 abbrev pub no_output : Settings → Out
-no_output settings = record { code = no_routines (limits_of settings) scale.Four; names = no_symbols settings; first = nowhere; next = 0; past = None; kept = None }
+no_output settings = record {
+  code = no_routines (limits_of settings) scale.Four;
+  strings = no_strings (setting_number setting.Strings settings) scale.Four;
+  tables = no_tables settings;
+  names = no_symbols settings;
+  first = nowhere;
+  next = 0;
+  past = None;
+  kept = None;
+}
 
 -- What was compiled so far: the character set of the sources; how many tokens an expression may have; the unit at hand; the statements that are open, the
 -- innermost first; the labels with names and the locals of the open routine; the code and the names of the source; the messages; what a directive asks of the reading; the names of
@@ -174,7 +185,7 @@ named w = record w { locals = stores_named w.unit.tokens w.unit.items (leaves_na
 
 -- their trees, when their names were used
 abbrev pub settled_of : Work → Settled
-settled_of w = settled w.locals w.unit.tokens w.unit.gathering.leaves (record { out = w.output; operands = [] })
+settled_of w = settled w.set w.locals w.unit.tokens w.unit.gathering.leaves (record { out = w.output; operands = [] })
 
 abbrev pub trees_at : ℕ → Wanted → List Operand → Work → List Rooted
 trees_at first wanted operands w = trees_of wanted first operands w.unit.gathering.symbols
@@ -266,10 +277,16 @@ abbrev pub named_leaf : List Spelled → List UnitLeaf → List ℕ
 named_leaf tokens ((leaf.Name at) ∷ leaves) = bytes_at tokens at
 named_leaf tokens _ = []
 
+-- a text is the next string, and a word of the dictionary stands for itself
+abbrev pub leaf_meaning : List UnitLeaf → Work → Option Meaning
+leaf_meaning ((leaf.Text at) ∷ leaves) w = Some (meaning.Text (length w.output.strings.bytes))
+leaf_meaning ((leaf.Word word) ∷ leaves) w = Some (meaning.Word word.text)
+leaf_meaning leaves w = declared_meaning (found_in (named_leaf w.unit.tokens leaves) w.output.names)
+
 abbrev pub constant_of : List Tree → Work → Option Meaning
 constant_of [] w = Some (meaning.Number 0)
 constant_of ((Leaf (operand.Known number)) ∷ trees) w = Some (meaning.Number number)
-constant_of ((Leaf (operand.Later target)) ∷ trees) w = declared_meaning (found_in (named_leaf w.unit.tokens w.unit.gathering.leaves) w.output.names)
+constant_of ((Leaf (operand.Later target)) ∷ trees) w = leaf_meaning w.unit.gathering.leaves w
 constant_of (_ ∷ trees) w = None
 
 -- what is wrong with its expression, and what it stands for
@@ -290,13 +307,19 @@ abbrev pub constant_blame : List Spelled → Option Blame → Option Finding →
 constant_blame tokens of_name None = None
 constant_blame tokens of_name (Some f) = if f.number == 8 then of_name else Some (blame_of tokens f)
 
+-- Without an error its text or word is added.
+abbrev pub constant_added : Option Finding → Work → Work
+constant_added None w = record w { output = leaf_added w.set w.unit.tokens w.unit.gathering.leaves w.output }
+constant_added (Some f) w = w
+
 abbrev pub constant_with : FileNames → Place → Name → Option Meaning → Option Finding → Work → Work
 constant_with files first name m found w =
     let of_name = name_fault files name (declare_fault name.bytes w.output.names) in
     let finding = constant_finding m found in
     let least = least_of_both (name_finding (name_order w.unit.tokens) of_name) finding in
     unit_ended files first true (constant_blame w.unit.tokens of_name least)
-    (record w { output = declared name.bytes name.place (constant_meaning m (least_of_both finding (name_finding 0 of_name))) w.output })
+    (constant_added least
+    (record w { output = declared name.bytes name.place (constant_meaning m (least_of_both finding (name_finding 0 of_name))) w.output }))
 
 abbrev pub constant : FileNames → Place → List Name → Work → Work
 constant files first [] w = passed true w

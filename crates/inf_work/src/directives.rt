@@ -7,7 +7,8 @@ ghost use Rattle.inf_symbol.specs.Spellings.{as_name};
 ghost use Rattle.inf_unit.specs.Blames.{blamed};
 ghost use Rattle.inf_unit.specs.Messages.{location, with_words};
 ghost use Rattle.inf_unit.specs.Units.{quoted_in};
-ghost use Rattle.inf_work.specs.Actions.{constant_blame, constant_finding, constant_meaning, declared_meaning, name_finding, named_leaf, stub_locals, used_name};
+ghost use Rattle.inf_work.specs.Actions.{constant_blame, constant_finding, constant_meaning, declared_meaning, leaf_meaning, name_finding, named_leaf, stub_locals, used_name};
+ghost use Rattle.inf_statements.specs.Operands.{leaf_added};
 
 use crate::findings::{blame_of, name_fault};
 use crate::work::Work;
@@ -20,6 +21,7 @@ use inf_names::meanings::Meaning;
 use inf_names::symbols::{Found, ReferFault, Symbols};
 use inf_report::messages::Message;
 use inf_report::own_words::OwnWords;
+use inf_statements::operands::add_leaf;
 use inf_symbol::spellings::Name;
 use inf_unit::directives::{Asked, Directive, directive_of, weight_of};
 use inf_unit::messages::{Blame, location};
@@ -170,8 +172,8 @@ impl Work {
             .words(location(files, first), weight_of(names), words)
     }
 
-    /// What a constant stands for, by the tree of its expression: a known number, 0 where it has none, or what a name stands for that was declared
-    /// before.
+    /// What a constant stands for, by the tree of its expression: a known number, 0 where it has none, a string, a word, or what a name stands for
+    /// that was declared before.
     fn constant_of(&self, forest: &Forest) -> Option<Meaning>
         ensures { result ≡ constant_of (map tree_in (rooted_in forest.now)) (work self.now) }
     {
@@ -180,7 +182,18 @@ impl Work {
         };
         match constant(&forest.nodes, root.place)? {
             Value::Known(number) => Some(Meaning::Number(number)),
-            Value::Later(_) => self.named_constant(),
+            Value::Later(_) => self.leaf_constant(),
+        }
+    }
+
+    /// What the leaf stands for that a constant's expression is: a text is the next string, and a word of the dictionary stands for itself.
+    fn leaf_constant(&self) -> Option<Meaning>
+        ensures { let w = work self.now in result ≡ leaf_meaning w.unit.gathering.leaves w }
+    {
+        match self.unit.gathering.leaves().first() {
+            Some(Leaf::Text(_)) => Some(Meaning::Text(self.output.strings.len())),
+            Some(Leaf::Word(word)) => Some(Meaning::Word(word.text)),
+            _ => self.named_constant(),
         }
     }
 
@@ -216,7 +229,20 @@ impl Work {
         let least = least_of_both(name_finding(order, &of_name), finding);
         let blame = constant_blame(&self.unit.tokens, of_name, least);
         self.report.fault(files, first, blame)?;
+        if least.is_none() {
+            self.add_leaf()?;
+        }
         self.end_unit(files, first, true)
+    }
+
+    /// Adds the text or the word that a constant's expression is.
+    fn add_leaf(&mut self) -> Result<(), AllocError>
+        ensures { let before = work self.old in OnOk result (work self.new ≡ record before {
+          output = leaf_added before.set before.unit.tokens before.unit.gathering.leaves before.output;
+        }) }
+    {
+        let leaves = self.unit.gathering.leaves();
+        add_leaf(self.alloc, self.set, &self.unit.tokens, leaves, &mut self.output)
     }
 }
 

@@ -118,6 +118,7 @@ impl Work {
         let order = self.order(part);
         let operands = settled(
             self.alloc,
+            self.set,
             &self.locals,
             &self.unit.tokens,
             self.unit.gathering.leaves(),

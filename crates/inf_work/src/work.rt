@@ -10,7 +10,7 @@ use inf_cells::Scale;
 use inf_code::code::{Code, CodeLimits};
 use inf_lexer::{Place, Stack};
 use inf_names::symbols::Symbols;
-use inf_output::Output;
+use inf_output::{Output, Strings};
 use inf_report::messages::Message;
 use inf_scanner::{Mark, TokenKind};
 use inf_settings::setting::Setting;
@@ -19,6 +19,7 @@ use inf_statements::constructs::{Case, Constructs, Kind, Over};
 use inf_statements::labels::Labels;
 use inf_symbol::locals::Locals;
 use inf_syntax::Action;
+use inf_tables::Tables;
 use inf_templates::Tasks;
 use inf_text::CharSet;
 use inf_unit::directives::Asked;
@@ -73,7 +74,9 @@ fn no_output(alloc: Global, settings: &Settings) -> Result<Output, AllocError>
         refs: settings.of(Setting::References) as usize,
     };
     let code = Code::new(alloc, limits, Scale::Four)?;
-    Ok(Output::new(code, no_symbols(alloc, settings), NOWHERE))
+    let strings = Strings::new(alloc, settings.of(Setting::Strings) as usize, Scale::Four);
+    let tables = Tables::new(alloc, settings);
+    Ok(Output::new(code, strings, tables, no_symbols(alloc, settings), NOWHERE))
 }
 
 impl Work {
