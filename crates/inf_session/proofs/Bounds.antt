@@ -1,6 +1,6 @@
 -- What the settings bound stays under them.
-use Rattle.std.specs.Prelude.{nat_lt, is_none, ◌||◌}
-use Rattle.std.proofs.Common.{◌≡◌, ℕ, ◌≤◌, Bool, true, false, cond, List, [], ◌∷◌, length, Some, None, refl, sym, ap, subst, ◌∙◌, arith}
+use Rattle.std.specs.Prelude.{nat_lt, is_none, max, ◌||◌}
+use Rattle.std.proofs.Common.{◌≡◌, ℕ, ◌≤◌, Bool, true, false, cond, List, [], ◌∷◌, length, Option, Some, None, refl, sym, ap, subst, ◌∙◌, arith}
 use Rattle.std.proofs.lemmas.Bool.{ltb-false}
 use Rattle.inf_sources.specs.Quoted.{is_quoted_kind}
 use Rattle.inf_scanner.specs.declared.tokens.BadToken.TheVariants as bad
@@ -10,11 +10,14 @@ use Rattle.inf_conditionals.specs.declared.judged.Judged.{Judged}
 use Rattle.inf_conditionals.specs.declared.judged.Site.{Site}
 use Rattle.inf_code.specs.declared.code.CodeLimits.{CodeLimits}
 use Rattle.inf_settings.specs.Settings.{all_settings, number_of}
-use Rattle.inf_settings.specs.declared.setting.Setting.TheVariants.{References, Symbols}
+use Rattle.inf_settings.specs.declared.setting.Setting.{Setting}
+use Rattle.inf_settings.specs.declared.setting.Setting.TheVariants.{Objects, PropertyTables, References, Strings, Symbols}
 use Rattle.inf_unit.proofs.Cases.{of_both}
 use Rattle.inf_unit.specs.Messages.{FileNames, none_reported, with_full}
 use Rattle.inf_unit.specs.Tokens.{Spelled}
 use Rattle.inf_work.specs.Actions.{Work, left, left_to, limits_of}
+use Rattle.inf_output.specs.Limits.{TableBounds, bounds, table_bounds}
+use Rattle.inf_tables.specs.Tables.{more, references, references_with}
 use Rattle.inf_work.specs.Limits.{SameLimits}
 use Rattle.inf_work.specs.Works.{work as work_of}
 use Rattle.inf_work.proofs.Limits.{same_then}
@@ -22,8 +25,8 @@ use Rattle.inf_reader.specs.Reading.{Stand, has_ended_at}
 use Rattle.inf_reader.specs.Standing.{standing}
 use Rattle.inf_reader.specs.declared.progress.Progress.{Progress}
 use Rattle.inf_session.specs.Choices.{Choices, chosen, most_quoted}
-use Rattle.inf_session.specs.Session.{begun_with, first_place, quoted_behind, quoted_bytes, quoted_of_kind}
-use Rattle.inf_session.specs.Standing.{AreWithin, IsBounded, SameBounds, ended, is_fatal}
+use Rattle.inf_session.specs.Session.{begun_with, first_place, quoted_behind, quoted_bytes, quoted_of_kind, tables_full}
+use Rattle.inf_session.specs.Standing.{AreWithin, HasObjects, IsBounded, SameBounds, bounds_of, ended, is_fatal}
 use Rattle.inf_session.specs.declared.session.Session.{Session}
 use Rattle.inf_session.specs.declared.setup.Setup.{Setup}
 
@@ -81,10 +84,10 @@ pub bounded_still : (s t : Session) → t.setup ≡ s.setup → SameLimits (work
 bounded_still s t setup limits longest going b = (
   limits.0 ∙ b.0 ∙ ap (λ (p : Setup). number_of Symbols (chosen p).settings) (sym setup),
   (
-    limits.1 ∙ b.1.0 ∙ ap (λ (p : Setup). limits_of (chosen p).settings) (sym setup),
+    limits.1 ∙ b.1.0 ∙ ap (λ (p : Setup). bounds_of (chosen p).settings) (sym setup),
     (
       subst (λ (p : Setup). t.quoted ≤ most_quoted (chosen p)) (sym setup) (longest b.1.1.0),
-      λ _. subst (λ (p : Setup). 4 ≤ number_of References (chosen p).settings) (sym setup)
+      λ _. subst (λ (p : Setup). HasObjects (chosen p).settings) (sym setup)
           (b.1.1.1 (left_false _ _ (right_false s.is_over (has_ended_at (standing s.progress)) going))),
     ),
   ),
@@ -92,37 +95,90 @@ bounded_still s t setup limits longest going b = (
 
 -- Before the first token
 
-none_told : (full : Bool) (names : FileNames) (warns : Bool)
-    → (with_full names first_place (cond full (Some References) None) (none_reported warns)).counts.is_over ≡ false → full ≡ false
-none_told true names warns going = let never : true ≡ false = going in cc
-none_told false names warns going = refl
+none_told : (full : Option Setting) (names : FileNames) (warns : Bool)
+    → (with_full names first_place full (none_reported warns)).counts.is_over ≡ false → full ≡ None
+none_told (Some limit) names warns going = let never : true ≡ false = going in cc
+none_told None names warns going = refl
 
-first_fits : (o : Choices) (names : FileNames) → (begun_with o names).work.report.counts.is_over ≡ false → 4 ≤ number_of References o.settings
+none_then : (b : Bool) (limit : Setting) (others : Option Setting) → cond b (Some limit) others ≡ None → (b ≡ false) × (others ≡ None)
+none_then true limit others e = let never : Some limit ≡ None = e in cc
+none_then false limit others e = (refl, e)
+
+first_fits : (o : Choices) (names : FileNames) → (begun_with o names).work.report.counts.is_over ≡ false → HasObjects o.settings
 first_fits o names going =
-    ltb-false (number_of References o.settings) 4 (none_told (nat_lt (number_of References o.settings) 4) names o.has_warnings going)
+    let objects = number_of Objects o.settings in
+    let bytes = number_of PropertyTables o.settings in
+    let refs = number_of References o.settings in
+    let none = none_told (tables_full o.settings) names o.has_warnings going in
+    let first = none_then (nat_lt objects 4) Objects (cond (nat_lt bytes 30) (Some PropertyTables) (cond (nat_lt refs 4) (Some References) None)) none in
+    let second = none_then (nat_lt bytes 30) PropertyTables (cond (nat_lt refs 4) (Some References) None) first.1 in
+    let third = none_then (nat_lt refs 4) References None second.1 in
+    (ltb-false objects 4 first.0, ltb-false bytes 30 second.0, ltb-false refs 4 third.0)
 
 pub bounded_first : (p : Setup) (progress : Progress) (names : FileNames) → standing progress ≡ begun_with (chosen p) names
     → (progress.work.output.names.limit ≡ number_of Symbols (chosen p).settings)
-    × ((progress.work.output.code.limits ≡ limits_of (chosen p).settings)
-    × ((0 ≤ most_quoted (chosen p)) × ((standing progress).work.report.counts.is_over ≡ false → 4 ≤ number_of References (chosen p).settings)))
+    × ((bounds progress.work.output ≡ bounds_of (chosen p).settings)
+    × ((0 ≤ most_quoted (chosen p)) × ((standing progress).work.report.counts.is_over ≡ false → HasObjects (chosen p).settings)))
 bounded_first p progress names begun = (
   ap (λ (s : Stand). s.work.output.names.limit) begun,
   (
-    ap (λ (s : Stand). s.work.output.code.limits) begun,
+    ap (λ (s : Stand). bounds s.work.output) begun,
     (omega arith, λ going. first_fits (chosen p) names (ap (λ (s : Stand). s.work.report.counts.is_over) (sym begun) ∙ going)),
   ),
 )
 
 -- The counts
 
-pub within : (s : Session) (names code refs : ℕ) → IsBounded s → is_fatal s ≡ false → names ≤ s.progress.work.output.names.limit
-    → code ≤ s.progress.work.output.code.limits.code → (4 ≤ s.progress.work.output.code.limits.refs → refs ≤ s.progress.work.output.code.limits.refs)
-    → AreWithin (s.quoted ∷ 0 ∷ names ∷ 0 ∷ 0 ∷ 0 ∷ 0 ∷ 0 ∷ 0 ∷ 0 ∷ 0 ∷ 0 ∷ code ∷ 0 ∷ refs ∷ []) all_settings (chosen s.setup).settings
-within s names code refs bounded going few_names few_code few_refs =
-    let most_code = ap (λ (l : CodeLimits). l.code) bounded.1.0 in
-    let most_refs = ap (λ (l : CodeLimits). l.refs) bounded.1.0 in
-    let room = subst (λ n. 4 ≤ n) (sym most_refs) (bounded.1.1.1 going) in
+-- how many there are of what stands in tables
+pub record TableCounts : Type 0 where
+  pub words : ℕ
+  pub objects : ℕ
+  pub verbs : ℕ
+  pub actions : ℕ
+  pub lines : ℕ
+  pub properties : ℕ
+  pub arrays : ℕ
+
+-- that these are within what there may be
+pub record FitBounds (c : TableCounts) (b : TableBounds) : Type 0 where
+  pub words : c.words ≤ b.words
+  pub objects : c.objects ≤ max 4 b.world.objects
+  pub verbs : c.verbs ≤ b.verbs
+  pub actions : c.actions ≤ b.actions
+  pub lines : c.lines ≤ b.lines
+  pub properties : c.properties ≤ max 30 b.world.property_bytes
+  pub arrays : c.arrays ≤ b.arrays
+
+-- a number that has room for the first ones
+at_most : (n least most : ℕ) → n ≤ max least most → least ≤ most → n ≤ most
+at_most n least most few room = omega (arith, few, room)
+
+pub within : (s : Session) (names code strings refs : ℕ) (tables : TableCounts) → IsBounded s → is_fatal s ≡ false → names ≤ s.progress.work.output.names.limit
+    → code ≤ s.progress.work.output.code.limits.code → strings ≤ s.progress.work.output.strings.limit
+    → (4 ≤ s.progress.work.output.code.limits.refs → refs ≤ s.progress.work.output.code.limits.refs)
+    → FitBounds tables (table_bounds s.progress.work.output.tables)
+    → AreWithin (s.quoted ∷ 0 ∷ names ∷ 0 ∷ tables.words ∷ tables.objects ∷ tables.verbs ∷ tables.actions ∷ tables.lines ∷ tables.properties ∷ tables.arrays ∷ 0
+      ∷ code ∷ strings ∷ refs ∷ []) all_settings (chosen s.setup).settings
+within s names code strings refs tables bounded going few_names few_code few_strings few_refs few =
+    let settings = (chosen s.setup).settings in
+    let most_code = ap (λ (l : CodeLimits × ℕ × TableBounds). l.0.code) bounded.1.0 in
+    let most_refs = ap (λ (l : CodeLimits × ℕ × TableBounds). l.0.refs) bounded.1.0 in
+    let most_strings = ap (λ (l : CodeLimits × ℕ × TableBounds). l.1.0) bounded.1.0 in
+    let most = subst (λ b. FitBounds tables b) (ap (λ (l : CodeLimits × ℕ × TableBounds). l.1.1) bounded.1.0) few in
+    let has = bounded.1.1.1 going in
+    let room = subst (λ n. 4 ≤ n) (sym most_refs) has.1.1 in
     let named = subst (λ n. names ≤ n) bounded.0 few_names in
     let coded = subst (λ n. code ≤ n) most_code few_code in
+    let stringed = subst (λ n. strings ≤ n) most_strings few_strings in
     let referred = subst (λ n. refs ≤ n) most_refs (few_refs room) in
-    (bounded.1.1.0, (omega arith, (named, (omega arith, (omega arith, (omega arith, (omega arith, (omega arith, (omega arith, (omega arith, (omega arith, (omega arith, (coded, (omega arith, (referred, tt)))))))))))))))
+    let objects = at_most tables.objects 4 (number_of Objects settings) most.objects has.0 in
+    let properties = at_most tables.properties 30 (number_of PropertyTables settings) most.properties has.1.0 in
+    (bounded.1.1.0, (omega arith, (named, (omega arith, (most.words, (objects, (most.verbs, (most.actions, (most.lines, (properties, (most.arrays, (omega arith, (coded, (stringed, (referred, tt)))))))))))))))
+
+-- no references were added in tables, and those of the code are few
+pub refs_within : (s : Session) (refs : ℕ) → IsBounded s → (4 ≤ s.progress.work.output.code.limits.refs → refs ≤ s.progress.work.output.code.limits.refs)
+    → 4 ≤ s.progress.work.output.code.limits.refs → references_with refs s.progress.work.output.tables ≤ s.progress.work.output.code.limits.refs
+unfolding more
+refs_within s refs bounded few room =
+    let none : references s.progress.work.output.tables ≡ 0 = ap (λ (l : CodeLimits × ℕ × TableBounds). l.1.1.references) bounded.1.0 in
+    omega (arith, few room, none)

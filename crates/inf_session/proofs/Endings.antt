@@ -15,6 +15,8 @@ use Rattle.inf_work.specs.Actions.{Work, begun_at}
 use Rattle.inf_unit.proofs.Cases.{of_both}
 use Rattle.inf_unit.specs.Messages.{FileNames, Reported, with_fatal}
 use Rattle.inf_unit.specs.Names.{main_of, with_all_undeclared}
+use Rattle.inf_output.specs.Strings.{StringArea}
+use Rattle.inf_tables.specs.declared.tables.Tables.{Tables}
 use Rattle.inf_report.specs.Messages.{StoryTooLong}
 use Rattle.inf_report.specs.Reports.{Counts, closing, closing_lines}
 use Rattle.inf_symbol.specs.Sinks.{Takes}
@@ -31,36 +33,38 @@ most_is_small scale.Four = refl
 most_is_small scale.Eight = refl
 
 -- A story that would be too long for its version, as it is told.
-pub longest_told : {E : Type 0} (serial : List ℕ) (files : FileNames) (main : ℕ) (names : List Value) (code : Routines) (r : Reported) (s : Scale) (strings : List ℕ) (most : ℕ) (fault : LinkFault)
-    (result : Result CodeEnding E) → s ≡ code.scale → strings ≡ [] → most ≡ most_bytes s → fault ≡ link_fault.StoryTooLong
-    → (fault ≡ link_fault.Memory) ⊎ (too_long (record { release = 1; serial = serial; scale = s }) main code.finished strings ≡ Some fault)
+pub longest_told : {E : Type 0} (serial : List ℕ) (files : FileNames) (main : ℕ) (names : List Value) (code : Routines) (strings : StringArea) (tables : Tables) (r : Reported)
+    (s : Scale) (bytes : List ℕ) (most : ℕ) (fault : LinkFault)
+    (result : Result CodeEnding E) → s ≡ code.scale → bytes ≡ strings.bytes → most ≡ most_bytes s → fault ≡ link_fault.StoryTooLong
+    → (fault ≡ link_fault.Memory) ⊎ (too_long (record { release = 1; serial = serial; scale = s }) main code.finished bytes tables ≡ Some fault)
     → IfOk result (λ t. seen t ≡ refused (with_fatal (first_line files) (StoryTooLong most) r))
-    → IfOk result (λ t. seen t ≡ linked serial files main names code r (too_long (fields_of serial code) main code.finished []))
-longest_told serial files main names code r s strings most fault result same none bytes is why given =
-    let long : Scale → List ℕ → Option LinkFault = λ q a. too_long (record { release = 1; serial = serial; scale = q }) main code.finished a in
-    let found : long code.scale [] ≡ Some link_fault.StoryTooLong = elim why [
+    → IfOk result (λ t. seen t ≡ linked serial files main names code strings tables r (too_long (fields_of serial code) main code.finished strings.bytes tables))
+longest_told serial files main names code strings tables r s bytes most fault result same all longest is why given =
+    let long : Scale → List ℕ → Option LinkFault = λ q a. too_long (record { release = 1; serial = serial; scale = q }) main code.finished a tables in
+    let found : long code.scale strings.bytes ≡ Some link_fault.StoryTooLong = elim why [
       | inl memory ↦ (let never : link_fault.Memory ≡ link_fault.StoryTooLong = sym memory ∙ is in cc)
-      | inr told ↦ sym (ap (λ q. long q []) same) ∙ sym (ap (λ a. long s a) none) ∙ told ∙ ap (λ f. Some f) is
+      | inr told ↦ sym (ap (λ q. long q strings.bytes) same) ∙ sym (ap (λ a. long s a) all) ∙ told ∙ ap (λ f. Some f) is
     ] in
     subst (λ e. IfOk result (λ t. seen t ≡ e))
-    (ap (λ n. refused (with_fatal (first_line files) (StoryTooLong n) r)) (bytes ∙ ap most_bytes same) ∙ sym (ap (λ o. linked serial files main names code r o) found))
+    (ap (λ n. refused (with_fatal (first_line files) (StoryTooLong n) r)) (longest ∙ ap most_bytes same)
+    ∙ sym (ap (λ o. linked serial files main names code strings tables r o) found))
     given
 
 abbrev HasNone : Ending → Type 0
 HasNone e = e.status ≡ status.Errors → e.story ≡ None
 
-linked_none : (serial : List ℕ) (files : FileNames) (main : ℕ) (names : List Value) (code : Routines) (r : Reported) (long : Option LinkFault) → HasNone (linked serial files main names code r long)
-linked_none serial files main names code r None = λ e. cc
-linked_none serial files main names code r (Some link_fault.ReadableTooLong) = λ _. refl
-linked_none serial files main names code r (Some link_fault.StoryTooLong) = λ _. refl
-linked_none serial files main names code r (Some link_fault.Memory) = λ _. refl
+linked_none : (serial : List ℕ) (files : FileNames) (main : ℕ) (names : List Value) (code : Routines) (strings : StringArea) (tables : Tables) (r : Reported) (long : Option LinkFault) → HasNone (linked serial files main names code strings tables r long)
+linked_none serial files main names code strings tables r None = λ e. cc
+linked_none serial files main names code strings tables r (Some link_fault.ReadableTooLong) = λ _. refl
+linked_none serial files main names code strings tables r (Some link_fault.StoryTooLong) = λ _. refl
+linked_none serial files main names code strings tables r (Some link_fault.Memory) = λ _. refl
 
-named_none : (serial : List ℕ) (files : FileNames) (main : ℕ) (code : Routines) (r : Reported) (names : Option (List Value)) → HasNone (named serial files main code r names)
-named_none serial files main code r None = λ _. refl
-named_none serial files main code r (Some names) = linked_none serial files main names code r (too_long (fields_of serial code) main code.finished [])
+named_none : (serial : List ℕ) (files : FileNames) (main : ℕ) (code : Routines) (strings : StringArea) (tables : Tables) (r : Reported) (names : Option (List Value)) → HasNone (named serial files main code strings tables r names)
+named_none serial files main code strings tables r None = λ _. refl
+named_none serial files main code strings tables r (Some names) = linked_none serial files main names code strings tables r (too_long (fields_of serial code) main code.finished strings.bytes tables)
 
 laid_none : (serial : List ℕ) (files : FileNames) (main : ℕ) (w : Work) (r : Reported) → HasNone (laid serial files main w r)
-laid_none serial files main w r = named_none serial files main w.output.code r (values_of w.output.names.names)
+laid_none serial files main w r = named_none serial files main w.output.code w.output.strings w.output.tables r (values_of w.output.names.names)
 
 begun_none : (serial : List ℕ) (files : FileNames) (w : Work) (r : Reported) (main : Option ℕ) → HasNone (begun serial files w r main)
 begun_none serial files w r None = λ _. refl
@@ -84,18 +88,18 @@ closing_clean lines true errors warnings e = absurd (cc-false e)
 closing_clean lines false errors warnings e =
     record { before = lines; warnings = warnings; is = ap (λ n. lines ++ closing n warnings) (eqb-true errors 0 e) }
 
-linked_clean : (serial : List ℕ) (files : FileNames) (main : ℕ) (names : List Value) (code : Routines) (r : Reported) → is_clean r ≡ true → (long : Option LinkFault) → CleanIf (linked serial files main names code r long)
-linked_clean serial files main names code r clean None = λ _. closing_clean r.lines r.counts.is_over r.counts.errors r.counts.warnings clean
-linked_clean serial files main names code r clean (Some link_fault.ReadableTooLong) = λ e. cc
-linked_clean serial files main names code r clean (Some link_fault.StoryTooLong) = λ e. cc
-linked_clean serial files main names code r clean (Some link_fault.Memory) = λ e. cc
+linked_clean : (serial : List ℕ) (files : FileNames) (main : ℕ) (names : List Value) (code : Routines) (strings : StringArea) (tables : Tables) (r : Reported) → is_clean r ≡ true → (long : Option LinkFault) → CleanIf (linked serial files main names code strings tables r long)
+linked_clean serial files main names code strings tables r clean None = λ _. closing_clean r.lines r.counts.is_over r.counts.errors r.counts.warnings clean
+linked_clean serial files main names code strings tables r clean (Some link_fault.ReadableTooLong) = λ e. cc
+linked_clean serial files main names code strings tables r clean (Some link_fault.StoryTooLong) = λ e. cc
+linked_clean serial files main names code strings tables r clean (Some link_fault.Memory) = λ e. cc
 
-named_clean : (serial : List ℕ) (files : FileNames) (main : ℕ) (code : Routines) (r : Reported) → is_clean r ≡ true → (names : Option (List Value)) → CleanIf (named serial files main code r names)
-named_clean serial files main code r clean None = λ e. cc
-named_clean serial files main code r clean (Some names) = linked_clean serial files main names code r clean (too_long (fields_of serial code) main code.finished [])
+named_clean : (serial : List ℕ) (files : FileNames) (main : ℕ) (code : Routines) (strings : StringArea) (tables : Tables) (r : Reported) → is_clean r ≡ true → (names : Option (List Value)) → CleanIf (named serial files main code strings tables r names)
+named_clean serial files main code strings tables r clean None = λ e. cc
+named_clean serial files main code strings tables r clean (Some names) = linked_clean serial files main names code strings tables r clean (too_long (fields_of serial code) main code.finished strings.bytes tables)
 
 laid_clean : (serial : List ℕ) (files : FileNames) (main : ℕ) (w : Work) (r : Reported) → is_clean r ≡ true → CleanIf (laid serial files main w r)
-laid_clean serial files main w r clean = named_clean serial files main w.output.code r clean (values_of w.output.names.names)
+laid_clean serial files main w r clean = named_clean serial files main w.output.code w.output.strings w.output.tables r clean (values_of w.output.names.names)
 
 begun_clean : (serial : List ℕ) (files : FileNames) (w : Work) (r : Reported) (main : Option ℕ) → CleanIf (begun serial files w r main)
 begun_clean serial files w r None = λ e. cc

@@ -1,11 +1,13 @@
 -- How a compilation ends: the lines of its messages, its story or none, and its status.
-use Rattle.std.specs.Prelude.{ℕ, List, [], Bool, not, ◌&&◌, ◌==◌, if◌then◌else◌, Option, Some, None, option_map}
+use Rattle.std.specs.Prelude.{ℕ, List, Bool, not, ◌&&◌, ◌==◌, if◌then◌else◌, Option, Some, None, option_map}
 use Rattle.inf_area.specs.declared.targets.Value.{Value}
 use Rattle.inf_cells.specs.Scales.{most_bytes}
 use Rattle.inf_code.specs.Code.{Routines}
 use Rattle.inf_link.specs.declared.header.HeaderFields.{HeaderFields}
 use Rattle.inf_link.specs.declared.link.LinkFault.{LinkFault}
 use Rattle.inf_link.specs.declared.link.LinkFault.TheVariants as link_fault
+use Rattle.inf_output.specs.Strings.{StringArea}
+use Rattle.inf_tables.specs.declared.tables.Tables.{Tables}
 use Rattle.inf_report.specs.Messages.{Location, NoMain, NoSource, NotConstant, ReadableTooLong, StoryTooLong}
 use Rattle.inf_story.specs.Names.{values_of}
 use Rattle.inf_story.specs.Stories.{story, too_long}
@@ -38,22 +40,22 @@ first_line files = location files first_place
 abbrev pub fields_of : List ℕ → Routines → HeaderFields
 fields_of serial code = record { release = 1; serial = serial; scale = code.scale }
 
--- The story of the code, in which a routine is called first and names are these: or why it is too long, which is a fatal error. What can be read is
+-- The story of the code, the strings and the tables, in which a routine is called first and names are these: or why it is too long, which is a fatal error. What can be read is
 -- looked at first.
-abbrev pub linked : List ℕ → FileNames → ℕ → List Value → Routines → Reported → Option LinkFault → Ending
-linked serial files main names code r None =
-    record { messages = (with_closing r).lines; story = Some (story (fields_of serial code) main names code.finished []); status = status.Success }
-linked serial files main names code r (Some link_fault.ReadableTooLong) = refused (with_fatal (first_line files) ReadableTooLong r)
-linked serial files main names code r (Some link_fault.StoryTooLong) = refused (with_fatal (first_line files) (StoryTooLong (most_bytes code.scale)) r)
-linked serial files main names code r (Some link_fault.Memory) = refused r
+abbrev pub linked : List ℕ → FileNames → ℕ → List Value → Routines → StringArea → Tables → Reported → Option LinkFault → Ending
+linked serial files main names code strings tables r None =
+    record { messages = (with_closing r).lines; story = Some (story (fields_of serial code) main names code.finished strings.bytes tables); status = status.Success }
+linked serial files main names code strings tables r (Some link_fault.ReadableTooLong) = refused (with_fatal (first_line files) ReadableTooLong r)
+linked serial files main names code strings tables r (Some link_fault.StoryTooLong) = refused (with_fatal (first_line files) (StoryTooLong (most_bytes code.scale)) r)
+linked serial files main names code strings tables r (Some link_fault.Memory) = refused r
 
 -- A name of a kind that is no number in a story is an error.
-abbrev pub named : List ℕ → FileNames → ℕ → Routines → Reported → Option (List Value) → Ending
-named serial files main code r None = refused (with_error (first_line files) (first_line files) NotConstant r)
-named serial files main code r (Some names) = linked serial files main names code r (too_long (fields_of serial code) main code.finished [])
+abbrev pub named : List ℕ → FileNames → ℕ → Routines → StringArea → Tables → Reported → Option (List Value) → Ending
+named serial files main code strings tables r None = refused (with_error (first_line files) (first_line files) NotConstant r)
+named serial files main code strings tables r (Some names) = linked serial files main names code strings tables r (too_long (fields_of serial code) main code.finished strings.bytes tables)
 
 abbrev pub laid : List ℕ → FileNames → ℕ → Work → Reported → Ending
-laid serial files main w r = named serial files main w.output.code r (values_of w.output.names.names)
+laid serial files main w r = named serial files main w.output.code w.output.strings w.output.tables r (values_of w.output.names.names)
 
 -- the ending of a source that was read: without its first routine it has an error
 abbrev pub begun : List ℕ → FileNames → Work → Reported → Option ℕ → Ending

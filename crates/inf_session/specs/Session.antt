@@ -4,6 +4,10 @@
 -- Designer's Manual, fourth edition, sections 38 and 39.
 use Rattle.std.specs.Prelude.{◌≡◌, ℕ, List, [], ◌∷◌, ◌++◌, length, nat_lt, is_none, Option, Some, None, Bool, true, false, ◌&&◌, ◌||◌, if◌then◌else◌, zero, suc}
 use Rattle.inf_code.specs.Code.{code_count, reference_count}
+use Rattle.inf_arrays.specs.Arrays.{all_of, arrays_size}
+use Rattle.inf_verbs.specs.Verbs.{verbs_size}
+use Rattle.inf_world.specs.World.{bytes_now, object_count}
+use Rattle.inf_tables.specs.Tables.{references_with}
 use Rattle.inf_scanner.specs.declared.tokens.BadToken.TheVariants as bad
 use Rattle.inf_scanner.specs.declared.tokens.Place.{Place}
 use Rattle.inf_scanner.specs.declared.tokens.TokenKind.{TokenKind}
@@ -23,7 +27,8 @@ use Rattle.inf_work.specs.Actions.{Work, entered, left as left_file}
 use Rattle.inf_unit.specs.Directives.{Asked, Nothing, Include, End}
 use Rattle.inf_settings.specs.Settings.{number_of}
 use Rattle.inf_settings.specs.declared.setting.Setting.{Setting}
-use Rattle.inf_settings.specs.declared.setting.Setting.TheVariants.{References}
+use Rattle.inf_settings.specs.declared.settings.Settings.{Settings}
+use Rattle.inf_settings.specs.declared.setting.Setting.TheVariants.{Objects, PropertyTables, References}
 use Rattle.inf_unit.specs.Messages.{FileNames, flushed, location, none_reported, with_fatal, with_full}
 use Rattle.inf_unit.specs.Tokens.{Spelled}
 use Rattle.inf_reader.specs.Handing.{judged_taken, said_told, site_of}
@@ -47,16 +52,19 @@ pub record State : Type 0 where
 abbrev pub first_place : Place
 first_place = record { file = 0; line = 1 }
 
--- The references that each story has in tables are the addresses of the property tables of its first four objects. Where they alone
--- would pass their setting, this is told before the first token.
-abbrev pub tables_full : ℕ → Option Setting
-tables_full limit = if nat_lt limit 4 then Some References else None
+-- Each story has four objects, whose property tables have 30 bytes and their addresses four references. Where they alone would pass a setting, this is
+-- told before the first token.
+abbrev pub tables_full : Settings → Option Setting
+tables_full settings =
+    if nat_lt (number_of Objects settings) 4 then Some Objects else
+    if nat_lt (number_of PropertyTables settings) 30 then Some PropertyTables else
+    if nat_lt (number_of References settings) 4 then Some References else None
 
 -- how the first token of a main source is read, and what there is before it
 abbrev pub begun_with : Choices → FileNames → Stand
 begun_with o names =
     let s = begun_stand o.set o.settings in
-    record s { work = record s.work { report = with_full names first_place (tables_full (number_of References o.settings)) (none_reported o.has_warnings) } }
+    record s { work = record s.work { report = with_full names first_place (tables_full o.settings) (none_reported o.has_warnings) } }
 
 -- before the first token of the main source of this name
 abbrev pub start : Sources → Choices → List ℕ → State
@@ -202,12 +210,15 @@ part sources o (suc n) s =
     if has_ended s then s else
     if is_parted (turn sources o s) then turn sources o s else part sources o n (turn sources o s)
 
--- How much there is so far of what each setting bounds, in the order of the settings: the longest quoted token, the names, the
--- code, the references, and nothing yet of the others.
+-- How much there is so far of what each setting bounds, in the order of the settings: the longest quoted token, the names, the words, objects, verbs and
+-- actions, the bytes of grammar, properties, arrays, code and strings, and the references. Nothing is told of expressions, labels and low strings.
 abbrev pub held : State → List ℕ
 held s =
-    s.quoted ∷ 0 ∷ length s.work.output.names.names ∷ 0 ∷ 0 ∷ 0 ∷ 0 ∷ 0 ∷ 0 ∷ 0 ∷ 0 ∷ 0
-    ∷ code_count s.work.output.code ∷ 0 ∷ reference_count s.work.output.code ∷ []
+    s.quoted ∷ 0 ∷ length s.work.output.names.names ∷ 0
+    ∷ length s.work.output.tables.dictionary.list ∷ object_count s.work.output.tables.world ∷ length s.work.output.tables.verbs.list
+    ∷ length s.work.output.tables.actions.routines ∷ verbs_size s.work.output.tables.verbs.list ∷ bytes_now s.work.output.tables.world
+    ∷ arrays_size (all_of s.work.output.tables.arrays) ∷ 0
+    ∷ code_count s.work.output.code ∷ length s.work.output.strings.bytes ∷ references_with (reference_count s.work.output.code) s.work.output.tables ∷ []
 
 -- at most n turns
 abbrev pub run : Sources → Choices → ℕ → State → State

@@ -1,15 +1,22 @@
 -- What the code's session stands for, with a reader that keeps to its sources.
 use Rattle.std.specs.Prelude.{◌≡◌, ℕ, ◌≤◌, List, Bool, false, ◌&&◌, ◌||◌, if◌then◌else◌, length, [], ◌∷◌}
 use Rattle.inf_code.specs.Code.{code_count, reference_count}
+use Rattle.inf_arrays.specs.Arrays.{all_of, arrays_size}
+use Rattle.inf_verbs.specs.Verbs.{verbs_size}
+use Rattle.inf_world.specs.World.{bytes_now, object_count}
+use Rattle.inf_tables.specs.Tables.{references_with}
 use Rattle.inf_conditionals.specs.Judging.{is_none_pending, may_part}
 use Rattle.inf_reader.specs.Handing.{site_of}
 use Rattle.inf_token.specs.Files.{Openings, Sources}
 use Rattle.inf_sources.specs.Open.{nesting}
 use Rattle.inf_settings.specs.Settings.{number_of}
 use Rattle.inf_settings.specs.declared.setting.Setting.{Setting}
-use Rattle.inf_settings.specs.declared.setting.Setting.TheVariants.{References, Symbols}
+use Rattle.inf_settings.specs.declared.setting.Setting.TheVariants.{Objects, PropertyTables, References, Strings, Symbols}
 use Rattle.inf_settings.specs.declared.settings.Settings.{Settings}
 use Rattle.inf_work.specs.Actions.{limits_of}
+use Rattle.inf_output.specs.Limits.{TableBounds, bounds, table_bounds}
+use Rattle.inf_tables.specs.Tables.{no_tables}
+use Rattle.inf_code.specs.declared.code.CodeLimits.{CodeLimits}
 use Rattle.inf_work.specs.Limits.{SameLimits}
 use Rattle.inf_work.specs.Works.{work as work_of}
 use Rattle.inf_reader.specs.Reading.{has_ended_at}
@@ -44,14 +51,22 @@ IsSet s = (s.open_files.nest.set ≡ s.setup.set) × (s.open_files.nest.limit �
 abbrev pub is_fatal : Session → Bool
 is_fatal s = (standing s.progress).work.report.counts.is_over
 
--- What the settings bound stands under them: the names, the code, the quoted tokens, and, unless a fatal message came, the references
--- in tables.
+-- what may stand in tables
+abbrev pub bounds_of : Settings → CodeLimits × ℕ × TableBounds
+bounds_of settings = (limits_of settings, number_of Strings settings, table_bounds (no_tables settings))
+
+-- that the first four objects alone pass no setting
+abbrev pub HasObjects : Settings → Type 0
+HasObjects settings = (4 ≤ number_of Objects settings) × (30 ≤ number_of PropertyTables settings) × (4 ≤ number_of References settings)
+
+-- What the settings bound stands under them: the names, the code, the strings, the tables, the quoted tokens, and, unless a fatal message came, the first
+-- four objects.
 abbrev pub IsBounded : Session → Type 0
 IsBounded s =
     let settings = (chosen s.setup).settings in
     (s.progress.work.output.names.limit ≡ number_of Symbols settings)
-    × ((s.progress.work.output.code.limits ≡ limits_of settings)
-    × ((s.quoted ≤ most_quoted (chosen s.setup)) × (is_fatal s ≡ false → 4 ≤ number_of References settings)))
+    × ((bounds s.progress.work.output ≡ bounds_of settings)
+    × ((s.quoted ≤ most_quoted (chosen s.setup)) × (is_fatal s ≡ false → HasObjects settings)))
 
 -- each count is at most the number of its setting
 abbrev pub AreWithin : List ℕ → List Setting → Settings → Type 0
@@ -77,5 +92,9 @@ came_to had_ended s = if is_fatal s then step.Fatal else if had_ended then step.
 -- how much there is of what each setting bounds
 abbrev pub held_by : Session → List ℕ
 held_by s =
-    s.quoted ∷ 0 ∷ length s.progress.work.output.names.names ∷ 0 ∷ 0 ∷ 0 ∷ 0 ∷ 0 ∷ 0 ∷ 0 ∷ 0 ∷ 0
-    ∷ code_count s.progress.work.output.code ∷ 0 ∷ reference_count s.progress.work.output.code ∷ []
+    s.quoted ∷ 0 ∷ length s.progress.work.output.names.names ∷ 0
+    ∷ length s.progress.work.output.tables.dictionary.list ∷ object_count s.progress.work.output.tables.world ∷ length s.progress.work.output.tables.verbs.list
+    ∷ length s.progress.work.output.tables.actions.routines ∷ verbs_size s.progress.work.output.tables.verbs.list
+    ∷ bytes_now s.progress.work.output.tables.world ∷ arrays_size (all_of s.progress.work.output.tables.arrays) ∷ 0
+    ∷ code_count s.progress.work.output.code ∷ length s.progress.work.output.strings.bytes
+    ∷ references_with (reference_count s.progress.work.output.code) s.progress.work.output.tables ∷ []

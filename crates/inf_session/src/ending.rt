@@ -1,5 +1,5 @@
 //! What comes at the end of a compilation.
-ghost use Rattle.std.specs.Prelude.{◌≡◌, [], IfOk, OnOk, Some};
+ghost use Rattle.std.specs.Prelude.{◌≡◌, IfOk, OnOk, Some};
 ghost use Rattle.inf_cells.specs.Scales.{most_bytes};
 ghost use Rattle.inf_report.specs.Meant.{meant};
 ghost use Rattle.inf_story.specs.Stories.{too_long};
@@ -11,15 +11,16 @@ ghost use Rattle.inf_session.specs.Ending.{begun, fields_of, finished, first_lin
 ghost use Rattle.inf_session.specs.Session.{first_place};
 
 use crate::compiled::Status;
-use inf_area::{PagedArea, Value};
+use inf_area::Value;
 use inf_cells::Scale;
 use inf_code::code::Code;
 use inf_lexer::{Place, Stack};
 use inf_link::HeaderFields;
 use inf_names::symbols::Symbols;
-use inf_output::Output;
+use inf_output::{Output, Strings};
 use inf_report::messages::{Location, Message};
 use inf_story::{LinkFault, Story, story, values_of};
+use inf_tables::Tables;
 use inf_unit::messages::{Messages, location};
 use inf_unit::names::{main_of, tell_undeclared};
 use inf_work::work::Work;
@@ -118,13 +119,33 @@ fn report_of(work: Work) -> Messages
     work.report
 }
 
-/// The names of some work, its code, and what was told in it.
-fn parts_of(work: Work) -> (Symbols<Place>, Code, Messages)
-    ensures { (result.0 ≡ work.output.names) × (result.1 ≡ work.output.code) × (result.2 ≡ work.report) }
+/// What a story is made of beside its code.
+#[derive(Drop)]
+struct Contents {
+    names: Symbols<Place>,
+    strings: Strings,
+    tables: Tables,
+}
+
+/// The code of some work, what a story has beside it, and what was told in it.
+fn parts_of(work: Work) -> (Code, Contents, Messages)
+    ensures { (result.0 ≡ work.output.code) × (result.1.names ≡ work.output.names) × (result.1.strings ≡ work.output.strings)
+        × (result.1.tables ≡ work.output.tables) × (result.2 ≡ work.report) }
 {
     let Work { output, report, .. } = work;
-    let Output { code, names, .. } = output;
-    (names, code, report)
+    let Output {
+        code,
+        strings,
+        tables,
+        names,
+        ..
+    } = output;
+    let contents = Contents {
+        names,
+        strings,
+        tables,
+    };
+    (code, contents, report)
 }
 
 /// Ends the compilation of a source without an error, in which the routine at a place is called first. A name that is no number in a story is an
@@ -138,9 +159,9 @@ fn laid(
 ) -> Result<Ending, AllocError>
     ensures { IfOk result (λ t. seen t ≡ laid serial.now files.now.names main (work_of work) work.report) }
 {
-    let (names, code, report) = parts_of(work);
-    match values_of(alloc, &names)? {
-        Some(names) => linked(alloc, files, *serial, main, names, code, report),
+    let (code, contents, report) = parts_of(work);
+    match values_of(alloc, &contents.names)? {
+        Some(names) => linked(alloc, files, *serial, main, names, code, contents, report),
         None => failed(files, report, &Message::NotConstant),
     }
 }
@@ -161,9 +182,12 @@ fn linked(
     main: usize,
     names: Vec<Value>,
     code: Code,
+    contents: Contents,
     report: Messages,
 ) -> Result<Ending, AllocError>
-    ensures { IfOk result (λ t. seen t ≡ linked serial files.now.names main names.items code report (too_long (fields_of serial code) main code.finished [])) }
+    ensures { let strings = contents.strings in let tables = contents.tables in
+        IfOk result (λ t. seen t ≡ linked serial files.now.names main names.items code strings tables report
+        (too_long (fields_of serial code) main code.finished strings.bytes tables)) }
 {
     let scale = code.scale();
     let fields = HeaderFields {
@@ -171,7 +195,10 @@ fn linked(
         serial,
         scale,
     };
-    match story(alloc, fields, main, names, code, PagedArea::new(alloc)) {
+    let Contents {
+        strings, tables, ..
+    } = contents;
+    match story(alloc, fields, main, names, code, strings.into_area(), tables) {
         Ok(story) => compiled(story, report),
         Err(LinkFault::ReadableTooLong) => given_up(files, report, &Message::ReadableTooLong),
         Err(LinkFault::StoryTooLong) => {

@@ -278,19 +278,28 @@ impl<'a> Session<'a> {
         self.progress.site().is_between && self.conditionals.is_resting()
     }
 
-    /// How much there is so far of what each setting bounds, in the order of the settings: the bytes of the longest quoted token,
-    /// the names, the bytes of the code, and the references. Of the others the language has nothing yet. None is above its setting
-    /// unless a fatal message came.
+    /// How much there is so far of what each setting bounds, in the order of the settings: the bytes of the longest quoted token, the names, the words,
+    /// objects, verbs and actions, the bytes of grammar, properties, arrays, code and strings, and the references. Expressions, labels and low strings are
+    /// not told. None is above its setting unless a fatal message came.
     pub fn held(&self) -> [usize; 15]
         ensures counts { result ≡ held_by self.now }
         ensures within { IsBounded self.now → is_fatal self.now ≡ false → AreWithin result all_settings (chosen self.now.setup).settings }
     {
-        let work = &self.progress.work;
+        let output = &self.progress.work.output;
+        let tables = &output.tables;
         let mut held = [0; 15];
         held[0] = self.quoted;
-        held[2] = work.output.names.len();
-        held[12] = work.output.code.count();
-        held[14] = work.output.code.references();
+        held[2] = output.names.len();
+        held[4] = tables.dictionary.len();
+        held[5] = tables.world.object_count();
+        held[6] = tables.verbs.len();
+        held[7] = tables.actions.len();
+        held[8] = tables.verbs.size();
+        held[9] = tables.world.property_bytes();
+        held[10] = tables.arrays.size();
+        held[12] = output.code.count();
+        held[13] = output.strings.len();
+        held[14] = tables.references_with(output.code.references());
         held
     }
 

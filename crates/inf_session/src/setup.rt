@@ -3,8 +3,6 @@ ghost use Rattle.std.specs.Prelude.{◌≡◌, IfOk};
 ghost use Rattle.inf_reader.specs.Standing.{standing};
 ghost use Rattle.inf_session.specs.Choices.{chosen};
 ghost use Rattle.inf_session.specs.Session.{begun_with, tables_full};
-ghost use Rattle.inf_settings.specs.Settings.{number_of};
-ghost use Rattle.inf_settings.specs.declared.setting.Setting.TheVariants.{References};
 
 use crate::ending::FIRST_LINE;
 use inf_lexer::Stack;
@@ -15,8 +13,11 @@ use inf_text::CharSet;
 use inf_unit::messages::Messages;
 use std::alloc::{AllocError, Global};
 
-/// The references of each story in tables: the addresses of the property tables of its first four objects.
-const TABLE_REFERENCES: u32 = 4;
+/// The objects of each story, which are as many references: the addresses of their property tables.
+const FIRST_OBJECTS: u32 = 4;
+
+/// The bytes of these tables.
+const FIRST_PROPERTY_BYTES: u32 = 30;
 
 /// What the words of a command choose for a compilation: the character set of the sources, whether warnings are told, the
 /// settings, and the directories in which included files are looked for.
@@ -29,8 +30,8 @@ pub struct Setup<'a> {
 }
 
 impl Setup<'_> {
-    /// What there is before the first token of a main source, the first of these files. A setting that the references in tables
-    /// alone would pass is told at its first line, and ends the compilation.
+    /// What there is before the first token of a main source, the first of these files. A setting that the first
+    /// four objects alone would pass is told at its first line, and ends the compilation.
     pub(crate) fn begin(&self, alloc: Global, files: &Stack) -> Result<Progress, AllocError>
         ensures { IfOk result (λ progress. standing progress ≡ begun_with (chosen self.now) files.now.names) }
     {
@@ -41,11 +42,15 @@ impl Setup<'_> {
         Ok(progress)
     }
 
-    /// The setting that the references in tables alone would pass.
+    /// The first setting that the first four objects alone would pass.
     fn tables_full(&self) -> Option<Setting>
-        ensures { result ≡ tables_full (number_of References self.now.settings.now) }
+        ensures { result ≡ tables_full self.now.settings.now }
     {
-        if self.settings.of(Setting::References) < TABLE_REFERENCES {
+        if self.settings.of(Setting::Objects) < FIRST_OBJECTS {
+            Some(Setting::Objects)
+        } else if self.settings.of(Setting::PropertyTables) < FIRST_PROPERTY_BYTES {
+            Some(Setting::PropertyTables)
+        } else if self.settings.of(Setting::References) < FIRST_OBJECTS {
             Some(Setting::References)
         } else {
             None

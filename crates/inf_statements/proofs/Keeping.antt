@@ -26,7 +26,7 @@ use Rattle.inf_output.specs.declared.veneer.Veneer.{Veneer}
 use Rattle.inf_output.specs.declared.veneer.Veneer.TheVariants as veneer
 use Rattle.inf_output.specs.Limits.{Keeps, SameLimits}
 use Rattle.inf_output.specs.Output.{Code, Out, apart, behind, instruction, items_of, jumped, laid_all, marked, naming, nothing, to, together, ◌▸◌}
-use Rattle.inf_output.proofs.Keeping.{apart_keeps, instruction_keeps, jumped_keeps, laid_all_keeps, laid_keeps, marked_keeps, naming_keeps, nothing_keeps, of_both_keeps, referred_keeps, same_then, then3_keeps, then4_keeps, then_keeps, together_keeps, with_label_keeps}
+use Rattle.inf_output.proofs.Keeping.{apart_keeps, instruction_keeps, jumped_keeps, laid_all_keeps, laid_keeps, marked_keeps, naming_keeps, nothing_keeps, of_both_keeps, referred_keeps, same_then, then3_keeps, then4_keeps, then_keeps, together_keeps, with_label_keeps, with_text_keeps, with_word_keeps}
 use Rattle.inf_templates.specs.Limits.{PartKeeps}
 use Rattle.inf_templates.specs.Meaning.{Meaning as Means, meaning, part}
 use Rattle.inf_templates.specs.Parts.{Part, SP, TEMP, is, worked}
@@ -48,7 +48,10 @@ use Rattle.inf_statements.specs.Constructs.{Laying, begun, between, case_closed,
 use Rattle.inf_statements.specs.Effects.{Site, jump_laid, name_behind, place_laid, statement_code, statement_laid}
 use Rattle.inf_statements.specs.Labels.{NamedLabel}
 use Rattle.inf_statements.specs.Limits.{LayingKeeps}
-use Rattle.inf_statements.specs.Operands.{Settled, is_stack, settled, settled_by, settled_leaf, settled_name, with_settled}
+use Rattle.inf_statements.specs.Operands.{Settled, is_stack, leaf_added, settled, settled_by, settled_leaf, settled_name, settled_text, settled_word, with_settled}
+use Rattle.inf_dictionary.specs.declared.uses.WordUse.TheVariants as word_use
+use Rattle.inf_scanner.specs.declared.tokens.DictionaryWord.{DictionaryWord}
+use Rattle.inf_text.specs.Packing.{packed}
 use Rattle.inf_statements.specs.Printing.{called_with, ended as items_ended, ends_behind, item_code, items_printed, rule_code, text_at, text_opcode, trees_behind, veneer_called}
 use Rattle.inf_statements.specs.Statements.{alone, are_several, attribute_code, attribute_opcode, attributes_changed, attributes_given, given_by, jumped_to, moved, one_worked, plain, printed, rest, returned, returned_by, returned_number, spaced, style_of, styled_by, switched, tested, unless}
 use Rattle.inf_statements.specs.declared.constructs.Case.{Case}
@@ -482,20 +485,39 @@ alone_same : (b : Bool) (x y : Out × Operand) (o : Out) → SameLimits o x.0 �
 alone_same true x y o kx ky = kx
 alone_same false x y o kx ky = ky
 
-leaf_same : (locals : List Local) (tokens : List Spelled) (l : Leaf) (o : Out) → SameLimits o (settled_leaf locals tokens l o).0
-leaf_same locals tokens (leaf.Name at) o = name_same locals (name_at tokens at) o
-leaf_same locals tokens (leaf.Alone at) o =
+text_same : (text : Option (List TextItem)) (o : Out) → SameLimits o (settled_text text o).0
+text_same None o = (refl, refl)
+text_same (Some items) o = with_text_keeps (packed items []) o
+
+word_same : (word : DictionaryWord) (o : Out) → SameLimits o (settled_word word o).0
+word_same word o = with_word_keeps word.text word_use.Other word.is_plural o
+
+leaf_same : (set : CharSet) (locals : List Local) (tokens : List Spelled) (l : Leaf) (o : Out) → SameLimits o (settled_leaf set locals tokens l o).0
+leaf_same set locals tokens (leaf.Name at) o = name_same locals (name_at tokens at) o
+leaf_same set locals tokens (leaf.Alone at) o =
     alone_same (is_stack (bytes_at tokens at) (number_of (bytes_at tokens at) locals)) (o, operand.Variable 0) (settled_name locals (name_at tokens at) o) o
     (refl, refl) (name_same locals (name_at tokens at) o)
-leaf_same locals tokens (leaf.Number number) o = (refl, refl)
-leaf_same locals tokens (leaf.Char zscii) o = (refl, refl)
-leaf_same locals tokens (leaf.Word word) o = (refl, refl)
-leaf_same locals tokens (leaf.Text at) o = (refl, refl)
-leaf_same locals tokens (leaf.Action at) o = (refl, refl)
-leaf_same locals tokens (leaf.System at) o = (refl, refl)
+leaf_same set locals tokens (leaf.Number number) o = (refl, refl)
+leaf_same set locals tokens (leaf.Char zscii) o = (refl, refl)
+leaf_same set locals tokens (leaf.Word word) o = word_same word o
+leaf_same set locals tokens (leaf.Text at) o = text_same (text_at set tokens at) o
+leaf_same set locals tokens (leaf.Action at) o = (refl, refl)
+leaf_same set locals tokens (leaf.System at) o = (refl, refl)
 
-pub leaves_same : (locals : List Local) (tokens : List Spelled) (leaves : List Leaf) (s : Settled) → SameLimits s.out (settled locals tokens leaves s).out
-leaves_same locals tokens [] s = (refl, refl)
-leaves_same locals tokens (l ∷ leaves) s =
-    let next = with_settled (settled_leaf locals tokens l s.out) s.operands in
-    same_then s.out next.out (settled locals tokens leaves next).out (leaf_same locals tokens l s.out) (leaves_same locals tokens leaves next)
+pub leaves_same : (set : CharSet) (locals : List Local) (tokens : List Spelled) (leaves : List Leaf) (s : Settled) → SameLimits s.out (settled set locals tokens leaves s).out
+leaves_same set locals tokens [] s = (refl, refl)
+leaves_same set locals tokens (l ∷ leaves) s =
+    let next = with_settled (settled_leaf set locals tokens l s.out) s.operands in
+    same_then s.out next.out (settled set locals tokens leaves next).out (leaf_same set locals tokens l s.out) (leaves_same set locals tokens leaves next)
+
+-- a leaf by itself
+pub leaf_added_keeps : (set : CharSet) (tokens : List Spelled) (leaves : List Leaf) → Keeps (leaf_added set tokens leaves)
+leaf_added_keeps set tokens [] o = (refl, refl)
+leaf_added_keeps set tokens ((leaf.Text at) ∷ leaves) o = text_same (text_at set tokens at) o
+leaf_added_keeps set tokens ((leaf.Word word) ∷ leaves) o = word_same word o
+leaf_added_keeps set tokens ((leaf.Name at) ∷ leaves) o = (refl, refl)
+leaf_added_keeps set tokens ((leaf.Alone at) ∷ leaves) o = (refl, refl)
+leaf_added_keeps set tokens ((leaf.Number number) ∷ leaves) o = (refl, refl)
+leaf_added_keeps set tokens ((leaf.Char zscii) ∷ leaves) o = (refl, refl)
+leaf_added_keeps set tokens ((leaf.Action at) ∷ leaves) o = (refl, refl)
+leaf_added_keeps set tokens ((leaf.System at) ∷ leaves) o = (refl, refl)

@@ -21,8 +21,11 @@ use Rattle.inf_expressions.specs.declared.operators.PropertyPart.TheVariants as 
 use Rattle.inf_expressions.specs.declared.operators.Unary.TheVariants as unary
 use Rattle.inf_expressions.specs.declared.operators.Binary.TheVariants as binary
 use Rattle.inf_expressions.specs.Trees.{Tree, Leaf, One, Two}
+use Rattle.inf_output.specs.Strings.{no_strings}
 use Rattle.inf_output.specs.Output.{Code, Out, behind, full, instruction, jumped, laid, marked, naming, routine, used, with_label, ◌▸◌}
 use Rattle.inf_settings.specs.declared.setting.Setting.TheVariants as setting
+use Rattle.inf_settings.specs.Settings.{defaults}
+use Rattle.inf_tables.specs.Tables.{more, no_tables}
 use Rattle.inf_templates.specs.Parts.{calling, calling_routine}
 use Rattle.inf_templates.specs.Meaning.{and_branch, assign_alone, assign_value, call_of, meaning, related, single_tests, step_alone, step_value, test_branch, tests, triple_tests}
 
@@ -32,7 +35,7 @@ limits = record { labels = 1000; code = 262144; refs = 50000 }
 -- a routine of so many locals is open
 abbrev begun : ℕ → Out
 begun locals =
-    record { code = with_opened locals false (no_routines limits Four); names = no_names 10000 false; first = record { file = 0; line = 1 }; next = 0; past = None; kept = None }
+    record { code = with_opened locals false (no_routines limits Four); strings = no_strings 262144 Four; tables = no_tables defaults; names = no_names 10000 false; first = record { file = 0; line = 1 }; next = 0; past = None; kept = None }
 
 -- its bytes, where names stand for these numbers
 abbrev cell_bytes : List ℕ → Cell → List ℕ
@@ -155,13 +158,13 @@ abbrev short : Out
 short = record (begun 0) { code = with_opened 0 false (no_routines (record { labels = 0; code = 10; refs = 50 }) Four) }
 
 pub bytes_passed : full (new_line (new_line short)) ≡ Some setting.Code
-unfolding laid instruction
+unfolding laid instruction more
 bytes_passed = refl
 
 pub labels_passed : full ((new_line ▸ new_line ▸ marked (record { number = 0 }) ▸ new_line) short) ≡ Some setting.Labels
-unfolding laid instruction marked
+unfolding laid instruction marked more
 labels_passed = refl
 
 pub nothing_passed : full (new_line short) ≡ None
-unfolding laid instruction
+unfolding laid instruction more
 nothing_passed = refl

@@ -8,8 +8,10 @@ use inf_code::code::{Code, CodeLimits};
 use inf_expressions::{Forest, Root};
 use inf_names::symbols::Symbols;
 use inf_opcode::Opcode;
-use inf_output::{Output, Simple, Veneer};
+use inf_output::{Output, Simple, Strings, Veneer};
 use inf_scanner::Place;
+use inf_settings::settings::Settings;
+use inf_tables::Tables;
 use inf_templates::{
     Argument, Tasks, lay_alone, lay_branch, lay_call, lay_instruction, lay_routine_call, lay_value,
 };
@@ -229,9 +231,11 @@ pub(crate) fn answer(alloc: Global, way: &str, spelled: &str) -> Result<String, 
     let mut names = Symbols::new(alloc, most_names, false);
     let forest = trees(alloc, &mut names, spelled)?;
     let code = Code::new(alloc, limits, Scale::Four)?;
+    let strings = Strings::new(alloc, 262_144, Scale::Four);
+    let tables = Tables::new(alloc, &Settings::new());
     let mut laying = Laying {
         tasks: Tasks::new(alloc),
-        out: Output::new(code, names, HERE),
+        out: Output::new(code, strings, tables, names, HERE),
     };
     laying.out.open(alloc, 15, false)?;
     laying.lay(alloc, way, &forest)?;

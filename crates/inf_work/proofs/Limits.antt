@@ -6,6 +6,9 @@ use Rattle.inf_scanner.specs.declared.tokens.Place.{Place}
 use Rattle.inf_assembler.specs.declared.routines.RoutineKind.TheVariants as routine_kind
 use Rattle.inf_expressions.specs.declared.findings.Finding.{Finding}
 use Rattle.inf_expressions.specs.Rooted.{Rooted}
+use Rattle.inf_expressions.specs.Findings.{least_of_both}
+use Rattle.inf_expressions.specs.declared.units.Wanted.TheVariants as wanted
+use Rattle.inf_names.specs.declared.meanings.Meaning.{Meaning}
 use Rattle.inf_names.specs.declared.meanings.Meaning.TheVariants as meaning_of
 use Rattle.inf_names.specs.declared.symbols.Found.{Found}
 use Rattle.inf_names.specs.declared.symbols.Found.TheVariants as found
@@ -23,7 +26,7 @@ use Rattle.inf_unit.specs.declared.directives.Directive.TheVariants as directive
 use Rattle.inf_report.specs.Messages.{ConstantOutOfRange}
 use Rattle.inf_unit.specs.Messages.{Blame, FileNames}
 use Rattle.inf_unit.specs.Tokens.{Spelled}
-use Rattle.inf_unit.specs.Units.{acted as unit_acted, first_place, last_place, long_at, names_in, taken as unit_taken}
+use Rattle.inf_unit.specs.Units.{acted as unit_acted, first_place, last_place, long_at, name_order, names_in, taken as unit_taken}
 use Rattle.inf_unit.proofs.Cases.{of_both}
 use Rattle.inf_statements.specs.Constructs.{Laying, begun as construct_begun, between, changed, condition_label, ended, entered, looped_over, next_case, stepped}
 use Rattle.inf_statements.specs.Limits.{LayingKeeps}
@@ -34,8 +37,8 @@ use Rattle.inf_statements.specs.declared.constructs.Construct.{Construct}
 use Rattle.inf_statements.specs.declared.constructs.Kind.{Kind}
 use Rattle.inf_statements.specs.declared.constructs.Kind.TheVariants as kind
 use Rattle.inf_statements.specs.declared.constructs.Over.TheVariants as over
-use Rattle.inf_statements.proofs.Keeping.{alone_keep, begun_keeps as begun_construct_keeps, case_keeps, cases_keep, ended_keeps, joined_keeps, leaves_same, looped_over_keeps, statement_keeps, stepped_keeps, switched_keeps, tested_keeps}
-use Rattle.inf_work.specs.Actions.{Work, begun_at, carried_out, close, close_open, constant, cut, directive_end, directive_of_names, header_end, header_of, header_with, is_deep, is_replaced, named, nested, opened_with, opens, passed, replace, routine_declared, settled_of, sized, stopped, stub, stub_by, stub_code, stub_locals, stubbed, token_checked, told, took, trees_at, unit_ended}
+use Rattle.inf_statements.proofs.Keeping.{alone_keep, begun_keeps as begun_construct_keeps, case_keeps, cases_keep, ended_keeps, joined_keeps, leaf_added_keeps, leaves_same, looped_over_keeps, statement_keeps, stepped_keeps, switched_keeps, tested_keeps}
+use Rattle.inf_work.specs.Actions.{Work, begun_at, carried_out, close, close_open, constant, constant_added, constant_finding, constant_meaning, constant_of, constant_with, cut, directive_end, directive_of_names, finding_at, header_end, header_of, header_with, is_deep, is_replaced, name_finding, named, nested, opened_with, opens, operands_of, passed, replace, routine_declared, settled_of, sized, stopped, stub, stub_by, stub_code, stub_locals, stubbed, token_checked, told, took, trees_at, unit_ended}
 use Rattle.inf_work.specs.Acting.{act, acted}
 use Rattle.inf_work.specs.Findings.{header_fault, name_fault}
 use Rattle.inf_work.specs.Limits.{LimitsStay, SameLimits}
@@ -67,7 +70,7 @@ carried_part_same files first p None w =
     let s = settled_of w in
     let ready = record w { output = record s.out { first = first } } in
     out_same_then w.output s.out (part_effect p (trees_at (order_of p w) (wanted_of p) s.operands w) ready).output
-    (leaves_same w.locals w.unit.tokens w.unit.gathering.leaves (record { out = w.output; operands = [] }))
+    (leaves_same w.set w.locals w.unit.tokens w.unit.gathering.leaves (record { out = w.output; operands = [] }))
     (effect_same p (trees_at (order_of p w) (wanted_of p) s.operands w) ready)
 
 begun_part_same : (p : Part) (w : Work) → SameLimits w (part_begun p w)
@@ -133,9 +136,26 @@ close_same files place w =
 pub begun_at_same : (files : FileNames) (first : Place) (w : Work) → SameLimits w (begun_at files first w)
 begun_at_same files first w = begun_keeps w.output
 
+constant_added_same : (least : Option Finding) (w : Work) → SameLimits w (constant_added least w)
+constant_added_same None w = leaf_added_keeps w.set w.unit.tokens w.unit.gathering.leaves w.output
+constant_added_same (Some f) w = (refl, refl)
+
+constant_with_same : (files : FileNames) (first : Place) (name : Name) (m : Option Meaning) (found : Option Finding) (w : Work)
+    → SameLimits w (constant_with files first name m found w)
+constant_with_same files first name m found w =
+    let of_name = name_fault files name (declare_fault name.bytes w.output.names) in
+    let finding = constant_finding m found in
+    let least = least_of_both (name_finding (name_order w.unit.tokens) of_name) finding in
+    let d = record w { output = declared name.bytes name.place (constant_meaning m (least_of_both finding (name_finding 0 of_name))) w.output } in
+    same_then w d (constant_added least d) (declared_keeps name.bytes name.place (constant_meaning m (least_of_both finding (name_finding 0 of_name))) w.output)
+    (constant_added_same least d)
+
 constant_same : (files : FileNames) (first : Place) (names : List Name) (w : Work) → SameLimits w (constant files first names w)
 constant_same files first [] w = (refl, refl)
-constant_same files first (name ∷ names) w = declared_keeps name.bytes name.place _ w.output
+constant_same files first (name ∷ names) w =
+    let found = finding_at 0 wanted.Constant w in
+    let m = constant_of (map tree_in (trees_at 0 wanted.Constant (operands_of w) w)) w in
+    constant_with_same files first name m found w
 
 replace_same : (files : FileNames) (first : Place) (names : List Name) (w : Work) → SameLimits w (replace files first names w)
 replace_same files first [] w = (refl, refl)

@@ -3,6 +3,7 @@ use Rattle.inf_lexer.specs.Unread.{unread as unread_now}
 use Rattle.inf_sources.specs.Cursors.{Unfinished}
 use Rattle.inf_sources.specs.Open.{nesting}
 use Rattle.inf_sources.specs.Quoted.{is_quoted_kind}
+use Rattle.inf_output.specs.Limits.{bounds}
 use Rattle.inf_reader.proofs.Limits.{judged_taken_same}
 use Rattle.inf_session.proofs.Bounds.{quoted_within}
 use Rattle.inf_session.proofs.Standings.{read_always}
@@ -44,7 +45,7 @@ returns-clause-limits g c =
     let token = c.in-Ok.token in
     let same = judged_taken_same c.names-2.result.now.names (spelled_as token.kind c.spelling.result.now token.place) c.in_ok-judged.judged (reporting (standing c.args.self.now.progress) c.tell.new.report) in
     let is = c.in_ok-take_judged.ensures in
-    (ap (λ (s : Stand). s.work.output.names.limit) is ∙ same.0, ap (λ (s : Stand). s.work.output.code.limits) is ∙ same.1)
+    (ap (λ (s : Stand). s.work.output.names.limit) is ∙ same.0, ap (λ (s : Stand). bounds s.work.output) is ∙ same.1)
 
 pub returns-clause-longest : goal.returns-clause-longest
 returns-clause-longest g c = λ before.
