@@ -1,16 +1,13 @@
--- What the ends of compilations come to: one with an error has no story, and the lines of one without end with the line that says so.
-use Rattle.std.specs.Prelude.{not, ◌&&◌, ◌==◌, Result, Ok, Err, IfOk}
-use Rattle.std.proofs.Common.{◌≡◌, ℕ, [], Bool, true, false, cond, List, ◌++◌, append_assoc, Option, Some, None, refl, sym, ap, subst, ◌∙◌}
+-- What the ends of compilations come to: one with an error has no story, and the messages of another end with the line that tells none.
 use Rattle.std.proofs.lemmas.Bool.{eqb-true}
+use Rattle.std.proofs.Common.{◌≡◌, ℕ, List, [], ◌++◌, Bool, true, false, not, cond, Option, Some, None, ◌==◌, refl, ap, ◌∙◌}
+use Rattle.std.specs.Prelude.{◌&&◌}
+use Rattle.inf_report.specs.Reports.{closing}
 use Rattle.inf_layout.specs.Story.{is_too_long}
 use Rattle.inf_work.specs.Actions.{Work, begun_at}
 use Rattle.inf_unit.proofs.Cases.{of_both}
-use Rattle.inf_unit.specs.Messages.{FileNames, Reported}
+use Rattle.inf_unit.specs.Messages.{FileNames, Reported, with_closing}
 use Rattle.inf_unit.specs.Names.{main_of, values, with_all_undeclared}
-use Rattle.inf_report.specs.Reports.{Counts, closing, closing_lines}
-use Rattle.inf_symbol.specs.Sinks.{Takes}
-use Rattle.inf_session.specs.Delivered.{Delivers, EndsClean, IsClean}
-use Rattle.inf_session.specs.declared.compiled.Compiled.{Compiled}
 use Rattle.inf_session.specs.Ending.{Ending, begun, finished, is_clean, laid, refused}
 use Rattle.inf_session.specs.Session.{first_place}
 use Rattle.inf_session.specs.declared.compiled.Status.TheVariants as status
@@ -31,43 +28,41 @@ errors_none serial files w =
     let b = begun_at files first_place w in
     begun_none serial files b (with_all_undeclared files b.output.names.names b.report) (main_of b.output.names)
 
--- with no error the lines end with the one that says so
-abbrev CleanIf : Ending → Type 0
-CleanIf e = e.status ≡ status.Success → IsClean e.messages
+-- lines that end with the line that tells no error
+pub record IsClean (lines : List ℕ) : Type 0 where
+  pub front : List ℕ
+  pub warnings : ℕ
+  pub is : lines ≡ front ++ closing 0 warnings
 
-closing_clean : (lines : List ℕ) (over : Bool) (errors warnings : ℕ) → (not over && (errors == 0)) ≡ true → IsClean (lines ++ cond over [] (closing errors warnings))
-closing_clean lines true errors warnings e = absurd (cc-false e)
-  where
-    cc-false : false ≡ true → ⊥
-    cc-false never = cc
-closing_clean lines false errors warnings e =
-    record { before = lines; warnings = warnings; is = ap (λ n. lines ++ closing n warnings) (eqb-true errors 0 e) }
+-- each of two tests
+both_hold : (over : Bool) (zeros : Bool) → (not over && zeros) ≡ true → (over ≡ false) × (zeros ≡ true)
+both_hold true zeros e = cc
+both_hold false true e = (refl, refl)
+both_hold false false e = cc
 
-laid_clean : (serial : List ℕ) (files : FileNames) (main : ℕ) (w : Work) (r : Reported) → is_clean r ≡ true → CleanIf (laid serial files main w r)
+closes_clean : (r : Reported) → is_clean r ≡ true → IsClean (with_closing r).lines
+closes_clean r e =
+    let both = both_hold r.counts.is_over (r.counts.errors == 0) e in
+    record {
+      front = r.lines;
+      warnings = r.counts.warnings;
+      is = ap (λ b. r.lines ++ cond b [] (closing r.counts.errors r.counts.warnings)) both.0
+          ∙ ap (λ n. r.lines ++ closing n r.counts.warnings) (eqb-true r.counts.errors 0 both.1);
+    }
+
+abbrev EndsSo : Ending → Type 0
+EndsSo e = e.status ≡ status.Success → IsClean e.messages
+
+laid_clean : (serial : List ℕ) (files : FileNames) (main : ℕ) (w : Work) (r : Reported) → is_clean r ≡ true → EndsSo (laid serial files main w r)
 laid_clean serial files main w r clean =
-    of_both CleanIf (is_too_long main (values w.output.names.names) w.output.code.finished) _ _ (λ _ e. cc) (λ _ _. closing_clean r.lines r.counts.is_over r.counts.errors r.counts.warnings clean)
+    of_both EndsSo (is_too_long main (values w.output.names.names) w.output.code.finished) _ _ (λ _ e. cc) (λ _ e. closes_clean r clean)
 
-begun_clean : (serial : List ℕ) (files : FileNames) (w : Work) (r : Reported) (main : Option ℕ) → CleanIf (begun serial files w r main)
+begun_clean : (serial : List ℕ) (files : FileNames) (w : Work) (r : Reported) (main : Option ℕ) → EndsSo (begun serial files w r main)
 begun_clean serial files w r None = λ e. cc
 begun_clean serial files w r (Some main) =
-    of_both CleanIf (is_clean r) (laid serial files main w r) (refused r) (λ clean. laid_clean serial files main w r clean) (λ _ e. cc)
+    of_both EndsSo (is_clean r) (laid serial files main w r) (refused r) (λ clean. laid_clean serial files main w r clean) (λ _ e. cc)
 
-pub finished_clean : (serial : List ℕ) (files : FileNames) (w : Work) → (finished serial files w).status ≡ status.Success → IsClean (finished serial files w).messages
-finished_clean serial files w =
+pub success_clean : (serial : List ℕ) (files : FileNames) (w : Work) → (finished serial files w).status ≡ status.Success → IsClean (finished serial files w).messages
+success_clean serial files w =
     let b = begun_at files first_place w in
     begun_clean serial files b (with_all_undeclared files b.output.names.names b.report) (main_of b.output.names)
-
--- so what was taken in all ends so
-taken_clean : (e : List ℕ) (old new : Option (List ℕ)) → Takes old new e → IsClean e → EndsClean new
-taken_clean e None new taken clean = subst EndsClean (sym taken) tt
-taken_clean e (Some lines) new taken clean =
-    subst EndsClean (sym taken)
-    (record { before = lines ++ clean.before; warnings = clean.warnings; is = ap (λ xs. lines ++ xs) clean.is ∙ sym (append_assoc lines clean.before (closing 0 clean.warnings)) })
-
-delivered_clean : (serial : List ℕ) (files : FileNames) (w : Work) (c : Compiled) (old new : Option (List ℕ)) → Delivers (finished serial files w) c old new → c.status ≡ status.Success → EndsClean new
-delivered_clean serial files w c old new d success =
-    taken_clean (finished serial files w).messages old new d.messages (finished_clean serial files w (sym d.status ∙ success))
-
-pub all_clean : {E : Type 0} (serial : List ℕ) (files : FileNames) (w : Work) (r : Result Compiled E) (old new : Option (List ℕ)) → IfOk r (λ c. Delivers (finished serial files w) c old new) → IfOk r (λ c. c.status ≡ status.Success → EndsClean new)
-all_clean serial files w (Ok c) old new d = delivered_clean serial files w c old new d
-all_clean serial files w (Err fault) old new d = tt
