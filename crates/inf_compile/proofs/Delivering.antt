@@ -17,8 +17,8 @@ use Rattle.inf_session.specs.declared.compiled.Status.TheVariants as status
 use Rattle.inf_session.specs.declared.faults.Fault.{Fault}
 use Rattle.inf_session.specs.declared.faults.Fault.TheVariants as fault
 use Rattle.inf_session.specs.Delivered.{EndsClean}
-use Rattle.inf_session.specs.Faults.{IfStory}
-use Rattle.inf_compile.specs.Compiling.{Compiles, DeliversPart, OnlyStory, TakesPart, TakesStory, story_in}
+use Rattle.inf_session.specs.Faults.{Caused, IfStory}
+use Rattle.inf_compile.specs.Compiling.{Compiles, DeliversPart, HasCause, OnlyStory, TakesPart, TakesStory, story_in}
 
 -- what was compiled was delivered
 pub compiles : (s : Sources) (o : Choices) (serial name : List ℕ) (old new : Openings) (before after story_old story_new : Option (List ℕ)) (c : Compiled) (status : Status)
@@ -62,6 +62,7 @@ opened_by (Some source) s o name old new w = inr (record {
   turns = w.is_read.turns;
   names = w.names ∙ ap (λ (t : State). t.nesting.openings) (sym w.is_read.leads);
   closed = w.closed;
+  each = λ i le lt. (w.each i le lt).is_cut;
 })
 
 pub opened_whole : (s : Sources) (o p : Choices) (serial name other : List ℕ) (old new : Openings) (before after : Option (List ℕ)) (c : Compiled)
@@ -80,15 +81,32 @@ chosen_is a b v w s t d e of_set of_warnings of_settings of_directories =
     ∙ ap (λ (x : Settings). made b w x d) of_settings ∙ ap (λ (x : List (List ℕ)). made b w t x) of_directories
 
 -- where a story came, whole or in part, the messages end with the line that tells of no error
-pub clean_where_delivered : (P : ℕ → Type 0) (r : Result Status Fault) (c : Compiled) (after story_old story_new : Option (List ℕ)) → IfOk r (λ s. s ≡ c.status)
-    → IfErr r (λ fault. OnlyStory fault (λ n. P n × TakesPart (story_in c) n story_old story_new)) → (c.status ≡ status.Errors → c.story ≡ None) → (c.status ≡ status.Success → EndsClean after)
-    → MatchResult r (λ s. s ≡ status.Success → EndsClean after) (λ fault. IfStory fault (λ n. EndsClean after))
-clean_where_delivered P (Ok s) c after story_old story_new is told none clean = λ success. clean (sym is ∙ success)
-clean_where_delivered P (Err fault.Memory) c after story_old story_new is told none clean = tt
-clean_where_delivered P (Err (fault.Read name)) c after story_old story_new is told none clean = tt
-clean_where_delivered P (Err fault.Messages) c after story_old story_new is told none clean = tt
-clean_where_delivered P (Err (fault.Story n)) c after story_old story_new is told none clean = by_status c.status refl
+pub clean_where_delivered : (P : ℕ → Type 0) (r : Result Status Fault) (c : Compiled) (before after story_old story_new : Option (List ℕ)) → IfOk r (λ s. s ≡ c.status)
+    → IfErr r (λ fault. OnlyStory fault (λ n. P n × TakesPart (story_in c) n story_old story_new)) → (c.status ≡ status.Errors → c.story ≡ None)
+    → (c.status ≡ status.Success → EndsClean before after)
+    → MatchResult r (λ s. s ≡ status.Success → EndsClean before after) (λ fault. IfStory fault (λ n. EndsClean before after))
+clean_where_delivered P (Ok s) c before after story_old story_new is told none clean = λ success. clean (sym is ∙ success)
+clean_where_delivered P (Err fault.Memory) c before after story_old story_new is told none clean = tt
+clean_where_delivered P (Err (fault.Read name)) c before after story_old story_new is told none clean = tt
+clean_where_delivered P (Err fault.Messages) c before after story_old story_new is told none clean = tt
+clean_where_delivered P (Err (fault.Story n)) c before after story_old story_new is told none clean = by_status c.status refl
   where
-    by_status : (s : Status) → c.status ≡ s → EndsClean after
+    by_status : (s : Status) → c.status ≡ s → EndsClean before after
     by_status status.Success e = clean e
     by_status status.Errors e = absurd (subst (λ (o : Option (List ℕ)). TakesPart o n story_old story_new) (ap (option_map (λ v. v.items)) (none e)) told.1)
+
+-- a fault before the story, and one of its sink
+pub caused_before : {T : Type 0} (r : Result T Fault) (P : List ℕ → Type 0) (A : Type 0) (R : ℕ → Type 0) → IfErr r (λ f. Caused f P A) → IfErr r (λ f. HasCause f P A R)
+caused_before (Ok x) P A R h = tt
+caused_before (Err fault.Memory) P A R h = tt
+caused_before (Err (fault.Read name)) P A R h = h
+caused_before (Err fault.Messages) P A R h = h
+caused_before (Err (fault.Story n)) P A R h = absurd h
+
+pub caused_behind : {T : Type 0} (r : Result T Fault) (P : List ℕ → Type 0) (A : Type 0) (R X : ℕ → Type 0) → IfErr r (λ f. OnlyStory f (λ n. R n × X n))
+    → IfErr r (λ f. HasCause f P A R)
+caused_behind (Ok x) P A R X h = tt
+caused_behind (Err fault.Memory) P A R X h = tt
+caused_behind (Err (fault.Read name)) P A R X h = absurd h
+caused_behind (Err fault.Messages) P A R X h = absurd h
+caused_behind (Err (fault.Story n)) P A R X h = h.0

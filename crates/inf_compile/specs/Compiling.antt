@@ -1,5 +1,5 @@
 -- What a compilation leaves in its devices.
-use Rattle.std.specs.Prelude.{◌≡◌, ℕ, ◌<◌, List, length, take, Option, Some, None, option_map}
+use Rattle.std.specs.Prelude.{◌≡◌, ℕ, ◌<◌, List, length, take, Option, Some, None, option_map, string_bytes}
 use Rattle.inf_token.specs.Files.{Sources}
 use Rattle.inf_symbol.specs.Sinks.{Takes}
 use Rattle.inf_words.specs.Directories.{directories_of}
@@ -36,6 +36,13 @@ OnlyStory (fault.Story n) P = P n
 OnlyStory fault.Memory P = ⊥
 OnlyStory (fault.Read name) P = ⊥
 OnlyStory fault.Messages P = ⊥
+
+-- a fault of reading, with the name that it tells, one of writing messages, and one of the story, with the bytes that were written, have their causes
+abbrev pub HasCause : Fault → (List ℕ → Type 0) → Type 0 → (ℕ → Type 0) → Type 0
+HasCause fault.Memory reading writing telling = Unit {0}
+HasCause (fault.Read name) reading writing telling = reading (string_bytes name)
+HasCause fault.Messages reading writing telling = writing
+HasCause (fault.Story n) reading writing telling = telling n
 
 -- Status, messages and story are those of the outcome of the main source of a name: both sinks took just these bytes.
 pub record Compiles (sources : Sources) (o : Choices) (serial name : List ℕ) (status : Status) (messages_old messages_new story_old story_new : Option (List ℕ)) : Type 0 where

@@ -3,9 +3,8 @@ ghost use Rattle.inf_token.specs.Files.{Rose};
 ghost use Rattle.inf_words.specs.FileNames.{source_name};
 ghost use Rattle.inf_outcome.specs.Comes.{Begins, Heard, IsUnread, OpenedBy, OpenedPart};
 ghost use Rattle.inf_session.specs.Delivered.{EndsClean};
-ghost use Rattle.inf_session.specs.Session.{start};
-ghost use Rattle.inf_session.specs.Faults.{IfMessages, IfRead, IfStory, UnlessStory};
-ghost use Rattle.inf_compile.specs.Compiling.{Compiles, DeliversPart, OnlyStory, TakesPart, TakesStory, chosen_by, story_in};
+ghost use Rattle.inf_session.specs.Faults.{IfRead, IfStory, UnlessStory};
+ghost use Rattle.inf_compile.specs.Compiling.{Compiles, DeliversPart, HasCause, OnlyStory, TakesPart, TakesStory, chosen_by, story_in};
 
 use inf_outcome::translation::translate;
 use inf_session::compiled::{Compiled, Status};
@@ -68,27 +67,22 @@ pub fn compile<F: Files, M: Sink, S: Sink>(
     ensures begins { IsTrue (F.is_honest files.old) → OnErr result
         (Begins (F.sources files.old) (chosen_by options.now) date (source_name options.now.source) (M.taken messages.old) (M.taken messages.new)) }
 
-    // After a fault of reading it is all that comes with the tokens that were read, which is so of some number of turns from the start.
+    // After a fault of reading it is all that comes with the tokens that were read, of some number of turns from the start, and behind them
+    // there is a cause: the device failed, the innermost file is too long, or its inclusion names one file too many.
     ensures heard { let name = source_name options.now.source in
-        IsTrue (F.is_honest files.old) → IfErr result (λ fault. IfRead fault (λ told. Heard (F.sources files.old) (chosen_by options.now)
-        (start (F.sources files.old) (chosen_by options.now) name) (F.given files.old) (F.given files.new)
-        (F.openings files.old) (F.openings files.new) (M.taken messages.old) (M.taken messages.new))) }
+        IsTrue (F.is_honest files.old) → IfErr result (λ fault. IfRead fault (λ told. Heard (Rose (F.faults files.old) (F.faults files.new))
+        (F.sources files.old) (chosen_by options.now) name (F.openings files.old) (F.openings files.new) (M.taken messages.old) (M.taken messages.new) told)) }
 
-    // With any reader nothing is left open, no story comes with an error, and where a story came, whole or in part, the messages end
-    // with the line that tells of no error.
+    // With any reader nothing is left open, no story comes with an error, and where a story came, whole or in part, the messages that were
+    // written end with the line that tells of no error.
     ensures depth { F.depth files.new ≡ F.depth files.old }
     ensures errors { result ≡ Ok Status.Errors → S.taken story.new ≡ S.taken story.old }
-    ensures clean { MatchResult result (λ status. status ≡ Status.Success → EndsClean (M.taken messages.new))
-        (λ fault. IfStory fault (λ n. EndsClean (M.taken messages.new))) }
+    ensures clean { MatchResult result (λ status. status ≡ Status.Success → EndsClean (M.taken messages.old) (M.taken messages.new))
+        (λ fault. IfStory fault (λ n. EndsClean (M.taken messages.old) (M.taken messages.new))) }
 
-    // A fault has its cause.
-    ensures read { IfErr result (λ fault. IfRead fault (λ name.
-        IsUnread (F.faults files.old) (F.faults files.new) (F.given files.old) (F.given files.new)
-        (F.is_honest files.old) (F.openings files.old) (F.openings files.new))) }
-    ensures messages { IfErr result (λ fault.
-        IfMessages fault (Rose (M.failures messages.old) (M.failures messages.new))) }
-    ensures story { IfErr result (λ fault.
-        IfStory fault (λ n. Rose (S.failures story.old) (S.failures story.new))) }
+    // With any reader a fault has its cause.
+    ensures fault { IfErr result (λ fault. HasCause fault (λ name. IsUnread F.Files files.old files.new)
+        (Rose (M.failures messages.old) (M.failures messages.new)) (λ n. Rose (S.failures story.old) (S.failures story.new))) }
 
     // What the sinks took before a fault of the story's, and that its sink took nothing before another.
     ensures part { IsTrue (F.is_honest files.old) → IfErr result (λ fault. IfStory fault (λ n.

@@ -101,6 +101,7 @@ pub struct DiskFiles<'r, R: rt::Files> {
     /// What went wrong so far.
     pub trouble: Trouble,
     given: GivenBytes,
+    opened: u64,
 }
 
 impl<'r, R: rt::Files> DiskFiles<'r, R> {
@@ -111,6 +112,7 @@ impl<'r, R: rt::Files> DiskFiles<'r, R> {
         ensures faults { result.trouble.failures ≡ 0 }
         ensures reason { result.trouble.reason ≡ None }
         ensures given { result.given ≡ 0 }
+        ensures opened { result.opened ≡ 0 }
     {
         DiskFiles {
             system,
@@ -118,6 +120,7 @@ impl<'r, R: rt::Files> DiskFiles<'r, R> {
             open_files: Vec::new(alloc),
             trouble: Trouble::none(),
             given: GivenBytes::none(),
+            opened: 0,
         }
     }
 }
@@ -179,11 +182,14 @@ impl<R: rt::Files> Files for DiskFiles<'_, R> {
 
     ghost depth = { λ f. length f.open_files.items };
 
+    ghost opened = { λ f. f.opened };
+
     fn open(&mut self, name: &str) -> Result<(), OpenFault>
         ensures opens { OpensFile self.old.open_files.items self.new.open_files.items
             self.new.trouble.reason result }
         ensures depth { length self.new.open_files.items ≡ (if is_ok result
             then length self.old.open_files.items + 1 else length self.old.open_files.items) }
+        ensures opened { self.new.opened ≡ (if is_ok result then min (self.old.opened + 1) last_count else self.old.opened) }
         ensures cause { IsErrOf result OpenFault.Device →
             Rose self.old.trouble.failures self.new.trouble.failures }
         ensures faults { self.old.trouble.failures ≤ self.new.trouble.failures }
@@ -194,7 +200,9 @@ impl<R: rt::Files> Files for DiskFiles<'_, R> {
             Ok(file) => {
                 self.trouble.reason = None;
                 self.story.look_at(self.system, &file);
-                Ok(self.open_files.push(file)?)
+                self.open_files.push_reserved(file);
+                self.opened = self.opened.saturating_add(1);
+                Ok(())
             }
             Err(error) => {
                 let fault = open_fault(error.kind());
@@ -215,6 +223,7 @@ impl<R: rt::Files> Files for DiskFiles<'_, R> {
         ensures count { IfOk result (λ n. n ≤ length to.new) }
         ensures given { IfOk result (λ n. self.new.given ≡ min (self.old.given + n) last_count) }
         ensures depth { length self.new.open_files.items ≡ length self.old.open_files.items }
+        ensures opened { self.new.opened ≡ self.old.opened }
         ensures same { OnErr result (self.new.given ≡ self.old.given) }
         ensures cause { IsErr result → Rose self.old.trouble.failures self.new.trouble.failures }
         ensures reason { IsErr result → IsSome self.new.trouble.reason }
@@ -232,6 +241,7 @@ impl<R: rt::Files> Files for DiskFiles<'_, R> {
         ensures files { (file : _) ×
             (self.old.open_files.items ≡ self.new.open_files.items ++ file ∷ []) }
         ensures depth { length self.new.open_files.items + 1 ≡ length self.old.open_files.items }
+        ensures opened { self.new.opened ≡ self.old.opened }
         ensures faults { self.new.trouble.failures ≡ self.old.trouble.failures }
         ensures reason { self.new.trouble.reason ≡ self.old.trouble.reason }
         ensures given { self.new.given ≡ self.old.given }

@@ -1,10 +1,10 @@
 -- The names under which a file is looked for, one after the other.
-use Rattle.std.proofs.Common.{◌≡◌, ◌≤◌, ◌<◌, ◌⊎◌, inl, inr, ℕ, zero, suc, ◌+◌, Bool, true, false, cond, nat_le, List, [], ◌∷◌, length, drop, map, get_or, Option, Some, None, is_some, Result, Ok, Err, Bor, IsTrue, IfOk, ◌==◌, refl, sym, ap, subst, ◌∙◌, arith, add-one, drop-cons}
+use Rattle.std.proofs.Common.{◌≡◌, ◌≤◌, ◌<◌, ◌⊎◌, inl, inr, ℕ, zero, suc, ◌+◌, Bool, true, false, cond, nat_le, List, [], ◌∷◌, ◌++◌, length, length-append, drop, map, get_or, Option, Some, None, is_some, Result, Ok, Err, Bor, IsTrue, IfOk, ◌==◌, refl, sym, ap, subst, ◌∙◌, arith, add-one, drop-cons}
 use Rattle.std.specs.Prelude.{slice_get, IsSome}
 use Rattle.std.specs.List.{list_any}
 use Rattle.std.proofs.lemmas.Bool.{cond-false, ne_eqb, or_left, or_right, or_cases, le-leb}
-use Rattle.inf_token.specs.Files.{Sources, Openings, Rose}
-use Rattle.inf_lexer.specs.Entering.{Enters, IsEntered, Leaves, first_there, has_one_too_many, is_absent, with_opened, with_closed}
+use Rattle.inf_token.specs.Files.{Closes, Opening, Sources, Openings, Rose, opened}
+use Rattle.inf_lexer.specs.Entering.{ClosedAgain, Enters, IsEntered, Leaves, first_there, has_one_too_many, is_absent, with_opened, with_closed}
 use Rattle.inf_lexer.specs.Names.{Nest, behind_sign, candidates, has_sign, name_beside, name_in, names_in, number_of}
 use Rattle.inf_lexer.specs.Readers.{Reader}
 use Rattle.inf_lexer.specs.declared.enter_faults.EnterFault.{EnterFault}
@@ -131,6 +131,34 @@ enters_in {A} sources honest f xs i d name start before after old now new lexer 
     enters_at sources honest (map f xs) name i start before after old now new lexer (at_place A f xs i d lt ∙ ap Some (sym is)) same_openings same
     (λ h found. sym (later h) ∙ ap (first_there sources) (from_place A f xs i d lt) ∙ ap (λ n. first_there sources (n ∷ map f (drop (i + 1) xs))) (sym is)
     ∙ first_here sources name name (map f (drop (i + 1) xs)) found) e
+
+-- a source that was opened is closed at once
+front_same : (xs ys : List ℕ) (x y : ℕ) → xs ++ x ∷ [] ≡ ys ++ y ∷ [] → xs ≡ ys
+front_same [] [] x y e = refl
+front_same [] (b ∷ ys) x y e = absurd (omega (arith, ap length e, length-append ys (y ∷ [])))
+front_same (a ∷ xs) [] x y e = absurd (omega (arith, ap length e, length-append xs (x ∷ [])))
+front_same (a ∷ xs) (b ∷ ys) x y e =
+    let head : a ≡ b = cc in
+    let rest : xs ++ x ∷ [] ≡ ys ++ y ∷ [] = cc in
+    ap (λ n. n ∷ xs) head ∙ ap (λ l. b ∷ l) (front_same xs ys x y rest)
+
+pub closes_opened : (name : List ℕ) (old mid new : Openings) → mid ≡ with_opened name old → Closes mid new → new ≡ with_closed name old
+closes_opened name old mid new opens closes =
+    ap (λ (all : List Opening). record { all = all; open_places = new.open_places }) (closes.same ∙ ap (λ (o : Openings). o.all) opens)
+    ∙ ap (λ (places : List ℕ). record { all = old.all ++ opened name ∷ []; open_places = places })
+    (front_same new.open_places old.open_places closes.place (length old.all) (sym closes.innermost ∙ ap (λ (o : Openings). o.open_places) opens))
+
+-- one that is there and was one too many, likewise
+pub closed_in : {A : Type 0} (sources : Sources) (known : List (List ℕ)) (f : A → List ℕ) (xs : List A) (i : ℕ) (d : A) (name : List ℕ) (start before after : Openings)
+    → i < length xs → name ≡ f (get_or xs i d) → before ≡ start → first_there sources (map f (drop i xs)) ≡ first_there sources (map f xs)
+    → ClosedAgain sources known (name ∷ []) before after → ClosedAgain sources known (map f xs) start after
+closed_in {A} sources known f xs i d name start before after lt is same later c = record {
+  name = c.name;
+  is_first = sym later ∙ ap (first_there sources) (from_place A f xs i d lt) ∙ ap (λ n. first_there sources (n ∷ map f (drop (i + 1) xs))) (sym is)
+      ∙ first_here sources name c.name (map f (drop (i + 1) xs)) c.is_first;
+  is_too_many = c.is_too_many;
+  is_closed = c.is_closed ∙ ap (λ o. with_closed c.name o) same;
+}
 
 -- the names in some directories
 

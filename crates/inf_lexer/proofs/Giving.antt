@@ -1,7 +1,7 @@
 -- What the innermost source gives, reading by reading.
 use Rattle.std.proofs.Common.{◌≡◌, ℕ, suc, ◌+◌, ◌-◌, ◌≤◌, zero, List, [], ◌∷◌, ◌++◌, length, take, drop, get_or, Bool, true, false, IsTrue, Some, unwrap_or, refl, sym, ap, subst, ◌∙◌, arith, append-nil, append_assoc, length-append}
 use Rattle.std.specs.Prelude.{slice_get, slice_set}
-use Rattle.std.proofs.lemmas.List.{length-set, drop-take, drop-drop}
+use Rattle.std.proofs.lemmas.List.{length-set, drop-take, drop-drop, take-append-le}
 use Rattle.std.proofs.Math.Seq.{get_or-append_seam}
 use Rattle.inf_token.specs.Files.{Opening, Openings, Sources, GivesInnermost, opened, after_bytes}
 use Rattle.inf_lexer.specs.Unread.{innermost_place, innermost, unread_of, unread, Gave, View, ReadsOn}
@@ -139,5 +139,5 @@ reads_first is_honest sources old new before after bytes empty on gave left give
 pub gave_same : (sources : Sources) (old new : Openings) → new ≡ old → Gave sources old new []
 gave_same sources old new e = subst (λ o. Gave sources old o []) (sym e) (gave_nothing sources old)
 
-pub whole_window : (count : ℕ) (buffer : List ℕ) → take (count - 0) buffer ≡ take count buffer
-whole_window count buffer = ap (λ n. take n buffer) (omega arith)
+pub whole_window : (count : ℕ) (front back : List ℕ) → count ≤ length front → take (count - 0) (front ++ back) ≡ take count front
+whole_window count front back few = ap (λ n. take n (front ++ back)) (omega arith) ∙ take-append-le count front back few

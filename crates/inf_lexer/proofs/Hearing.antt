@@ -1,7 +1,7 @@
 -- What a lexer hears of a source, step by step.
 use Rattle.std.proofs.Common.{◌≡◌, ℕ, List, [], ◌++◌, Bool, true, false, cond, IsTrue, refl, sym, ap, subst, ◌∙◌, arith, append_assoc, length-append}
 use Rattle.inf_token.specs.Files.{Sources, Openings}
-use Rattle.inf_lexer.specs.Unread.{View, ReadsOn, Heard, Along, CanFollow, Ends, behind_view, to_come, unread}
+use Rattle.inf_lexer.specs.Unread.{View, ReadsOn, Heard, Along, CanFollow, Ends, StillGives, behind_view, to_come, unread}
 use Rattle.inf_lexer.proofs.Giving.{gave_nothing, gave_more}
 
 -- no bytes
@@ -108,3 +108,6 @@ ends_on h g s t start old new first before after a e f b honest ends =
 
 pub ends_taken : (s : Sources) (o : Openings) (after taken : View) → taken.is_over ≡ after.is_over → Ends s o after → Ends s o taken
 ends_taken s o after taken over ends = λ is. ends (sym over ∙ is)
+
+pub still_taken : (o : Openings) (after taken : View) → taken.is_over ≡ after.is_over → StillGives o after → StillGives o taken
+still_taken o after taken over still = λ is. still (sym over ∙ is)

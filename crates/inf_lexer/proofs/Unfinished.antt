@@ -1,5 +1,5 @@
 -- A token that is not ended by the bytes that were given.
-use Rattle.std.proofs.Common.{◌≡◌, ℕ, ◌+◌, ◌≤◌, ◌<◌, List, [], ◌∷◌, ◌++◌, length, Bool, true, false, cond, IsTrue, refl, sym, ap, subst, ◌∙◌, arith, append_assoc}
+use Rattle.std.proofs.Common.{◌≡◌, ◌⊎◌, inl, inr, ℕ, ◌+◌, ◌-◌, ◌≤◌, ◌<◌, List, [], ◌∷◌, ◌++◌, length, Bool, true, false, cond, IsTrue, refl, sym, ap, subst, ◌∙◌, arith, append_assoc}
 use Rattle.inf_characters.specs.declared.characters.CharSet.{CharSet}
 use Rattle.inf_token.specs.Files.{Sources, Openings}
 use Rattle.inf_scanner.specs.Scanning.{Found, Sight, begun, find, goes_on}
@@ -11,9 +11,9 @@ use Rattle.inf_lexer.specs.Readers.{StaysUnfinished}
 use Rattle.inf_lexer.specs.Unread.{CanFollow, Heard, ReadsOn, View, to_come, unread}
 use Rattle.inf_lexer.proofs.Hearing.{reads_by}
 
-empty_is : (n : ℕ) (xs : List ℕ) → n ≡ n + length xs → xs ≡ []
-empty_is n [] e = refl
-empty_is n (x ∷ xs) e = absurd (omega (arith, e))
+past_of : (before after some : ℕ) → before ≤ 16777216 → after ≡ before + some → (after ≡ before) ⊎ ((before ≡ 16777216) × (after ≡ 16777217)) → some ≡ after - 16777216
+past_of before after some few is (inl same) = omega (arith, few, is, same)
+past_of before after some few is (inr last) = omega (arith, is, last.0, last.1)
 
 -- the end was not read before where it was not read since
 going_still : (before after : Bool) (bytes : List ℕ) → (before ≡ true → (bytes ≡ []) × (after ≡ true)) → after ≡ false → before ≡ false
@@ -23,11 +23,11 @@ going_still false after bytes stops e = refl
 -- Nothing was in view any more and nothing more was given.
 pub stays_unfinished : (h g : Bool) (s t : Sources) (old mid new : Openings) (before between after : View) (set : CharSet) (limit : ℕ) (lines : Lines) (at : State) (seen : Sight)
     → Heard Found h s old mid before between (find set limit at seen) (find set limit state.Gap (begun lines)) → g ≡ h → t ≡ s → ReadsOn g t mid new between after
-    → goes_on at ≡ true → (between.left ≡ []) × (between.is_over ≡ false) → after.given ≡ between.given → IsTrue h
-    → StaysUnfinished set limit lines (to_come s old before) (unread s new)
-stays_unfinished h g s t old mid new before between after set limit lines at seen heard e f reads opens refused same honest =
+    → goes_on at ≡ true → (between.left ≡ []) × (between.is_over ≡ false) → between.given ≤ 16777216
+    → (after.given ≡ between.given) ⊎ ((between.given ≡ 16777216) × (after.given ≡ 16777217)) → IsTrue h
+    → StaysUnfinished set limit lines (to_come s old before) (after.given - 16777216) (unread s new)
+stays_unfinished h g s t old mid new before between after set limit lines at seen heard e f reads opens refused few last honest =
     let r = reads_by g h t s mid new between after e f reads in
-    let none : r.bytes ≡ [] = empty_is between.given r.bytes (sym same ∙ r.given) in
     let going : before.is_over ≡ false = going_still before.is_over between.is_over heard.bytes heard.stops refused.1 in
     let found : (behind : List ℕ) → find set limit at seen behind ≡ find set limit state.Gap (begun lines) ((before.left ++ heard.bytes) ++ behind) = λ behind.
     ap (λ l. find set limit at seen (l ++ behind)) (sym refused.0)
@@ -36,9 +36,11 @@ stays_unfinished h g s t old mid new before between after set limit lines at see
     let more = takes_more set limit at seen opens in
     record {
       bytes = before.left ++ heard.bytes;
+      beyond = r.bytes;
       whole = ap (λ b. before.left ++ cond b [] (unread s old)) going
-          ∙ ap (λ l. before.left ++ l) ((heard.gave honest).next ∙ ap (λ l. heard.bytes ++ l) ((r.gave honest).next ∙ ap (λ l. l ++ unread s new) none))
-          ∙ sym (append_assoc before.left heard.bytes (unread s new));
+          ∙ ap (λ l. before.left ++ l) ((heard.gave honest).next ∙ ap (λ l. heard.bytes ++ l) (r.gave honest).next)
+          ∙ sym (append_assoc before.left heard.bytes (r.bytes ++ unread s new));
+      are_past = past_of between.given after.given (length r.bytes) few r.given last;
       is_unfinished = record {
         all = λ behind. subst (λ (x : Found). length x.rest ≤ length behind) (found behind) (rest_within set limit at seen behind);
         more = more.more;

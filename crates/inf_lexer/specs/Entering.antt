@@ -1,7 +1,7 @@
 -- What comes of entering a file, with a reader that keeps to its sources.
-use Rattle.std.specs.Prelude.{◌≡◌, ℕ, ◌<◌, ◌≤◌, ◌⊎◌, List, [], ◌∷◌, ◌++◌, length, nat_le, Option, Some, None, is_some, slice_get, Result, Ok, Err, Bool, true, false, IsTrue, if◌then◌else◌}
+use Rattle.std.specs.Prelude.{◌≡◌, ℕ, ◌+◌, min, ◌<◌, ◌≤◌, ◌⊎◌, List, [], ◌∷◌, ◌++◌, length, nat_le, Option, Some, None, is_some, slice_get, Result, Ok, Err, Bool, true, false, IsTrue, if◌then◌else◌}
 use Rattle.std.specs.List.{list_any}
-use Rattle.inf_token.specs.Files.{Sources, Openings, opened}
+use Rattle.inf_token.specs.Files.{Sources, Openings, last_count, opened}
 use Rattle.inf_lexer.specs.Names.{Nest, entered, number_of}
 use Rattle.inf_lexer.specs.Readers.{Reader, at_front}
 use Rattle.inf_lexer.specs.declared.enter_faults.EnterFault.{EnterFault}
@@ -44,6 +44,13 @@ pub record ClosedAgain (sources : Sources) (known names : List (List ℕ)) (befo
   pub is_first : first_there sources names ≡ Some name
   pub is_too_many : 65535 ≤ number_of name known
   pub is_closed : after ≡ with_closed name before
+
+-- One of these names comes behind 65,535 others. A source was opened, as the reader counts, and was closed at once; with an honest
+-- reader it is the first of the names that is there.
+pub record WasTooMany (sources : Sources) (is_honest : Bool) (known names : List (List ℕ)) (before after : Openings) (count_before count_now : ℕ) : Type 0 where
+  pub is_named : has_one_too_many known names ≡ true
+  pub counted : min (count_before + 1) last_count ≤ count_now
+  pub is_closed : IsTrue is_honest → ClosedAgain sources known names before after
 
 -- what an honest reader's openings are where no source of these names was entered
 abbrev pub Leaves : Sources → List (List ℕ) → List (List ℕ) → Openings → Openings → Result Reader EnterFault → Type 0

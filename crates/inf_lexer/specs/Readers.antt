@@ -53,8 +53,11 @@ pub record IsUnfinished (set : CharSet) (limit : ℕ) (lines : Lines) (bytes : L
   pub more : List ℕ
   pub takes : length (next_token set limit lines (bytes ++ more)).rest < length more
 
--- What is still to come, but for what was not given, does not end the next token.
-pub record StaysUnfinished (set : CharSet) (limit : ℕ) (lines : Lines) (coming unread : List ℕ) : Type 0 where
+-- What is still to come, but for what was not given and the bytes past as many as a source may have, of which so many were given, does
+-- not end the next token.
+pub record StaysUnfinished (set : CharSet) (limit : ℕ) (lines : Lines) (coming : List ℕ) (past : ℕ) (unread : List ℕ) : Type 0 where
   pub bytes : List ℕ
-  pub whole : coming ≡ bytes ++ unread
+  pub beyond : List ℕ
+  pub whole : coming ≡ bytes ++ (beyond ++ unread)
+  pub are_past : length beyond ≡ past
   pub is_unfinished : IsUnfinished set limit lines bytes

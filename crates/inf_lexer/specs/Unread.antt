@@ -1,5 +1,5 @@
 -- What a reader of files has not given yet of its innermost source.
-use Rattle.std.specs.Prelude.{◌≡◌, ℕ, ◌+◌, ◌-◌, List, [], ◌++◌, length, drop, get_or, unwrap_or, slice_get, Bool, true, IsTrue, if◌then◌else◌}
+use Rattle.std.specs.Prelude.{◌≡◌, ℕ, ◌+◌, ◌-◌, List, [], ◌++◌, length, drop, get_or, unwrap_or, slice_get, Bool, true, false, IsTrue, if◌then◌else◌}
 use Rattle.inf_token.specs.Files.{Sources, Opening, Openings, opened}
 
 -- the place of the innermost source among the openings
@@ -66,6 +66,10 @@ to_come sources o view = view.left ++ behind_view sources o view
 -- Where the end was read, the innermost source has nothing more, and it is known that it was read to its end.
 abbrev pub Ends : Sources → Openings → View → Type 0
 Ends sources o view = view.is_over ≡ true → (unread sources o ≡ []) × ((innermost o).is_read_out ≡ true)
+
+-- Where it was not, it is known that the source was not read to its end.
+abbrev pub StillGives : Openings → View → Type 0
+StillGives o view = view.is_over ≡ false → (innermost o).is_read_out ≡ false
 
 -- nothing more is to come
 abbrev pub IsAtEnd : View → Type 0

@@ -1,7 +1,7 @@
 //! The tokens of an open source, one after another.
 ghost use Rattle.std.specs.Prelude.{◌≡◌, ◌+◌, ◌-◌, ◌<◌, ◌≤◌, ◌⊎◌, [], false, true, length, min, is_err, IsTrue, IsErrOf, IfOk, OnOk, Err};
 ghost use Rattle.inf_token.specs.Files.{Rose, last_count};
-ghost use Rattle.inf_lexer.specs.Unread.{Along, Ends, Heard, to_come, unread};
+ghost use Rattle.inf_lexer.specs.Unread.{Along, Ends, Heard, StillGives, to_come, unread};
 ghost use Rattle.inf_scanner.specs.Scanning.{Found, begun, find, is_quoted, sight};
 ghost use Rattle.inf_scanner.specs.Tokens.{Read, next_token};
 ghost use Rattle.inf_lexer.specs.Readers.{StaysUnfinished, Took, at_front, read_out};
@@ -31,6 +31,7 @@ fn scan<F: Files>(
         (λ rest. record { ending = e; seen = sight seen.new; rest = rest }) (find set limit State.Gap (begun seen.old.lines))) }
     ensures end { IsTrue (F.is_honest files.old) → Ends (F.sources files.old) (F.openings files.old) window.old →
         Ends (F.sources files.old) (F.openings files.new) window.new }
+    ensures still { IsTrue (F.is_honest files.old) → StillGives (F.openings files.old) window.old → StillGives (F.openings files.new) window.new }
     ensures gave { IsTrue (F.is_honest files.old) →
         Along (F.sources files.old) (F.openings files.old) (F.openings files.new) window.old.given window.new.given }
     ensures room { OnOk result (seen.new.lines.line + length window.new.left ≤ window.new.given + 1) }
@@ -39,13 +40,15 @@ fn scan<F: Files>(
     ensures more { window.old.given ≤ window.new.given }
     ensures cause { IsErrOf result LexFault.Read →
         Rose (F.faults files.old) (F.faults files.new) ⊎ (16777216 < window.new.given) }
-    ensures unfinished { IsErrOf result LexFault.Read → window.new.given ≤ 16777216 → IsTrue (F.is_honest files.old) →
+    ensures unfinished { IsErrOf result LexFault.Read → IsTrue (F.is_honest files.old) →
         StaysUnfinished set limit seen.old.lines (to_come (F.sources files.old) (F.openings files.old) window.old)
-        (unread (F.sources files.old) (F.openings files.new)) }
+        (window.new.given - 16777216) (unread (F.sources files.old) (F.openings files.new)) }
+    ensures on { IsErrOf result LexFault.Read → window.new.is_over ≡ false }
     ensures memory { IsErrOf result LexFault.Memory → IsTrue (F.is_honest files.old) →
         is_quoted (find set limit State.Gap (begun seen.old.lines) (to_come (F.sources files.old) (F.openings files.old) window.old)).ending ≡ true }
     ensures given { min (F.given files.old + (window.new.given - window.old.given)) last_count ≤ F.given files.new }
     ensures depth { F.depth files.new ≡ F.depth files.old }
+    ensures opened { F.opened files.new ≡ F.opened files.old }
     ensures faults { F.faults files.old ≤ F.faults files.new }
     ensures sources { F.sources files.new ≡ F.sources files.old }
     ensures honesty { F.is_honest files.new ≡ F.is_honest files.old }
@@ -147,6 +150,8 @@ impl Lexer {
         ensures took { IfOk result (λ token. Took token.kind self.old.window self.new.window self.new.kept) }
         ensures end { IsTrue (F.is_honest files.old) → Ends (F.sources files.old) (F.openings files.old) self.old.window →
             Ends (F.sources files.old) (F.openings files.new) self.new.window }
+        ensures still { IsTrue (F.is_honest files.old) → StillGives (F.openings files.old) self.old.window →
+            StillGives (F.openings files.new) self.new.window }
         ensures file { IfOk result (λ token. token.place.file ≡ self.old.file) }
         ensures same { (self.new.set ≡ self.old.set) × (self.new.limit ≡ self.old.limit) × (self.new.file ≡ self.old.file) }
 
@@ -161,15 +166,17 @@ impl Lexer {
         // A refusal has its cause, and is the last answer but `Read`.
         ensures cause { IsErrOf result LexFault.Read → (self.old.has_failed ≡ true)
             ⊎ (Rose (F.faults files.old) (F.faults files.new) ⊎ (16777216 < self.new.window.given)) }
-        ensures unfinished { self.old.has_failed ≡ false → IsErrOf result LexFault.Read → self.new.window.given ≤ 16777216 → IsTrue (F.is_honest files.old) →
+        ensures unfinished { self.old.has_failed ≡ false → IsErrOf result LexFault.Read → IsTrue (F.is_honest files.old) →
             StaysUnfinished self.old.set self.old.limit self.old.lines (to_come (F.sources files.old) (F.openings files.old) self.old.window)
-            (unread (F.sources files.old) (F.openings files.new)) }
+            (self.new.window.given - 16777216) (unread (F.sources files.old) (F.openings files.new)) }
+        ensures on { self.old.has_failed ≡ false → IsErrOf result LexFault.Read → self.new.window.is_over ≡ false }
         ensures memory { IsErrOf result LexFault.Memory → IsTrue (F.is_honest files.old) →
             is_quoted (find self.old.set self.old.limit State.Gap (begun self.old.lines)
             (to_come (F.sources files.old) (F.openings files.old) self.old.window)).ending ≡ true }
         ensures failed { self.new.has_failed ≡ is_err result }
         ensures over { self.old.has_failed ≡ true → result ≡ Err LexFault.Read }
         ensures depth { F.depth files.new ≡ F.depth files.old }
+        ensures opened { F.opened files.new ≡ F.opened files.old }
         ensures faults { F.faults files.old ≤ F.faults files.new }
         ensures sources { F.sources files.new ≡ F.sources files.old }
         ensures honesty { F.is_honest files.new ≡ F.is_honest files.old }

@@ -1,10 +1,10 @@
 //! The files that are open, one inside the other.
-ghost use Rattle.std.specs.Prelude.{◌≡◌, ◌+◌, ◌<◌, ◌≤◌, ◌⊎◌, ◌∷◌, [], true, false, length, map, if◌then◌else◌, slice_get, nat_le, is_ok, IsTrue, IsErrOf, IfOk, OnErr, Err};
+ghost use Rattle.std.specs.Prelude.{◌≡◌, ◌+◌, ◌<◌, ◌≤◌, ◌⊎◌, ◌∷◌, [], true, false, length, map, min, if◌then◌else◌, slice_get, nat_le, is_ok, IsTrue, IsErrOf, IfOk, OnErr, Err};
 ghost use Rattle.std.specs.Option.{option_copied};
 ghost use Rattle.std.specs.String.{string_bytes};
-ghost use Rattle.inf_token.specs.Files.{Rose, Closes};
+ghost use Rattle.inf_token.specs.Files.{Rose, Closes, last_count};
 ghost use Rattle.inf_lexer.specs.Names.{can_name, candidates, innermost_name, left, name_in, number_of};
-ghost use Rattle.inf_lexer.specs.Entering.{Enters, Leaves, has_one_too_many, is_absent, is_of_opening};
+ghost use Rattle.inf_lexer.specs.Entering.{Enters, Leaves, WasTooMany, is_absent, is_of_opening};
 
 use crate::enter_faults::EnterFault;
 use crate::include_names::{fit_name, name_beside, name_in, without_sign};
@@ -86,7 +86,9 @@ impl Stack {
         ensures empty { IsErrOf result EnterFault.BadName → length name.now ≡ 0 }
         ensures full { IsErrOf result EnterFault.TooDeep → 16 ≤ length self.old.open_files }
         ensures cause { IsErrOf result EnterFault.Device → Rose (F.faults files.old) (F.faults files.new)
-            ⊎ (has_one_too_many self.old.names (name.now ∷ []) ≡ true) }
+            ⊎ WasTooMany (F.sources files.old) (F.is_honest files.old) self.old.names (name.now ∷ [])
+            (F.openings files.old) (F.openings files.new) (F.opened files.old) (F.opened files.new) }
+        ensures opened { min (F.opened files.old + (if is_ok result then 1 else 0)) last_count ≤ F.opened files.new }
         ensures depth { F.depth files.new ≡ (if is_ok result then F.depth files.old + 1 else F.depth files.old) }
         ensures faults { F.faults files.old ≤ F.faults files.new }
         ensures given { F.given files.new ≡ F.given files.old }
@@ -132,8 +134,9 @@ impl Stack {
         ensures unfit { IsErrOf result EnterFault.BadName → can_name text.now ≡ false }
         ensures full { IsErrOf result EnterFault.TooDeep → 16 ≤ length self.old.open_files }
         ensures cause { IsErrOf result EnterFault.Device → Rose (F.faults files.old) (F.faults files.new)
-            ⊎ (has_one_too_many self.old.names
-            (candidates (map (λ d. d.now) directories.now) (innermost_name self.old) text.now) ≡ true) }
+            ⊎ WasTooMany (F.sources files.old) (F.is_honest files.old) self.old.names (candidates (map (λ d. d.now) directories.now) (innermost_name self.old) text.now)
+            (F.openings files.old) (F.openings files.new) (F.opened files.old) (F.opened files.new) }
+        ensures opened { min (F.opened files.old + (if is_ok result then 1 else 0)) last_count ≤ F.opened files.new }
         ensures depth { F.depth files.new ≡ (if is_ok result then F.depth files.old + 1 else F.depth files.old) }
         ensures faults { F.faults files.old ≤ F.faults files.new }
         ensures given { F.given files.new ≡ F.given files.old }
@@ -180,7 +183,9 @@ impl Stack {
         ensures leaves { IsTrue (F.is_honest files.old) → Leaves (F.sources files.old) self.old.names
             (map (λ d. name_in d.now file.now) directories.now) (F.openings files.old) (F.openings files.new) result }
         ensures cause { IsErrOf result EnterFault.Device → Rose (F.faults files.old) (F.faults files.new)
-            ⊎ (has_one_too_many self.old.names (map (λ d. name_in d.now file.now) directories.now) ≡ true) }
+            ⊎ WasTooMany (F.sources files.old) (F.is_honest files.old) self.old.names (map (λ d. name_in d.now file.now) directories.now)
+            (F.openings files.old) (F.openings files.new) (F.opened files.old) (F.opened files.new) }
+        ensures opened { min (F.opened files.old + (if is_ok result then 1 else 0)) last_count ≤ F.opened files.new }
         ensures named { is_of_opening result ≡ true }
         ensures depth { F.depth files.new ≡ (if is_ok result then F.depth files.old + 1 else F.depth files.old) }
         ensures faults { F.faults files.old ≤ F.faults files.new }
@@ -207,7 +212,9 @@ impl Stack {
         ensures leaves { IsTrue (F.is_honest files.old) → Leaves (F.sources files.old) self.old.names
             (string_bytes name ∷ []) (F.openings files.old) (F.openings files.new) result }
         ensures cause { IsErrOf result EnterFault.Device → Rose (F.faults files.old) (F.faults files.new)
-            ⊎ (has_one_too_many self.old.names (string_bytes name ∷ []) ≡ true) }
+            ⊎ WasTooMany (F.sources files.old) (F.is_honest files.old) self.old.names (string_bytes name ∷ [])
+            (F.openings files.old) (F.openings files.new) (F.opened files.old) (F.opened files.new) }
+        ensures opened { min (F.opened files.old + (if is_ok result then 1 else 0)) last_count ≤ F.opened files.new }
         ensures named { is_of_opening result ≡ true }
         ensures depth { F.depth files.new ≡ (if is_ok result then F.depth files.old + 1 else F.depth files.old) }
         ensures faults { F.faults files.old ≤ F.faults files.new }
@@ -270,6 +277,7 @@ impl Stack {
         ensures closes { IsTrue (F.is_honest files.old) → Closes (F.openings files.old) (F.openings files.new) }
         ensures left { self.new ≡ left self.old }
         ensures depth { F.depth files.new + 1 ≡ F.depth files.old }
+        ensures opened { F.opened files.new ≡ F.opened files.old }
         ensures faults { F.faults files.new ≡ F.faults files.old }
         ensures given { F.given files.new ≡ F.given files.old }
         ensures sources { F.sources files.new ≡ F.sources files.old }

@@ -1,7 +1,7 @@
 //! A source seen through a window.
 ghost use Rattle.std.specs.Prelude.{◌≡◌, ◌+◌, ◌-◌, ◌<◌, ◌≤◌, ◌^◌, ◌⊎◌, ◌∷◌, [], drop, length, min, false, true, IsTrue, IsErr, IfOk, IfErr};
 ghost use Rattle.inf_token.specs.Files.{Rose, last_count};
-ghost use Rattle.inf_lexer.specs.Unread.{Ends, ReadsOn};
+ghost use Rattle.inf_lexer.specs.Unread.{Ends, ReadsOn, StillGives};
 
 use crate::faults::LexFault;
 use inf_token::files::Files;
@@ -58,6 +58,7 @@ impl Window {
         ensures over { IfOk result (λ _. self.new.left ≡ [] → self.new.is_over ≡ true) }
         ensures end { IsTrue (F.is_honest files.old) → Ends (F.sources files.old) (F.openings files.old) self.old →
             Ends (F.sources files.old) (F.openings files.new) self.new }
+        ensures still { IsTrue (F.is_honest files.old) → StillGives (F.openings files.old) self.old → StillGives (F.openings files.new) self.new }
         ensures window { length self.new.left ≤ 4096 }
         ensures ahead { length self.new.left ≤ self.new.given }
         ensures taken { self.new.given + length self.old.left ≡ self.old.given + length self.new.left }
@@ -65,12 +66,15 @@ impl Window {
         ensures few { IfOk result (λ _. self.new.given ≤ 16777216) }
         ensures err { IfErr result (λ fault. fault ≡ LexFault.Read) }
         ensures refused { IsErr result → (self.old.left ≡ []) × (self.old.is_over ≡ false) }
-        ensures unread { IsErr result → self.new.given ≤ 16777216 → self.new.given ≡ self.old.given }
+        ensures unread { IsErr result → (self.new.given ≡ self.old.given)
+            ⊎ ((self.old.given ≡ 16777216) × (self.new.given ≡ 16777217)) }
+        ensures on { IsErr result → self.new.is_over ≡ false }
         ensures cause { IsErr result →
             Rose (F.faults files.old) (F.faults files.new) ⊎ (16777216 < self.new.given) }
         ensures given { min (F.given files.old + (self.new.given - self.old.given)) last_count
             ≤ F.given files.new }
         ensures depth { F.depth files.new ≡ F.depth files.old }
+        ensures opened { F.opened files.new ≡ F.opened files.old }
         ensures faults { F.faults files.old ≤ F.faults files.new }
         ensures sources { F.sources files.new ≡ F.sources files.old }
         ensures honesty { F.is_honest files.new ≡ F.is_honest files.old }
@@ -88,34 +92,40 @@ impl Window {
         &self.buffer[self.next..self.end]
     }
 
-    /// Reads once into a window in which nothing is left.
+    /// Reads once into a window in which nothing is left: no byte past as many as a source may have, but for one that tells that
+    /// it has more.
     fn fill<F: Files>(&mut self, files: &mut F) -> Result<(), LexFault>
         requires is_open { 0 < F.depth files.old }
         requires given { self.old.given ≤ 16777216 }
         requires empty { self.old.left ≡ [] }
-        requires on { self.old.is_over ≡ false }
+        requires going { self.old.is_over ≡ false }
         ensures reads { ReadsOn (F.is_honest files.old) (F.sources files.old)
             (F.openings files.old) (F.openings files.new) self.old self.new }
         ensures over { IfOk result (λ _. self.new.left ≡ [] → self.new.is_over ≡ true) }
         ensures end { IsTrue (F.is_honest files.old) → Ends (F.sources files.old) (F.openings files.new) self.new }
+        ensures still { IsTrue (F.is_honest files.old) → StillGives (F.openings files.old) self.old → StillGives (F.openings files.new) self.new }
         ensures window { length self.new.left ≤ 4096 }
         ensures ahead { length self.new.left ≤ self.new.given }
         ensures taken { self.new.given ≡ self.old.given + length self.new.left }
         ensures few { IfOk result (λ _. self.new.given ≤ 16777216) }
         ensures err { IfErr result (λ fault. fault ≡ LexFault.Read) }
-        ensures unread { IsErr result → self.new.given ≤ 16777216 → self.new.given ≡ self.old.given }
+        ensures unread { IsErr result → (self.new.given ≡ self.old.given)
+            ⊎ ((self.old.given ≡ 16777216) × (self.new.given ≡ 16777217)) }
+        ensures on { IsErr result → self.new.is_over ≡ false }
         ensures cause { IsErr result →
             Rose (F.faults files.old) (F.faults files.new) ⊎ (16777216 < self.new.given) }
         ensures given { min (F.given files.old + (self.new.given - self.old.given)) last_count
             ≤ F.given files.new }
         ensures depth { F.depth files.new ≡ F.depth files.old }
+        ensures opened { F.opened files.new ≡ F.opened files.old }
         ensures faults { F.faults files.old ≤ F.faults files.new }
         ensures sources { F.sources files.new ≡ F.sources files.old }
         ensures honesty { F.is_honest files.new ≡ F.is_honest files.old }
     {
         self.next = 0;
         self.end = 0;
-        let Ok(count) = files.read(&mut self.buffer) else {
+        let room = (MOST_SOURCE_BYTES - self.given).clamp(1, SIZE);
+        let Ok(count) = files.read(&mut self.buffer[..room]) else {
             return Err(LexFault::Read);
         };
         self.end = count;

@@ -84,6 +84,8 @@ impl Files for Metered {
 
     ghost depth = { λ f. f.depth };
 
+    ghost opened = { λ f. f.opened };
+
     fn open(&mut self, name: &str) -> Result<(), OpenFault> {
         if self.depth == usize::MAX {
             return Err(OpenFault::Memory);

@@ -1,35 +1,33 @@
 -- What is written up to the end of a compilation, or up to where it was given up.
-use Rattle.std.proofs.Common.{◌≡◌, ℕ, zero, ◌<◌, ◌≤◌, List, [], ◌∷◌, ◌++◌, ◌+◌, length, length-append, map, reverse, get_or, unwrap_or, cond, drop, Bool, true, false, Option, Some, None, arith, Result, Ok, Err, IfOk, IfErr, IsTrue, inl, inr, refl, sym, ap, subst, ◌∙◌, append_assoc}
-use Rattle.inf_token.specs.Files.{Opening, Openings, Sources, opened}
+use Rattle.std.proofs.Common.{◌≡◌, ◌⊎◌, ℕ, zero, ◌+◌, ◌-◌, ◌<◌, ◌≤◌, List, [], ◌∷◌, ◌++◌, length, length-append, map, min, reverse, get_or, unwrap_or, cond, drop, Bool, true, false, Option, Some, None, arith, Result, Ok, Err, IfOk, IfErr, inl, inr, refl, sym, ap, subst, ◌∙◌, append_assoc}
+use Rattle.inf_token.specs.Files.{Opening, Openings, Sources, last_count, opened}
+use Rattle.inf_token.specs.declared.files.Files.{Ghosts as Files}
+use Rattle.inf_characters.specs.declared.characters.CharSet.{CharSet}
 use Rattle.inf_symbol.specs.Sinks.{Takes}
+use Rattle.inf_lexer.specs.Readers.{Reader, at_front}
+use Rattle.inf_lexer.specs.Unread.{View, innermost, innermost_place, unread as unread_now, unread_of}
+use Rattle.inf_sources.specs.Calls.{IsUnreadable, Kept, Went, given_all, given_to}
+use Rattle.inf_sources.specs.Cursors.{Cursor, Unfinished}
 use Rattle.inf_sources.specs.Inclusions.{Nesting, main_opened}
-use Rattle.inf_sources.specs.Cursors.{Cursor}
-use Rattle.std.proofs.lemmas.Bool.{cases_lt}
-use Rattle.inf_lexer.specs.Unread.{View, innermost_place, unread as unread_now, unread_of}
-use Rattle.inf_sources.proofs.Places.{innermost_of, last_of}
+use Rattle.inf_sources.specs.Open.{AllGiven, AreNested, AreTracked, Each, Fits, IsCounted, IsFrontOf, IsGiven, IsNested, Open, closed_to, cursor_of, cursors_at, files_of, nesting, opened_since, rest_of}
+use Rattle.inf_sources.proofs.Places.{files_are, innermost_of, last_of}
 use Rattle.inf_conditionals.specs.Open.{Conditions, no_conditions}
-use Rattle.inf_sources.specs.Open.{AllGiven, AreCounted, AreNested, IsCounted, IsGiven, IsNested, NamesAreOpened, Open, closed_to, cursor_of, cursors_at, nesting, opened_since, rest_of}
 use Rattle.inf_reader.specs.Reading.{Stand}
-use Rattle.inf_session.specs.Session.{begun_with}
 use Rattle.inf_reader.specs.Standing.{standing}
 use Rattle.inf_session.specs.Choices.{Choices, most_quoted}
 use Rattle.inf_session.specs.Delivered.{Delivers, TakesFront}
-use Rattle.inf_outcome.specs.Comes.{AreNear, Begins, Comes, Concludes, GaveTooMuch, Heard, IsUnread, OpenedBy, OpenedSome, Stops, WereOpened}
-use Rattle.inf_session.specs.Faults.{IfRead}
-use Rattle.inf_session.specs.Given.{GivesAtLeast, IsUnreadable, given_to}
-use Rattle.inf_characters.specs.declared.characters.CharSet.{CharSet}
-use Rattle.inf_lexer.specs.Readers.{Reader, at_front}
-use Rattle.inf_session.specs.declared.faults.Fault.{Fault}
-use Rattle.inf_session.specs.declared.faults.Fault.TheVariants as fault
-use Rattle.inf_session.specs.Leading.{CutsShort, GivenUp, IsFront, NeedsMore, OpensAll, Writes}
 use Rattle.inf_session.specs.Ending.{Ending, finished}
-use Rattle.inf_outcome.specs.Outcome.{IsCompiled, IsOutcomeOf, ending_of}
-use Rattle.inf_session.specs.Session.{IsRead, State, has_ended, run, start}
+use Rattle.inf_session.specs.Faults.{IfRead}
+use Rattle.inf_session.specs.Leading.{CutsShort, GivenUp, IsFront, OpensAll, StopsAtInclusion, StopsFor, StopsInToken, Writes}
+use Rattle.inf_session.specs.Session.{IsRead, State, begun_with, has_ended, run, start, stepped}
 use Rattle.inf_session.specs.Standing.{state}
-use Rattle.inf_session.specs.declared.session.Session.{Session}
 use Rattle.inf_session.specs.declared.compiled.Compiled.{Compiled}
+use Rattle.inf_session.specs.declared.faults.Fault.{Fault}
+use Rattle.inf_session.specs.declared.session.Session.{Session}
+use Rattle.inf_session.proofs.Leadings.{end_begins, front_more, front_then, same_end, stops_more, takes_none, takes_then}
 use Rattle.inf_session.proofs.Standings.{if_read_more}
-use Rattle.inf_session.proofs.Leadings.{end_begins, front_more, front_then, same_end, takes_none, takes_then}
+use Rattle.inf_outcome.specs.Comes.{AreAt, AreNear, Begins, Comes, Concludes, Heard, IsUnread, OpenedBy, OpenedSome, Stops, StopsReading, WereOpened, numbers_of}
+use Rattle.inf_outcome.specs.Outcome.{IsCompiled, IsOutcomeOf, ending_of}
 
 -- fronts of what follows the same
 front_behind : (xs ys zs : List ℕ) → IsFront ys zs → IsFront (xs ++ ys) (xs ++ zs)
@@ -85,9 +83,9 @@ stops_ending sources o serial was now old mid new turns w over told_is t = recor
       (front_behind w.lines (t w.lines).front (finished serial (now w.lines).nesting.names (now w.lines).work).messages (t w.lines).begins));
 }
 
-pub if_ok_more : {T E : Type 0} (r : Result T E) (P Q : T → Type 0) → ((x : T) → P x → Q x) → IfOk r P → IfOk r Q
-if_ok_more (Ok x) P Q h p = h x p
-if_ok_more (Err fault) P Q h p = tt
+pub if_ok_always : {T E : Type 0} (r : Result T E) (A : Type 0) → A → IfOk r (λ x. A)
+if_ok_always (Ok x) A a = a
+if_ok_always (Err fault) A a = tt
 
 pub if_ok_both : {T E : Type 0} (r : Result T E) (P Q : T → Type 0) → IfOk r P → IfOk r Q → IfOk r (λ x. P x × Q x)
 if_ok_both (Ok x) P Q p q = (p, q)
@@ -108,11 +106,11 @@ opened_of None s o name old new there w = absurd (there refl)
 opened_of (Some source) s o name old new there w = w
 
 -- what is in view of an open file is what was given of it and not taken
-near_one : (s : Sources) (o : Opening) (view : View) → IsGiven s o → IsCounted s o view → length o.given + length (rest_of s o view) ≤ length (unwrap_or (s o.name) []) + 4096
-near_one s o view given counted = by_over view.is_over refl
+near_one : (s : Sources) (o : Opening) (view : View) → IsFrontOf s o → IsCounted s o view → length o.given + length (rest_of s o view) ≤ length (unwrap_or (s o.name) []) + 4096
+near_one s o view front counted = by_over view.is_over refl
   where
     whole : length (unwrap_or (s o.name) []) ≡ length o.given + length (unread_of s o)
-    whole = ap length given.is_cut ∙ omega (arith, length-append o.given (unread_of s o))
+    whole = ap length front ∙ omega (arith, length-append o.given (unread_of s o))
 
     by_over : (b : Bool) → view.is_over ≡ b → length o.given + length (rest_of s o view) ≤ length (unwrap_or (s o.name) []) + 4096
     by_over true e =
@@ -122,40 +120,53 @@ near_one s o view given counted = by_over view.is_over refl
         let rest : rest_of s o view ≡ view.left ++ unread_of s o = ap (λ (b : Bool). view.left ++ cond b [] (unread_of s o)) e in
         omega (arith, whole, counted.window, ap length rest, length-append view.left (unread_of s o))
 
-near_waiting : (s : Sources) (n : ℕ) (all : List Opening) (places : List ℕ) (readers : List Reader)
-    → ((i : ℕ) → n ≤ i → i < length all → IsGiven s (get_or all i (opened []))) → (bound : ℕ) → bound ≤ length all → AreNested bound places readers
-    → AreCounted s n all places readers → AreNear s n all places (cursors_at s all places readers)
-near_waiting s n all [] [] each bound le nested counted = tt
-near_waiting s n all (p ∷ places) [] each bound le nested counted = tt
-near_waiting s n all [] (r ∷ readers) each bound le nested counted = absurd counted
-near_waiting s n all (p ∷ places) (r ∷ readers) each bound le nested counted = (
-  (counted.0, near_one s (get_or all p (opened [])) r.window (each p counted.0 (omega (arith, nested.0, le))) counted.1.0),
-  near_waiting s n all places readers each p (omega (arith, nested.0, le)) nested.1 counted.1.1,
+near_places : (s : Sources) (n : ℕ) (names : List (List ℕ)) (all : List Opening) (places : List ℕ) (readers : List Reader) → Each (IsFrontOf s) n all → (bound : ℕ)
+    → bound ≤ length all → AreNested bound places readers → AreTracked s n names all places readers → AreNear s all places (cursors_at s all places readers)
+near_places s n names all [] [] each bound le nested tracked = tt
+near_places s n names all (p ∷ places) [] each bound le nested tracked = tt
+near_places s n names all [] (r ∷ readers) each bound le nested tracked = absurd tracked
+near_places s n names all (p ∷ places) (r ∷ readers) each bound le nested tracked = (
+  near_one s (get_or all p (opened [])) r.window (each p tracked.0.behind (omega (arith, nested.0, le))) tracked.0.counted,
+  near_places s n names all places readers each p (omega (arith, nested.0, le)) nested.1 tracked.1,
 )
 
 -- the innermost file and those that wait
 near_all : (s : Sources) (old now : Openings) (f : Open) → IsNested old now f → AllGiven s (length old.all) now f
-    → AreNear s (length old.all) now.all (reverse now.open_places) ((nesting s old now f).cursor ∷ (nesting s old now f).waiting)
+    → AreNear s now.all (reverse now.open_places) ((nesting s old now f).cursor ∷ (nesting s old now f).waiting)
 near_all s old now f n g =
     let at = innermost_of (length now.all) (reverse now.open_places) f.lexer (reverse f.outer) n.nested in
     let place : innermost_place now ≡ at.place = last_of now.open_places at.place at.rest at.is in
-    let near : AreNear s (length old.all) now.all (at.place ∷ at.rest) (cursors_at s now.all (at.place ∷ at.rest) (f.lexer ∷ reverse f.outer)) =
-    near_waiting s (length old.all) now.all (at.place ∷ at.rest) (f.lexer ∷ reverse f.outer) g.each (length now.all) (omega arith)
+    let near : AreNear s now.all (at.place ∷ at.rest) (cursors_at s now.all (at.place ∷ at.rest) (f.lexer ∷ reverse f.outer)) =
+    near_places s (length old.all) f.nest.names now.all (at.place ∷ at.rest) (f.lexer ∷ reverse f.outer) g.each (length now.all) (omega arith)
     (subst (λ (ps : List ℕ). AreNested (length now.all) ps (f.lexer ∷ reverse f.outer)) at.is n.nested)
-    (subst (λ (ps : List ℕ). AreCounted s (length old.all) now.all ps (f.lexer ∷ reverse f.outer)) at.is g.counted) in
+    (subst (λ (ps : List ℕ). AreTracked s (length old.all) f.nest.names now.all ps (f.lexer ∷ reverse f.outer)) at.is g.tracked) in
     let first : cursor_of f.lexer (rest_of s (get_or now.all at.place (opened [])) f.lexer.window) ≡ (nesting s old now f).cursor =
     ap (λ (i : ℕ). cursor_of f.lexer (rest_of s (get_or now.all i (opened [])) f.lexer.window)) (sym place) in
-    subst (λ (ps : List ℕ). AreNear s (length old.all) now.all ps ((nesting s old now f).cursor ∷ (nesting s old now f).waiting)) (sym at.is)
-    (subst (λ (ps : List ℕ). AreNear s (length old.all) now.all (at.place ∷ at.rest) ((nesting s old now f).cursor ∷ cursors_at s now.all (drop 1 ps) (reverse f.outer))) (sym at.is)
-    (subst (λ (c : Cursor). AreNear s (length old.all) now.all (at.place ∷ at.rest) (c ∷ cursors_at s now.all at.rest (reverse f.outer))) first near))
+    subst (λ (ps : List ℕ). AreNear s now.all ps ((nesting s old now f).cursor ∷ (nesting s old now f).waiting)) (sym at.is)
+    (subst (λ (ps : List ℕ). AreNear s now.all (at.place ∷ at.rest) ((nesting s old now f).cursor ∷ cursors_at s now.all (drop 1 ps) (reverse f.outer))) (sym at.is)
+    (subst (λ (c : Cursor). AreNear s now.all (at.place ∷ at.rest) (c ∷ cursors_at s now.all at.rest (reverse f.outer))) first near))
+
+-- where their openings stand
+at_places : (s : Sources) (n bound : ℕ) (names : List (List ℕ)) (all : List Opening) (places : List ℕ) (readers : List Reader) → AreNested bound places readers
+    → AreTracked s n names all places readers → AreAt n bound names all places (files_of readers)
+at_places s n bound names all places [] nested tracked = tt
+at_places s n bound names all [] (r ∷ readers) nested tracked = absurd nested
+at_places s n bound names all (p ∷ places) (r ∷ readers) nested tracked =
+    ((tracked.0.behind, nested.0), (tracked.0.named, at_places s n p names all places readers nested.1 tracked.1))
+
+at_all : (s : Sources) (old now : Openings) (f : Open) → IsNested old now f → AllGiven s (length old.all) now f
+    → AreAt (length old.all) (length now.all) f.nest.names now.all (reverse now.open_places) (files_of (f.lexer ∷ reverse f.outer))
+at_all s old now f n g = at_places s (length old.all) (length now.all) f.nest.names now.all (reverse now.open_places) (f.lexer ∷ reverse f.outer) n.nested g.tracked
 
 pub comes_of : (s : Sources) (o : Choices) (serial name : List ℕ) (old now new : Openings) (f : Open) (was : State) (before after : Option (List ℕ)) (c : Compiled)
-    → (s name ≡ None → ⊥) → was ≡ start s o name → new ≡ closed_to old now → AllGiven s (length old.all) now f → Concludes s o serial was old now f before after c
-    → Comes s o serial name old new before after c
-comes_of s o serial name old now new f was before after c there begun closed given k =
+    → (s name ≡ None → ⊥) → was ≡ start s o name → new ≡ closed_to old now → AllGiven s (length old.all) now f → Each Fits (length old.all) now.all
+    → Concludes s o serial was old now f before after c → Comes s o serial name old new before after c
+comes_of s o serial name old now new f was before after c there begun closed given fit k =
+    let n : ℕ = length old.all in
     let read : IsRead s o (start s o name) k.final = subst (λ (x : State). IsRead s o x k.final) begun k.is_read in
     let all : new.all ≡ now.all = ap (λ (p : Openings). p.all) closed in
-    let near = near_all s old now f k.nested given in
+    let at : AreAt n (length now.all) f.nest.names now.all (reverse now.open_places) (numbers_of (nesting s old now f)) =
+    subst (λ (fs : List ℕ). AreAt n (length now.all) f.nest.names now.all (reverse now.open_places) fs) (sym (files_are s old now f k.nested)) (at_all s old now f k.nested given) in
     record {
       ending = ending_of serial k.final;
       is_outcome = outcome_of (s name) s o serial name (ending_of serial k.final) there (record { final = k.final; is_read = read; is_ending = refl });
@@ -163,12 +174,14 @@ comes_of s o serial name old now new f was before after c there begun closed giv
       opened = opened_of (s name) s o name old new there (record {
         final = k.final;
         is_read = read;
-        names = ap (λ (p : Openings). map (λ (q : Opening). q.name) (drop (length old.all) p.all)) closed ∙ ap (λ (n : Nesting). n.openings) k.nesting_is;
+        names = ap (λ (p : Openings). map (λ (q : Opening). q.name) (drop n p.all)) closed ∙ ap (λ (x : Nesting). x.openings) k.nesting_is;
         closed = ap (λ (p : Openings). p.open_places) closed;
-        each = subst (λ (xs : List Opening). (i : ℕ) → length old.all ≤ i → i < length xs → IsGiven s (get_or xs i (opened []))) (sym all) given.each;
+        each = subst (λ (xs : List Opening). Each (IsGiven s) n xs) (sym all) (λ i le lt. record { is_cut = given.each i le lt; fits = fit i le lt });
         places = reverse now.open_places;
-        near = subst (λ (n : Nesting). AreNear s (length old.all) new.all (reverse now.open_places) (n.cursor ∷ n.waiting)) k.nesting_is
-            (subst (λ (xs : List Opening). AreNear s (length old.all) xs (reverse now.open_places) ((nesting s old now f).cursor ∷ (nesting s old now f).waiting)) (sym all) near);
+        at = subst (λ (x : Nesting). AreAt n (length new.all) x.names new.all (reverse now.open_places) (numbers_of x)) k.nesting_is
+            (subst (λ (xs : List Opening). AreAt n (length xs) f.nest.names xs (reverse now.open_places) (numbers_of (nesting s old now f))) (sym all) at);
+        near = subst (λ (x : Nesting). AreNear s new.all (reverse now.open_places) (x.cursor ∷ x.waiting)) k.nesting_is
+            (subst (λ (xs : List Opening). AreNear s xs (reverse now.open_places) ((nesting s old now f).cursor ∷ (nesting s old now f).waiting)) (sym all) (near_all s old now f k.nested given));
       });
     }
 
@@ -199,68 +212,114 @@ begun_is s o name old now x files at going none unquoted =
     made : Nesting → Conditions → Stand → Bool → ℕ → State
     made n c p b q = record { nesting = n; conditions = c; reading = p.reading; work = p.work; told = []; is_over = b; quoted = q }
 
-pub gave_too_much : (base count : ℕ) (f : Open) → 16777216 < f.lexer.window.given → GivesAtLeast base f count → GaveTooMuch base count
-gave_too_much base count f far h = omega (arith, far, h)
+-- Where reading was given up
 
 -- nothing was given of a file at its front
-pub given_none : (base count : ℕ) (set : CharSet) (limit : ℕ) (f : Open) → (f.lexer ≡ at_front set limit 0) × (f.outer ≡ []) → count ≡ base → GivesAtLeast base f count
-given_none base count set limit f front same =
-    omega (arith, ap (λ (r : Reader). r.window.given) front.0, ap given_to front.1, same)
+pub none_given : (set : CharSet) (limit : ℕ) (f : Open) → (f.lexer ≡ at_front set limit 0) × (f.outer ≡ []) → given_all f ≡ 0
+none_given set limit f front = omega (arith, ap (λ (r : Reader). r.window.given) front.0, ap given_to front.1)
 
--- a file was not read
-unread_by : (first before mid now given_before given_now : ℕ) (h : Bool) (old between new : Openings) (f : Open) → IsUnreadable before mid f → first ≤ before → now ≡ mid
-    → GivesAtLeast given_before f given_now → (IsTrue h → NamesAreOpened (length old.all) between f) → (IsTrue h → new.all ≡ between.all)
-    → IsUnread first now given_before given_now h old new
-unread_by first before mid now gb gn h old between new f (inl (inl less)) le same given names all = inl (inl (omega (arith, less, le, same)))
-unread_by first before mid now gb gn h old between new f (inl (inr last)) le same given names all = inl (inr (same ∙ last))
-unread_by first before mid now gb gn h old between new f (inr (inl far)) le same given names all = inr (inl (gave_too_much gb gn f far given))
-unread_by first before mid now gb gn h old between new f (inr (inr many)) le same given names all =
-    inr (inr (λ honest. let n = names honest in let a = ap length (all honest) in omega (arith, many, n, a)))
+-- A file was not read, between the moment when the main source was entered and that when all were closed.
+pub unread_by : {S : Type 0} (f : Files S) (first entered read last : S) (main now : Open) → Kept f first entered → f.given entered ≡ f.given first
+    → min (f.opened first + length main.nest.names) last_count ≤ f.opened entered → given_all main ≡ 0 → Went f entered read main now
+    → Kept f read last → (f.faults last ≡ f.faults read) × (f.given last ≡ f.given read) → IsUnreadable f entered read main now → IsUnread f first last
+unread_by f first entered read last main now kept given opened front went closed same (inl (inl less)) = inl (inl (omega (arith, less, kept.faults, same.0)))
+unread_by f first entered read last main now kept given opened front went closed same (inl (inr far)) = inl (inr (same.0 ∙ far))
+unread_by f first entered read last main now kept given opened front went closed same (inr (inl long)) = inr (inl (omega (arith, long, went.given, front, given, same.1)))
+unread_by f first entered read last main now kept given opened front went closed same (inr (inr many)) =
+    inr (inr (omega (arith, many.names, many.opened, opened, closed.opened)))
 
-pub unread : {T : Type 0} (r : Result T Fault) (first before mid now given_before given_now : ℕ) (h : Bool) (old between new : Openings) (f : Open)
-    → IfErr r (λ x. IfRead x (λ name. IsUnreadable before mid f)) → first ≤ before → now ≡ mid
-    → GivesAtLeast given_before f given_now → (IsTrue h → NamesAreOpened (length old.all) between f) → (IsTrue h → new.all ≡ between.all)
-    → IfErr r (λ x. IfRead x (λ name. IsUnread first now given_before given_now h old new))
-unread (Ok x) first before mid now gb gn h old between new f e le same given names all = tt
-unread (Err fault.Memory) first before mid now gb gn h old between new f e le same given names all = tt
-unread (Err (fault.Read name)) first before mid now gb gn h old between new f e le same given names all = unread_by first before mid now gb gn h old between new f e le same given names all
-unread (Err fault.Messages) first before mid now gb gn h old between new f e le same given names all = tt
-unread (Err (fault.Story n)) first before mid now gb gn h old between new f e le same given names all = tt
+-- in a token
+stops_reading_of : (failed : Type 0) (s : Sources) (t : State) (old now new : Openings) (f : Open) (told : List ℕ) → new.all ≡ now.all → IsNested old now f
+    → AllGiven s (length old.all) now f → StopsInToken failed s t old now f told → StopsReading failed s t old new told
+stops_reading_of failed s t old now new f told all nested given h =
+    let n : ℕ = length old.all in
+    let at = innermost_of (length now.all) (reverse now.open_places) f.lexer (reverse f.outer) nested.nested in
+    let place : innermost_place now ≡ at.place = last_of now.open_places at.place at.rest at.is in
+    let tracked : AreTracked s n f.nest.names now.all (at.place ∷ at.rest) (f.lexer ∷ reverse f.outer) =
+    subst (λ (ps : List ℕ). AreTracked s n f.nest.names now.all ps (f.lexer ∷ reverse f.outer)) at.is given.tracked in
+    let counted : IsCounted s (innermost now) f.lexer.window = subst (λ (i : ℕ). IsCounted s (get_or now.all i (opened [])) f.lexer.window) (sym place) tracked.0.counted in
+    let stands : AreAt n (length now.all) t.nesting.names now.all (innermost_place now ∷ at.rest) (numbers_of t.nesting) =
+    subst (λ (i : ℕ). AreAt n (length now.all) t.nesting.names now.all (i ∷ at.rest) (numbers_of t.nesting)) (sym place)
+    (subst (λ (ps : List ℕ). AreAt n (length now.all) t.nesting.names now.all ps (numbers_of t.nesting)) at.is
+    (subst (λ (names : List (List ℕ)). AreAt n (length now.all) names now.all (reverse now.open_places) (numbers_of t.nesting)) h.names
+    (subst (λ (fs : List ℕ). AreAt n (length now.all) f.nest.names now.all (reverse now.open_places) fs) h.numbers (at_all s old now f nested given)))) in
+    let here : get_or new.all (innermost_place now) (opened []) ≡ innermost now = ap (λ (xs : List Opening). get_or xs (innermost_place now) (opened [])) all in
+    record {
+      place = innermost_place now;
+      places = at.rest;
+      at = subst (λ (xs : List Opening). AreAt n (length xs) t.nesting.names xs (innermost_place now ∷ at.rest) (numbers_of t.nesting)) (sym all) stands;
+      openings = ap (λ (xs : List Opening). map (λ (q : Opening). q.name) (drop n xs)) all ∙ h.openings;
+      cause = subst (λ (o : Opening). failed ⊎ (16777216 < length o.given)) (sym here) (subst (λ (k : ℕ). failed ⊎ (16777216 < k)) (sym counted.count) h.cause);
+      not_ended = subst (λ (o : Opening). Unfinished t.nesting.cursor (length o.given - 16777216) (unread_of s o)) (sym here)
+          (subst (λ (k : ℕ). Unfinished t.nesting.cursor (k - 16777216) (unread_now s now)) (sym counted.count) h.not_ended);
+      goes_on = ap (λ (o : Opening). o.is_read_out) here ∙ counted.goes_on h.goes_on;
+      name_is = h.name_is;
+    }
+
+stops_of : (failed : Type 0) (s : Sources) (o : Choices) (t : State) (old now new : Openings) (f : Open) (told : List ℕ) → new.all ≡ now.all → IsNested old now f
+    → AllGiven s (length old.all) now f → StopsFor failed s o t old now f told
+    → StopsReading failed s t old new told ⊎ StopsAtInclusion failed s o (stepped t) (opened_since old new) told
+stops_of failed s o t old now new f told all nested given (inl h) = inl (stops_reading_of failed s t old now new f told all nested given h)
+stops_of failed s o t old now new f told all nested given (inr h) =
+    inr (subst (λ (names : List (List ℕ)). StopsAtInclusion failed s o (stepped t) names told) (ap (λ (xs : List Opening). map (λ (q : Opening). q.name) (drop (length old.all) xs)) (sym all)) h)
 
 -- all was written that comes with some turns
-heard_of : (s : Sources) (o : Choices) (st : State) (was : List ℕ → State) (gb gn : ℕ) (old now new : Openings) (f : Open) (before after : Option (List ℕ)) → was [] ≡ st
-    → new.all ≡ now.all → GivesAtLeast gb f gn → GivenUp s o was before after f.lexer.window.given (unread_now s now) → Heard s o st gb gn old new before after
-heard_of s o st was gb gn old now new f before after begun all given g = record {
+heard_of : (failed : Type 0) (s : Sources) (o : Choices) (name : List ℕ) (was : List ℕ → State) (old now new : Openings) (f : Open) (before after : Option (List ℕ)) (told : List ℕ)
+    → was [] ≡ start s o name → new.all ≡ now.all → IsNested old now f → AllGiven s (length old.all) now f → GivenUp failed s o was before after old now f told
+    → Heard failed s o name old new before after told
+heard_of failed s o name was old now new f before after told begun all nested given g = inr (record {
   turns = g.turns;
   takes = subst (λ (x : State). Takes before after (run s o g.turns x).told) begun (subst (λ (lines : List ℕ). Takes before after lines) (sym (g.wrote.same [])) g.wrote.takes);
-  needs = elim (cases_lt 16777216 f.lexer.window.given) [
-    | inl far ↦ inl (gave_too_much gb gn f far given)
-    | inr few ↦ inr (inr (
-      innermost_place now,
-      subst (λ (xs : List Opening). NeedsMore (run s o g.turns st) (unread_of s (get_or xs (innermost_place now) (opened [])))) (sym all)
-          (subst (λ (x : State). NeedsMore (run s o g.turns x) (unread_now s now)) begun (g.needs few [])),
-    ))
-  ];
+  goes_on = ap (λ (x : State). has_ended (run s o g.turns x)) (sym begun) ∙ g.goes_on [];
+  stops = subst (λ (x : State). StopsReading failed s (run s o g.turns x) old new told ⊎ StopsAtInclusion failed s o (stepped (run s o g.turns x)) (opened_since old new) told) begun
+      (stops_of failed s o (run s o g.turns (was [])) old now new f told all nested given (g.stops []));
+})
+
+pub heard_from : {T : Type 0} (r : Result T Fault) (failed : Type 0) (s : Sources) (o : Choices) (name : List ℕ) (was : List ℕ → State) (old now new : Openings) (f : Open)
+    (before after : Option (List ℕ)) → was [] ≡ start s o name → new.all ≡ now.all → IsNested old now f → AllGiven s (length old.all) now f
+    → IfErr r (λ x. IfRead x (λ told. GivenUp failed s o was before after old now f told)) → IfErr r (λ x. IfRead x (λ told. Heard failed s o name old new before after told))
+heard_from r failed s o name was old now new f before after begun all nested given g =
+    if_read_more r (λ told. GivenUp failed s o was before after old now f told) (λ told. Heard failed s o name old new before after told)
+    (λ told h. heard_of failed s o name was old now new f before after told begun all nested given h) g
+
+-- the cause lies between later moments
+given_up_more : (failed more : Type 0) (s : Sources) (o : Choices) (was : List ℕ → State) (old new : Option (List ℕ)) (start now : Openings) (f : Open) (told : List ℕ) → (failed → more)
+    → GivenUp failed s o was old new start now f told → GivenUp more s o was old new start now f told
+given_up_more failed more s o was old new start now f told later g = record {
+  turns = g.turns;
+  wrote = g.wrote;
+  goes_on = g.goes_on;
+  stops = λ lines. stops_more failed more s o (run s o g.turns (was lines)) start now f told later (g.stops lines);
 }
 
-pub heard_from : {T : Type 0} (r : Result T Fault) (s : Sources) (o : Choices) (st : State) (was : List ℕ → State) (gb gn : ℕ) (old now new : Openings) (f : Open) (before after : Option (List ℕ))
-    → was [] ≡ st → new.all ≡ now.all → GivesAtLeast gb f gn → IfErr r (λ x. IfRead x (λ name. GivenUp s o was before after f.lexer.window.given (unread_now s now)))
-    → IfErr r (λ x. IfRead x (λ name. Heard s o st gb gn old new before after))
-heard_from r s o st was gb gn old now new f before after begun all given g =
-    if_read_more r (GivenUp s o was before after f.lexer.window.given (unread_now s now)) (Heard s o st gb gn old new before after)
-    (heard_of s o st was gb gn old now new f before after begun all given) g
+pub given_up_between : {T : Type 0} (r : Result T Fault) (failed more : Type 0) (s : Sources) (o : Choices) (was : List ℕ → State) (old new : Option (List ℕ)) (start now : Openings) (f : Open)
+    → (failed → more) → IfErr r (λ x. IfRead x (λ told. GivenUp failed s o was old new start now f told)) → IfErr r (λ x. IfRead x (λ told. GivenUp more s o was old new start now f told))
+given_up_between r failed more s o was old new start now f later g =
+    if_read_more r (λ told. GivenUp failed s o was old new start now f told) (λ told. GivenUp more s o was old new start now f told)
+    (λ told h. given_up_more failed more s o was old new start now f told later h) g
 
 -- before the first turn nothing is
-pub heard_none : (s : Sources) (o : Choices) (name : List ℕ) (gb gn : ℕ) (old new : Openings) (before after : Option (List ℕ)) → new ≡ old → after ≡ before
-    → Heard s o (start s o name) gb gn old new before after
-heard_none s o name gb gn old new before after same e =
-    record { turns = zero; takes = subst (λ (n : Option (List ℕ)). Takes before n []) (sym e) (takes_none before); needs = inr (inl same) }
+pub heard_none : (failed : Type 0) (s : Sources) (o : Choices) (name : List ℕ) (old new : Openings) (before after : Option (List ℕ)) (told : List ℕ) → failed → new ≡ old → after ≡ before
+    → told ≡ name → Heard failed s o name old new before after told
+heard_none failed s o name old new before after told cause same e is =
+    inl (record { cause = cause; opened = same; takes = subst (λ (n : Option (List ℕ)). Takes before n []) (sym e) (takes_none before); name_is = is })
 
 -- what was opened where reading was given up
-pub opened_some : (s : Sources) (o : Choices) (name : List ℕ) (old now new : Openings) (was : List ℕ → State) (turns : ℕ) → was [] ≡ start s o name
-    → new ≡ closed_to old now → OpensAll (run s o turns) was (opened_since old now) → OpenedSome s o name old new
-opened_some s o name old now new was turns begun closed h = record {
+pub opened_some : (s : Sources) (o : Choices) (name : List ℕ) (old now new : Openings) (f : Open) (was : List ℕ → State) (turns : ℕ) → was [] ≡ start s o name
+    → new ≡ closed_to old now → AllGiven s (length old.all) now f → OpensAll (run s o turns) was (opened_since old now) → OpenedSome s o name old new
+opened_some s o name old now new f was turns begun closed given h = record {
   turns = turns;
   names = ap (λ (p : Openings). opened_since old p) closed ∙ h [] ∙ ap (λ (x : State). (run s o turns x).nesting.openings) begun;
   closed = ap (λ (p : Openings). p.open_places) closed;
+  each = subst (λ (p : Openings). Each (IsFrontOf s) (length old.all) p.all) (sym closed) given.each;
+}
+
+-- before the first turn the main source alone is open
+pub opened_first : (s : Sources) (o : Choices) (name : List ℕ) (old now new : Openings) (f : Open) (set : CharSet) (limit : ℕ) → new ≡ closed_to old now → AllGiven s (length old.all) now f
+    → nesting s old now f ≡ main_opened set limit s name → OpenedSome s o name old new
+opened_first s o name old now new f set limit closed given is = record {
+  turns = zero;
+  names = ap (λ (p : Openings). opened_since old p) closed ∙ ap (λ (n : Nesting). n.openings) is;
+  closed = ap (λ (p : Openings). p.open_places) closed;
+  each = subst (λ (p : Openings). Each (IsFrontOf s) (length old.all) p.all) (sym closed) given.each;
 }

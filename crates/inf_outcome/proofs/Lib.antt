@@ -1,3 +1,4 @@
 pub mod Concluding
 pub mod OutcomeLaws
 pub mod Examples
+pub mod Reaching

@@ -1,25 +1,39 @@
 -- What a compilation writes, answers and opens.
-use Rattle.std.specs.Prelude.{◌≡◌, ℕ, ◌+◌, ◌-◌, ◌<◌, ◌≤◌, ◌⊎◌, List, [], ◌∷◌, get_or, unwrap_or, length, map, drop, Bool, IsTrue, Option, Some, None, min}
+use Rattle.std.specs.Prelude.{◌≡◌, ℕ, ◌+◌, ◌-◌, ◌<◌, ◌≤◌, ◌⊎◌, List, [], ◌∷◌, get_or, slice_get, unwrap_or, length, map, drop, false, Option, Some, None, min}
 use Rattle.inf_token.specs.Files.{Opening, Openings, Rose, Sources, last_count, opened}
+use Rattle.inf_token.specs.declared.files.Files.{Ghosts as Files}
 use Rattle.inf_symbol.specs.Sinks.{Takes}
 use Rattle.inf_session.specs.Choices.{Choices}
 use Rattle.inf_lexer.specs.Unread.{unread_of}
-use Rattle.inf_session.specs.Leading.{IsFront, NeedsMore}
-use Rattle.inf_sources.specs.Cursors.{Cursor}
-use Rattle.inf_sources.specs.Open.{IsGiven, IsNested, Open, nesting, opened_since}
+use Rattle.inf_session.specs.Leading.{IsFront, StopsAtInclusion}
+use Rattle.inf_sources.specs.Cursors.{Cursor, Unfinished}
+use Rattle.inf_sources.specs.Inclusions.{Nesting, innermost_name}
+use Rattle.inf_sources.specs.Open.{Each, IsFrontOf, IsGiven, IsNested, Open, nesting, opened_since}
 use Rattle.inf_session.specs.Delivered.{Delivers}
 use Rattle.inf_session.specs.Ending.{Ending}
 use Rattle.inf_outcome.specs.Outcome.{IsOutcome, ending_of}
-use Rattle.inf_session.specs.Session.{IsRead, State, run, start}
+use Rattle.inf_session.specs.Session.{IsRead, State, has_ended, run, start, stepped}
 use Rattle.inf_session.specs.declared.compiled.Compiled.{Compiled}
 
--- Of files that are open, each is that of an opening behind the first n, and at most 4,096 of its bytes were given behind what is still to come.
-abbrev pub AreNear : Sources → ℕ → List Opening → List ℕ → List Cursor → Type 0
-AreNear sources n all places [] = Unit {0}
-AreNear sources n all [] (c ∷ cursors) = ⊥
-AreNear sources n all (p ∷ places) (c ∷ cursors) =
-    ((n ≤ p) × (length (get_or all p (opened [])).given + length c.rest ≤ length (unwrap_or (sources (get_or all p (opened [])).name) []) + 4096))
-    × AreNear sources n all places cursors
+-- Of files that are open, the inner ones first, each is that of an opening behind the first n, under the name of its number; and each was
+-- opened behind those around it.
+abbrev pub AreAt : ℕ → ℕ → List (List ℕ) → List Opening → List ℕ → List ℕ → Type 0
+AreAt n bound names all places [] = Unit {0}
+AreAt n bound names all [] (f ∷ files) = ⊥
+AreAt n bound names all (p ∷ places) (f ∷ files) =
+    ((n ≤ p) × (p < bound)) × ((slice_get names f ≡ Some (get_or all p (opened [])).name) × AreAt n p names all places files)
+
+-- the numbers of the files that are open
+abbrev pub numbers_of : Nesting → List ℕ
+numbers_of n = map (λ (c : Cursor). c.file) (n.cursor ∷ n.waiting)
+
+-- of each at most 4,096 bytes were given behind what is still to come
+abbrev pub AreNear : Sources → List Opening → List ℕ → List Cursor → Type 0
+AreNear sources all places [] = Unit {0}
+AreNear sources all [] (c ∷ cursors) = ⊥
+AreNear sources all (p ∷ places) (c ∷ cursors) =
+    (length (get_or all p (opened [])).given + length c.rest ≤ length (unwrap_or (sources (get_or all p (opened [])).name) []) + 4096)
+    × AreNear sources all places cursors
 
 -- Behind those that were there before, the openings are those of the reading, in its order, each once; all were closed again. Of each
 -- a front of its source was given, and of the files that were open at the end at most 4,096 bytes behind the tokens that were read.
@@ -28,9 +42,10 @@ pub record WereOpened (sources : Sources) (o : Choices) (name : List ℕ) (old n
   pub is_read : IsRead sources o (start sources o name) final
   pub names : map (λ (p : Opening). p.name) (drop (length old.all) new.all) ≡ final.nesting.openings
   pub closed : new.open_places ≡ old.open_places
-  pub each : (i : ℕ) → length old.all ≤ i → i < length new.all → IsGiven sources (get_or new.all i (opened []))
+  pub each : Each (IsGiven sources) (length old.all) new.all
   pub places : List ℕ
-  pub near : AreNear sources (length old.all) new.all places (final.nesting.cursor ∷ final.nesting.waiting)
+  pub at : AreAt (length old.all) (length new.all) final.nesting.names new.all places (numbers_of final.nesting)
+  pub near : AreNear sources new.all places (final.nesting.cursor ∷ final.nesting.waiting)
 
 -- Where the main source is not there, nothing was opened.
 abbrev pub OpenedBy : Option (List ℕ) → Sources → Choices → List ℕ → Openings → Openings → Type 0
@@ -38,11 +53,12 @@ OpenedBy None sources o name old new = new ≡ old
 OpenedBy (Some source) sources o name old new = WereOpened sources o name old new
 
 -- Where reading was given up, the openings behind those that were there before are those of so many turns from the start, in their
--- order, each once; all were closed again.
+-- order, each once; all were closed again, and of each a front of its source was given.
 pub record OpenedSome (sources : Sources) (o : Choices) (name : List ℕ) (old new : Openings) : Type 0 where
   pub turns : ℕ
   pub names : opened_since old new ≡ (run sources o turns (start sources o name)).nesting.openings
   pub closed : new.open_places ≡ old.open_places
+  pub each : Each (IsFrontOf sources) (length old.all) new.all
 
 -- or nothing was opened at all
 abbrev pub OpenedPart : Sources → Choices → List ℕ → Openings → Openings → Type 0
@@ -83,16 +99,40 @@ most_source_bytes = 16777216
 abbrev pub GaveTooMuch : ℕ → ℕ → Type 0
 GaveTooMuch before now = min (before + (most_source_bytes + 1)) last_count ≤ now
 
--- What was written is all that comes with the tokens that were read from here on, of so many turns: behind them more is needed than was
--- given of one of the openings, or a file is asked for; or a file has too many bytes; or nothing was opened.
-pub record Heard (sources : Sources) (o : Choices) (s : State) (given_before given_now : ℕ) (old new : Openings) (before after : Option (List ℕ)) : Type 0 where
+-- Reading was given up in a token of the innermost file: of its opening, which was not read out, just so much was given that the token is
+-- not ended by it, or, of a source that has too many bytes, by as many as it may have. The openings are those of the reading up to there.
+pub record StopsReading (failed : Type 0) (sources : Sources) (s : State) (old new : Openings) (told : List ℕ) : Type 0 where
+  pub place : ℕ
+  pub places : List ℕ
+  pub at : AreAt (length old.all) (length new.all) s.nesting.names new.all (place ∷ places) (numbers_of s.nesting)
+  pub openings : opened_since old new ≡ s.nesting.openings
+  pub cause : failed ⊎ (most_source_bytes < length (get_or new.all place (opened [])).given)
+  pub not_ended : Unfinished s.nesting.cursor (length (get_or new.all place (opened [])).given - most_source_bytes) (unread_of sources (get_or new.all place (opened [])))
+  pub goes_on : (get_or new.all place (opened [])).is_read_out ≡ false
+  pub name_is : told ≡ innermost_name s.nesting
+
+-- What was written is all that comes with so many turns from the start, which end nothing. Behind them the next token could not be read; or
+-- that token asks for a file, which could not be opened, or is one more than can be numbered, and was closed again.
+pub record HeardTurns (failed : Type 0) (sources : Sources) (o : Choices) (s : State) (old new : Openings) (before after : Option (List ℕ)) (told : List ℕ) : Type 0 where
   pub turns : ℕ
   pub takes : Takes before after (run sources o turns s).told
-  pub needs : GaveTooMuch given_before given_now
-      ⊎ ((new ≡ old) ⊎ ((place : ℕ) × NeedsMore (run sources o turns s) (unread_of sources (get_or new.all place (opened [])))))
+  pub goes_on : has_ended (run sources o turns s) ≡ false
+  pub stops : StopsReading failed sources (run sources o turns s) old new told
+      ⊎ StopsAtInclusion failed sources o (stepped (run sources o turns s)) (opened_since old new) told
 
--- A file could not be opened or read: the device failed, or it gave more bytes than a source may have, or as many sources were
--- opened as there may be names.
-abbrev pub IsUnread : ℕ → ℕ → ℕ → ℕ → Bool → Openings → Openings → Type 0
-IsUnread faults_before faults_now given_before given_now is_honest old new =
-    Rose faults_before faults_now ⊎ (GaveTooMuch given_before given_now ⊎ (IsTrue is_honest → 65535 ≤ length new.all - length old.all))
+-- The main source could not be opened, and nothing was written.
+pub record HeardNothing (failed : Type 0) (name : List ℕ) (old new : Openings) (before after : Option (List ℕ)) (told : List ℕ) : Type 0 where
+  pub cause : failed
+  pub opened : new ≡ old
+  pub takes : Takes before after []
+  pub name_is : told ≡ name
+
+-- what was written where a file of the name that is told was not read, and why not
+abbrev pub Heard : Type 0 → Sources → Choices → List ℕ → Openings → Openings → Option (List ℕ) → Option (List ℕ) → List ℕ → Type 0
+Heard failed sources o name old new before after told =
+    HeardNothing failed name old new before after told ⊎ HeardTurns failed sources o (start sources o name) old new before after told
+
+-- A file could not be opened or read, with any reader, between two moments: the device failed; or it gave more bytes than a source may have; or
+-- more sources were opened than can be numbered. Each of the three counts rose by so much, or stands at its last value.
+abbrev pub IsUnread : {S : Type 0} → Files S → S → S → Type 0
+IsUnread f old new = Rose (f.faults old) (f.faults new) ⊎ (GaveTooMuch (f.given old) (f.given new) ⊎ (min (f.opened old + 65536) last_count ≤ f.opened new))

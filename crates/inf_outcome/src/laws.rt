@@ -1,10 +1,15 @@
 //! What the definitions give together.
 ghost use Rattle.inf_outcome.specs.Examples.{ConditionalsChoose, ConditionsChoose, EmptySource, FilesAreIncluded, HelloIsAStory, NamesAreUndeclared, NoSource, SixteenAreOpen, TextIsMissing};
-ghost use Rattle.inf_outcome.specs.OutcomeLaws.{OutcomesAreUnique};
+ghost use Rattle.inf_outcome.specs.OutcomeLaws.{OutcomesAreUnique, OutcomesExist};
 
 /// The same sources, choices, serial number and name have one outcome.
 pub fn outcomes_are_unique()
     ensures { OutcomesAreUnique }
+{}
+
+/// Whatever the sources, choices, serial number and name, there is an outcome: reading ends.
+pub fn sources_have_outcomes()
+    ensures { OutcomesExist }
 {}
 
 /// What comes of some sources.

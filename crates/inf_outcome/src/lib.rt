@@ -4,4 +4,4 @@
 mod laws;
 pub mod translation;
 
-pub use laws::{outcomes_are_unique, sources_have_these_outcomes};
+pub use laws::{outcomes_are_unique, sources_have_outcomes, sources_have_these_outcomes};

@@ -1,15 +1,14 @@
 //! The compilation of a main source with the files that it includes.
-ghost use Rattle.std.specs.Prelude.{◌≡◌, ℕ, ◌+◌, ◌<◌, ◌≤◌, ◌⊎◌, List, [], None, false, IsTrue, IfOk, IfErr, OnErr, length};
-ghost use Rattle.inf_token.specs.Files.{Openings, Rose};
-ghost use Rattle.inf_sources.specs.Open.{AllGiven, IsNested, NamesAreOpened, opened_since};
+ghost use Rattle.std.specs.Prelude.{◌≡◌, ℕ, ◌<◌, List, [], None, false, IsTrue, IfOk, IfErr, OnErr, length};
+ghost use Rattle.inf_token.specs.Files.{Rose};
+ghost use Rattle.inf_sources.specs.Calls.{Honestly, IsUnreadable, Kept, StaysFit, Went};
+ghost use Rattle.inf_sources.specs.Open.{opened_since};
 ghost use Rattle.inf_session.specs.Choices.{chosen};
 ghost use Rattle.inf_session.specs.Delivered.{EndsClean};
-ghost use Rattle.inf_session.specs.Given.{GivesAtLeast, IsUnreadable};
 ghost use Rattle.inf_session.specs.Standing.{IsSet, state};
-ghost use Rattle.inf_lexer.specs.Unread.{unread as unread_now};
 ghost use Rattle.inf_session.specs.Leading.{GivenUp, OpensAll};
-ghost use Rattle.inf_session.specs.Session.{run, start};
-ghost use Rattle.inf_session.specs.Faults.{IfMessages, IfRead, IfStory};
+ghost use Rattle.inf_session.specs.Session.{run};
+ghost use Rattle.inf_session.specs.Faults.{Caused, IfRead};
 ghost use Rattle.inf_outcome.specs.Comes.{Begins, Comes, Concludes, Heard, IsUnread, OpenedPart, Stops};
 
 use inf_lexer::EnterFault;
@@ -47,22 +46,17 @@ pub fn translate<F: Files, M: Sink>(
     // At any fault the openings are those of a part of the reading.
     ensures opened { IsTrue (F.is_honest files.old) → OnErr result (OpenedPart (F.sources files.old) (chosen setup.entry) name.now
         (F.openings files.old) (F.openings files.new)) }
-    // After a fault of reading these are all that come with the tokens that were read.
-    ensures heard { IsTrue (F.is_honest files.old) → IfErr result (λ fault. IfRead fault (λ told. Heard (F.sources files.old) (chosen setup.entry)
-        (start (F.sources files.old) (chosen setup.entry) name.now) (F.given files.old) (F.given files.new)
-        (F.openings files.old) (F.openings files.new) (M.taken messages.old) (M.taken messages.new))) }
+    // After a fault of reading these are all that come with the tokens that were read, and the fault has its cause.
+    ensures heard { IsTrue (F.is_honest files.old) → IfErr result (λ fault. IfRead fault (λ told. Heard (Rose (F.faults files.old) (F.faults files.new))
+        (F.sources files.old) (chosen setup.entry) name.now (F.openings files.old) (F.openings files.new) (M.taken messages.old) (M.taken messages.new) told)) }
 
     // With any reader nothing is left open, no story comes with an error, and a fault has its cause.
+    ensures kept { Kept F.Files files.old files.new }
     ensures depth { F.depth files.new ≡ F.depth files.old }
     ensures errors { IfOk result (λ compiled. compiled.status ≡ Status.Errors → compiled.story ≡ None) }
-    ensures clean { IfOk result (λ compiled. compiled.status ≡ Status.Success → EndsClean (M.taken messages.new)) }
-    ensures read { IfErr result (λ fault. IfRead fault (λ name. IsUnread (F.faults files.old) (F.faults files.new) (F.given files.old) (F.given files.new)
-        (F.is_honest files.old) (F.openings files.old) (F.openings files.new))) }
-    ensures messages { IfErr result (λ fault. IfMessages fault (Rose (M.failures messages.old) (M.failures messages.new))) }
-    ensures story { IfErr result (λ fault. IfStory fault (λ n. ⊥)) }
-    ensures faults { F.faults files.old ≤ F.faults files.new }
-    ensures sources { F.sources files.new ≡ F.sources files.old }
-    ensures honesty { F.is_honest files.new ≡ F.is_honest files.old }
+    ensures clean { IfOk result (λ compiled. compiled.status ≡ Status.Success → EndsClean (M.taken messages.old) (M.taken messages.new)) }
+    ensures fault { IfErr result (λ fault. Caused fault (λ name. IsUnread F.Files files.old files.new)
+        (Rose (M.failures messages.old) (M.failures messages.new))) }
 {
     let limit = setup.settings.of(Setting::QuotedText);
     let open_files = match OpenFiles::enter_main(alloc, setup.set, limit, files, name) {
@@ -95,39 +89,26 @@ fn read_out<F: Files, M: Sink>(
     requires is_open { length session.open_files.outer < F.depth files.old }
     requires goes { session.open_files.lexer.has_failed ≡ false }
     requires set { IsSet session }
-    ensures concludes { IsTrue (F.is_honest files.old) → (start : Openings) → IsNested start (F.openings files.old) session.entry.open_files →
-        IfOk result.1 (λ compiled. Concludes (F.sources files.old) (chosen session.entry.setup) serial.now
-        (state (F.sources files.old) start (F.openings files.old) session.entry []) start (F.openings files.new) result.0
-        (M.taken messages.old) (M.taken messages.new) compiled) }
-    ensures stops { IsTrue (F.is_honest files.old) → (start : Openings) → IsNested start (F.openings files.old) session.entry.open_files →
+    ensures concludes { Honestly F.Files files.old session.entry.open_files (λ start. IfOk result.1 (λ compiled.
+        Concludes (F.sources files.old) (chosen session.entry.setup) serial.now (state (F.sources files.old) start (F.openings files.old) session.entry [])
+        start (F.openings files.new) result.0 (M.taken messages.old) (M.taken messages.new) compiled)) }
+    ensures stops { Honestly F.Files files.old session.entry.open_files (λ start.
         OnErr result.1 (Stops (F.sources files.old) (chosen session.entry.setup) serial.now
-        (state (F.sources files.old) start (F.openings files.old) session.entry []) (M.taken messages.old) (M.taken messages.new)) }
-    ensures heard { IsTrue (F.is_honest files.old) → (start : Openings) → IsNested start (F.openings files.old) session.entry.open_files →
-        IfErr result.1 (λ fault. IfRead fault (λ name. GivenUp (F.sources files.old) (chosen session.entry.setup)
+        (state (F.sources files.old) start (F.openings files.old) session.entry []) (M.taken messages.old) (M.taken messages.new))) }
+    ensures heard { Honestly F.Files files.old session.entry.open_files (λ start.
+        IfErr result.1 (λ fault. IfRead fault (λ name. GivenUp (Rose (F.faults files.old) (F.faults files.new)) (F.sources files.old) (chosen session.entry.setup)
         (state (F.sources files.old) start (F.openings files.old) session.entry) (M.taken messages.old) (M.taken messages.new)
-        result.0.lexer.window.given (unread_now (F.sources files.old) (F.openings files.new)))) }
-    ensures nested { IsTrue (F.is_honest files.old) → (start : Openings) → IsNested start (F.openings files.old) session.entry.open_files →
-        IsNested start (F.openings files.new) result.0 }
-    ensures opened { IsTrue (F.is_honest files.old) → (start : Openings) → IsNested start (F.openings files.old) session.entry.open_files →
+        start (F.openings files.new) result.0 name))) }
+    ensures opened { Honestly F.Files files.old session.entry.open_files (λ start.
         OnErr result.1 ((turns : ℕ) × OpensAll (run (F.sources files.old) (chosen session.entry.setup) turns)
-        (state (F.sources files.old) start (F.openings files.old) session.entry) (opened_since start (F.openings files.new))) }
+        (state (F.sources files.old) start (F.openings files.old) session.entry) (opened_since start (F.openings files.new)))) }
+    ensures fits { IfOk result.1 (λ compiled. StaysFit F.Files files.old files.new session.entry.open_files) }
+    ensures went { Went F.Files files.old files.new session.entry.open_files result.0 }
     ensures errors { IfOk result.1 (λ compiled. compiled.status ≡ Status.Errors → compiled.story ≡ None) }
-    ensures clean { IfOk result.1 (λ compiled. compiled.status ≡ Status.Success → EndsClean (M.taken messages.new)) }
-    ensures cause { IfErr result.1 (λ fault. IfRead fault (λ name. IsUnreadable (F.faults files.old) (F.faults files.new) result.0)) }
-    ensures messages { IfErr result.1 (λ fault. IfMessages fault (Rose (M.failures messages.old) (M.failures messages.new))) }
-    ensures story { IfErr result.1 (λ fault. IfStory fault (λ n. ⊥)) }
-    ensures given_all { IsTrue (F.is_honest files.old) → (start : Openings) → IsNested start (F.openings files.old) session.entry.open_files →
-        AllGiven (F.sources files.old) (length start.all) (F.openings files.old) session.entry.open_files →
-        IfOk result.1 (λ compiled. AllGiven (F.sources files.old) (length start.all) (F.openings files.new) result.0) }
-    ensures names { IsTrue (F.is_honest files.old) → (base : ℕ) → NamesAreOpened base (F.openings files.old) session.entry.open_files →
-        NamesAreOpened base (F.openings files.new) result.0 }
-    ensures given { (base : ℕ) → GivesAtLeast base session.entry.open_files (F.given files.old) → GivesAtLeast base result.0 (F.given files.new) }
+    ensures clean { IfOk result.1 (λ compiled. compiled.status ≡ Status.Success → EndsClean (M.taken messages.old) (M.taken messages.new)) }
+    ensures fault { IfErr result.1 (λ fault. Caused fault (λ name. IsUnreadable F.Files files.old files.new session.entry.open_files result.0)
+        (Rose (M.failures messages.old) (M.failures messages.new))) }
     ensures is_open { length result.0.outer < F.depth files.new }
-    ensures depth { F.depth files.new + length session.entry.open_files.outer ≡ F.depth files.old + length result.0.outer }
-    ensures faults { F.faults files.old ≤ F.faults files.new }
-    ensures failures { M.failures messages.old ≤ M.failures messages.new }
-    ensures sources { F.sources files.new ≡ F.sources files.old }
-    ensures honesty { F.is_honest files.new ≡ F.is_honest files.old }
 {
     match session.read(files, messages) {
         Ok(()) => session.finish(serial, messages),

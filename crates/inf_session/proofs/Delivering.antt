@@ -1,8 +1,14 @@
--- What was written of the last lines.
-use Rattle.std.proofs.Common.{ℕ, List, [], take, drop, take-append-drop, Option, refl, sym}
+-- What was written of the last lines, and of all.
+use Rattle.std.proofs.Common.{◌≡◌, ℕ, List, [], ◌++◌, take, drop, take-append-drop, append_assoc, arith, Option, Result, Ok, Err, IfOk, refl, sym, ap, subst, ◌∙◌}
+use Rattle.inf_report.specs.Reports.{closing}
 use Rattle.inf_symbol.specs.Sinks.{Takes}
-use Rattle.inf_session.specs.Delivered.{TakesFront}
-use Rattle.inf_session.proofs.Leadings.{takes_none}
+use Rattle.inf_symbol.specs.declared.sinks.Sink.{Ghosts as Sink}
+use Rattle.inf_session.specs.Delivered.{Appends, Delivers, EndsClean, TakesFront}
+use Rattle.inf_session.specs.Ending.{Ending}
+use Rattle.inf_session.specs.declared.compiled.Compiled.{Compiled}
+use Rattle.inf_session.specs.declared.compiled.Status.TheVariants as status
+use Rattle.inf_session.proofs.Endings.{IsClean}
+use Rattle.inf_session.proofs.Leadings.{takes_none, takes_then}
 
 -- nothing was written
 pub takes_no_front : (lines : List ℕ) (old : Option (List ℕ)) → TakesFront lines old old
@@ -11,3 +17,34 @@ takes_no_front lines old = record { front = []; takes = takes_none old; begins =
 -- some of the bytes were written
 pub takes_part : (lines : List ℕ) (n : ℕ) (old new : Option (List ℕ)) → Takes old new (take n lines) → TakesFront lines old new
 takes_part lines n old new taken = record { front = take n lines; takes = taken; begins = record { rest = drop n lines; is_cut = sym (take-append-drop n lines) } }
+
+pub appends_none : {S : Type 0} (m : Sink S) (old : S) → Appends m old old
+appends_none m old = record { lines = []; takes = takes_none (m.taken old); failures = omega arith }
+
+-- some lines behind others
+pub appends_then : {S : Type 0} (m : Sink S) (a b c : S) → Appends m a b → Appends m b c → Appends m a c
+appends_then m a b c p q = record {
+  lines = p.lines ++ q.lines;
+  takes = takes_then (m.taken a) (m.taken b) (m.taken c) p.lines q.lines p.takes q.takes;
+  failures = omega (arith, p.failures, q.failures);
+}
+
+-- the last of them are the last of all
+pub ends_behind : {S : Type 0} (m : Sink S) (a b c : S) → Appends m a b → EndsClean (m.taken b) (m.taken c) → EndsClean (m.taken a) (m.taken c)
+ends_behind m a b c p q = record {
+  front = p.lines ++ q.front;
+  warnings = q.warnings;
+  takes = subst (λ (lines : List ℕ). Takes (m.taken a) (m.taken c) lines) (sym (append_assoc p.lines q.front (closing 0 q.warnings)))
+      (takes_then (m.taken a) (m.taken b) (m.taken c) p.lines (q.front ++ closing 0 q.warnings) p.takes q.takes);
+}
+
+-- of an ending whose messages end so
+pub ends_clean : (e : Ending) (c : Compiled) (old new : Option (List ℕ)) → (e.status ≡ status.Success → IsClean e.messages) → Delivers e c old new
+    → c.status ≡ status.Success → EndsClean old new
+ends_clean e c old new clean d is =
+    let k = clean (sym d.status ∙ is) in
+    record { front = k.front; warnings = k.warnings; takes = subst (λ (lines : List ℕ). Takes old new lines) k.is d.messages }
+
+pub if_ok_more : {T E : Type 0} (r : Result T E) (P Q : T → Type 0) → ((x : T) → P x → Q x) → IfOk r P → IfOk r Q
+if_ok_more (Ok x) P Q h p = h x p
+if_ok_more (Err fault) P Q h p = tt

@@ -1,6 +1,6 @@
--- What the ends of compilations come to: one with an error has no story, and the lines of one without end with the line that says so.
+-- What the ends of compilations come to: one with an error has no story, and the messages of another end with the line that tells none.
 use Rattle.std.specs.Prelude.{not, ◌&&◌, ◌==◌, Result, Ok, Err, IfOk}
-use Rattle.std.proofs.Common.{◌≡◌, ◌⊎◌, inl, inr, ℕ, ◌%◌, [], Bool, true, false, cond, List, ◌++◌, append_assoc, Option, Some, None, refl, sym, ap, subst, ◌∙◌}
+use Rattle.std.proofs.Common.{◌≡◌, ◌⊎◌, inl, inr, ℕ, ◌%◌, [], Bool, true, false, cond, List, ◌++◌, Option, Some, None, refl, sym, ap, subst, ◌∙◌}
 use Rattle.std.proofs.lemmas.Bool.{eqb-true}
 use Rattle.inf_area.specs.declared.targets.Value.{Value}
 use Rattle.inf_cells.specs.Scales.{most_bytes}
@@ -13,15 +13,12 @@ use Rattle.inf_story.specs.Names.{values_of}
 use Rattle.inf_story.specs.Stories.{too_long}
 use Rattle.inf_work.specs.Actions.{Work, begun_at}
 use Rattle.inf_unit.proofs.Cases.{of_both}
-use Rattle.inf_unit.specs.Messages.{FileNames, Reported, with_fatal}
+use Rattle.inf_unit.specs.Messages.{FileNames, Reported, with_closing, with_fatal}
 use Rattle.inf_unit.specs.Names.{main_of, with_all_undeclared}
 use Rattle.inf_output.specs.Strings.{StringArea}
 use Rattle.inf_tables.specs.declared.tables.Tables.{Tables}
 use Rattle.inf_report.specs.Messages.{StoryTooLong}
-use Rattle.inf_report.specs.Reports.{Counts, closing, closing_lines}
-use Rattle.inf_symbol.specs.Sinks.{Takes}
-use Rattle.inf_session.specs.Delivered.{Delivers, EndsClean, IsClean}
-use Rattle.inf_session.specs.declared.compiled.Compiled.{Compiled}
+use Rattle.inf_report.specs.Reports.{closing}
 use Rattle.inf_session.specs.declared.ending.Ending.{Ending as CodeEnding}
 use Rattle.inf_session.specs.Ending.{Ending, begun, fields_of, finished, first_line, is_clean, laid, linked, named, refused, seen}
 use Rattle.inf_session.specs.Session.{first_place}
@@ -76,52 +73,50 @@ errors_none serial files w =
     let b = begun_at files first_place w in
     begun_none serial files b (with_all_undeclared files b.output.names.names b.report) (main_of b.output.names)
 
--- with no error the lines end with the one that says so
-abbrev CleanIf : Ending → Type 0
-CleanIf e = e.status ≡ status.Success → IsClean e.messages
+-- lines that end with the line that tells no error
+pub record IsClean (lines : List ℕ) : Type 0 where
+  pub front : List ℕ
+  pub warnings : ℕ
+  pub is : lines ≡ front ++ closing 0 warnings
 
-closing_clean : (lines : List ℕ) (over : Bool) (errors warnings : ℕ) → (not over && (errors == 0)) ≡ true → IsClean (lines ++ cond over [] (closing errors warnings))
-closing_clean lines true errors warnings e = absurd (cc-false e)
-  where
-    cc-false : false ≡ true → ⊥
-    cc-false never = cc
-closing_clean lines false errors warnings e =
-    record { before = lines; warnings = warnings; is = ap (λ n. lines ++ closing n warnings) (eqb-true errors 0 e) }
+-- each of two tests
+both_hold : (over : Bool) (zeros : Bool) → (not over && zeros) ≡ true → (over ≡ false) × (zeros ≡ true)
+both_hold true zeros e = cc
+both_hold false true e = (refl, refl)
+both_hold false false e = cc
 
-linked_clean : (serial : List ℕ) (files : FileNames) (main : ℕ) (names : List Value) (code : Routines) (strings : StringArea) (tables : Tables) (r : Reported) → is_clean r ≡ true → (long : Option LinkFault) → CleanIf (linked serial files main names code strings tables r long)
-linked_clean serial files main names code strings tables r clean None = λ _. closing_clean r.lines r.counts.is_over r.counts.errors r.counts.warnings clean
+closes_clean : (r : Reported) → is_clean r ≡ true → IsClean (with_closing r).lines
+closes_clean r e =
+    let both = both_hold r.counts.is_over (r.counts.errors == 0) e in
+    record {
+      front = r.lines;
+      warnings = r.counts.warnings;
+      is = ap (λ b. r.lines ++ cond b [] (closing r.counts.errors r.counts.warnings)) both.0
+          ∙ ap (λ n. r.lines ++ closing n r.counts.warnings) (eqb-true r.counts.errors 0 both.1);
+    }
+
+abbrev EndsSo : Ending → Type 0
+EndsSo e = e.status ≡ status.Success → IsClean e.messages
+
+linked_clean : (serial : List ℕ) (files : FileNames) (main : ℕ) (names : List Value) (code : Routines) (strings : StringArea) (tables : Tables) (r : Reported) → is_clean r ≡ true → (long : Option LinkFault) → EndsSo (linked serial files main names code strings tables r long)
+linked_clean serial files main names code strings tables r clean None = λ _. closes_clean r clean
 linked_clean serial files main names code strings tables r clean (Some link_fault.ReadableTooLong) = λ e. cc
 linked_clean serial files main names code strings tables r clean (Some link_fault.StoryTooLong) = λ e. cc
 linked_clean serial files main names code strings tables r clean (Some link_fault.Memory) = λ e. cc
 
-named_clean : (serial : List ℕ) (files : FileNames) (main : ℕ) (code : Routines) (strings : StringArea) (tables : Tables) (r : Reported) → is_clean r ≡ true → (names : Option (List Value)) → CleanIf (named serial files main code strings tables r names)
+named_clean : (serial : List ℕ) (files : FileNames) (main : ℕ) (code : Routines) (strings : StringArea) (tables : Tables) (r : Reported) → is_clean r ≡ true → (names : Option (List Value)) → EndsSo (named serial files main code strings tables r names)
 named_clean serial files main code strings tables r clean None = λ e. cc
 named_clean serial files main code strings tables r clean (Some names) = linked_clean serial files main names code strings tables r clean (too_long (fields_of serial code) main code.finished strings.bytes tables)
 
-laid_clean : (serial : List ℕ) (files : FileNames) (main : ℕ) (w : Work) (r : Reported) → is_clean r ≡ true → CleanIf (laid serial files main w r)
+laid_clean : (serial : List ℕ) (files : FileNames) (main : ℕ) (w : Work) (r : Reported) → is_clean r ≡ true → EndsSo (laid serial files main w r)
 laid_clean serial files main w r clean = named_clean serial files main w.output.code w.output.strings w.output.tables r clean (values_of w.output.names.names)
 
-begun_clean : (serial : List ℕ) (files : FileNames) (w : Work) (r : Reported) (main : Option ℕ) → CleanIf (begun serial files w r main)
+begun_clean : (serial : List ℕ) (files : FileNames) (w : Work) (r : Reported) (main : Option ℕ) → EndsSo (begun serial files w r main)
 begun_clean serial files w r None = λ e. cc
 begun_clean serial files w r (Some main) =
-    of_both CleanIf (is_clean r) (laid serial files main w r) (refused r) (λ clean. laid_clean serial files main w r clean) (λ _ e. cc)
+    of_both EndsSo (is_clean r) (laid serial files main w r) (refused r) (λ clean. laid_clean serial files main w r clean) (λ _ e. cc)
 
-pub finished_clean : (serial : List ℕ) (files : FileNames) (w : Work) → (finished serial files w).status ≡ status.Success → IsClean (finished serial files w).messages
-finished_clean serial files w =
+pub success_clean : (serial : List ℕ) (files : FileNames) (w : Work) → (finished serial files w).status ≡ status.Success → IsClean (finished serial files w).messages
+success_clean serial files w =
     let b = begun_at files first_place w in
     begun_clean serial files b (with_all_undeclared files b.output.names.names b.report) (main_of b.output.names)
-
--- so what was taken in all ends so
-taken_clean : (e : List ℕ) (old new : Option (List ℕ)) → Takes old new e → IsClean e → EndsClean new
-taken_clean e None new taken clean = subst EndsClean (sym taken) tt
-taken_clean e (Some lines) new taken clean =
-    subst EndsClean (sym taken)
-    (record { before = lines ++ clean.before; warnings = clean.warnings; is = ap (λ xs. lines ++ xs) clean.is ∙ sym (append_assoc lines clean.before (closing 0 clean.warnings)) })
-
-delivered_clean : (serial : List ℕ) (files : FileNames) (w : Work) (c : Compiled) (old new : Option (List ℕ)) → Delivers (finished serial files w) c old new → c.status ≡ status.Success → EndsClean new
-delivered_clean serial files w c old new d success =
-    taken_clean (finished serial files w).messages old new d.messages (finished_clean serial files w (sym d.status ∙ success))
-
-pub all_clean : {E : Type 0} (serial : List ℕ) (files : FileNames) (w : Work) (r : Result Compiled E) (old new : Option (List ℕ)) → IfOk r (λ c. Delivers (finished serial files w) c old new) → IfOk r (λ c. c.status ≡ status.Success → EndsClean new)
-all_clean serial files w (Ok c) old new d = delivered_clean serial files w c old new d
-all_clean serial files w (Err fault) old new d = tt

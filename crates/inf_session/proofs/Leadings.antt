@@ -1,17 +1,18 @@
 -- Where turns lead: what has ended stays, turns follow one another, and what was written is only added to.
-use Rattle.std.proofs.Common.{◌≡◌, inl, inr, ℕ, suc, zero, ◌+◌, ◌≤◌, ◌||◌, List, [], ◌∷◌, ◌++◌, Bool, true, false, Option, Some, None, cond, refl, sym, ap, subst, ◌∙◌, append_assoc, append-nil, arith}
-use Rattle.inf_token.specs.Files.{Sources}
+use Rattle.std.proofs.Common.{◌≡◌, ◌⊎◌, inl, inr, ℕ, suc, zero, ◌+◌, ◌<◌, ◌||◌, List, [], ◌∷◌, ◌++◌, Bool, true, false, Option, Some, None, cond, refl, sym, ap, subst, ◌∙◌, append_assoc, append-nil, arith}
+use Rattle.inf_token.specs.Files.{Openings, Sources}
 use Rattle.inf_symbol.specs.Sinks.{Takes}
 use Rattle.inf_unit.proofs.Cases.{of_both}
 use Rattle.inf_sources.specs.Cursors.{Cursor}
-use Rattle.inf_sources.specs.Inclusions.{Inclusion, Opens, OpensNone, inclusion}
+use Rattle.inf_sources.specs.Inclusions.{Inclusion, Nesting, Opens, OpensNone, OpensTooMany, inclusion}
+use Rattle.inf_sources.specs.Open.{Open, opened_since}
 use Rattle.inf_sources.specs.declared.open_files.Included.{Included}
 use Rattle.inf_sources.specs.declared.open_files.Included.TheVariants as answer
 use Rattle.inf_unit.specs.Directives.{Asked, Nothing, Include, End}
 use Rattle.inf_reader.specs.Reading.{is_mode_ended}
 use Rattle.inf_scanner.specs.declared.tokens.Place.{Place}
 use Rattle.inf_session.specs.Choices.{Choices}
-use Rattle.inf_session.specs.Leading.{CutsShort, GivenUp, IsFront, NeedsMore, OpensAll, OpensWithin, Writes, WroteAll}
+use Rattle.inf_session.specs.Leading.{CutsShort, GivenUp, IsFront, NotTried, OpensAll, OpensWithin, StopsFor, StopsAtInclusion, StopsInToken, Writes, WroteAll}
 use Rattle.inf_session.specs.Session.{State, answered, asked_nothing, file_closed, followed, has_ended, heeded, included_by, is_parted, is_resting, left, left_by, none_included, part, piece_closed, rested, run, stepped, turn}
 
 -- Fronts
@@ -350,22 +351,59 @@ opened_behind sources o n was now old new openings w h = λ told. h (told ++ w.l
 
 -- Given up for a file
 
+not_tried_more : (failed more : Type 0) (sources : Sources) (directories : List (List ℕ)) (text : List ℕ) (n : Nesting) (openings : List (List ℕ)) → (failed → more)
+    → NotTried failed sources directories text n openings → NotTried more sources directories text n openings
+not_tried_more failed more sources directories text n openings later h = record {
+  cause = elim h.cause as (λ _. more ⊎ OpensTooMany (inclusion sources directories text n) n openings) [ inl rose ↦ inl (later rose) | inr many ↦ inr many ];
+  openings_are = h.openings_are;
+}
+
+pub stops_at_more : (failed more : Type 0) (sources : Sources) (o : Choices) (s : State) (openings : List (List ℕ)) (name : List ℕ) → (failed → more)
+    → StopsAtInclusion failed sources o s openings name → StopsAtInclusion more sources o s openings name
+stops_at_more failed more sources o s openings name later h = record {
+  unit = h.unit;
+  asks = h.asks;
+  reads = h.reads;
+  goes_on = h.goes_on;
+  not_tried = not_tried_more failed more sources o.directories name s.nesting openings later h.not_tried;
+}
+
+pub stops_more : (failed more : Type 0) (sources : Sources) (o : Choices) (s : State) (start now : Openings) (files : Open) (name : List ℕ) → (failed → more)
+    → StopsFor failed sources o s start now files name → StopsFor more sources o s start now files name
+stops_more failed more sources o s start now files name later (inl h) = inl (record {
+  cause = elim h.cause as (λ _. more ⊎ (16777216 < files.lexer.window.given)) [ inl rose ↦ inl (later rose) | inr far ↦ inr far ];
+  not_ended = h.not_ended;
+  goes_on = h.goes_on;
+  openings = h.openings;
+  names = h.names;
+  numbers = h.numbers;
+  name_is = h.name_is;
+})
+stops_more failed more sources o s start now files name later (inr h) = inr (stops_at_more failed more sources o (stepped s) (opened_since start now) name later h)
+
 -- behind some turns
-pub given_up : (sources : Sources) (o : Choices) (n : ℕ) (was mid : List ℕ → State) (old between new : Option (List ℕ)) (given : ℕ) (unread : List ℕ)
-    → Writes (run sources o n) was mid old between → ((told : List ℕ) → (mid told).told ≡ told) → new ≡ between
-    → (given ≤ 16777216 → (told : List ℕ) → NeedsMore (mid told) unread) → GivenUp sources o was old new given unread
-given_up sources o n was mid old between new given unread w told_is e needs = record {
+pub given_up : (failed : Type 0) (sources : Sources) (o : Choices) (n : ℕ) (was mid : List ℕ → State) (old between new : Option (List ℕ)) (start now : Openings) (files : Open)
+    (name : List ℕ) → Writes (run sources o n) was mid old between → ((told : List ℕ) → (mid told).told ≡ told) → new ≡ between → ((told : List ℕ) → has_ended (mid told) ≡ false)
+    → ((told : List ℕ) → StopsFor failed sources o (mid told) start now files name) → GivenUp failed sources o was old new start now files name
+given_up failed sources o n was mid old between new start now files name w told_is e going stops = record {
   turns = n;
   wrote = wrote_all (run sources o n) was mid old between new told_is w e;
-  needs = λ few told. subst (λ (s : State). NeedsMore s unread) (w.same told) (needs few (told ++ w.lines));
+  goes_on = λ told. ap has_ended (sym (w.same told)) ∙ going (told ++ w.lines);
+  stops = λ told. subst (λ (s : State). StopsFor failed sources o s start now files name) (w.same told) (stops (told ++ w.lines));
 }
 
 -- behind others
-pub given_up_on : (sources : Sources) (o : Choices) (a : ℕ) (was mid : List ℕ → State) (old between new : Option (List ℕ)) (given : ℕ) (unread : List ℕ)
-    → Writes (run sources o a) was mid old between → GivenUp sources o mid between new given unread → GivenUp sources o was old new given unread
-given_up_on sources o a was mid old between new given unread w g = record {
+pub given_up_on : (failed more : Type 0) (sources : Sources) (o : Choices) (a : ℕ) (was mid : List ℕ → State) (old between new : Option (List ℕ)) (start now : Openings) (files : Open)
+    (name : List ℕ) → (failed → more) → Writes (run sources o a) was mid old between → GivenUp failed sources o mid between new start now files name
+    → GivenUp more sources o was old new start now files name
+given_up_on failed more sources o a was mid old between new start now files name later w g = record {
   turns = a + g.turns;
   wrote = wrote_on sources o a g.turns was mid old between new w g.wrote;
-  needs = λ few told.
-      subst (λ (s : State). NeedsMore s unread) (ap (run sources o g.turns) (w.same told) ∙ sym (run_sum sources o a g.turns (was told))) (g.needs few (told ++ w.lines));
+  goes_on = λ told. ap has_ended (sym (behind told)) ∙ g.goes_on (told ++ w.lines);
+  stops = λ told.
+      stops_more failed more sources o (run sources o (a + g.turns) (was told)) start now files name later
+      (subst (λ (s : State). StopsFor failed sources o s start now files name) (behind told) (g.stops (told ++ w.lines)));
 }
+  where
+    behind : (told : List ℕ) → run sources o g.turns (mid (told ++ w.lines)) ≡ run sources o (a + g.turns) (was told)
+    behind told = ap (run sources o g.turns) (w.same told) ∙ sym (run_sum sources o a g.turns (was told))

@@ -2,6 +2,7 @@ pub mod Endings
 pub mod Leadings
 pub mod Opening
 pub mod Weighing
+pub mod Shown
 pub mod Standings
 pub mod Stepping
 pub mod Taking

@@ -1,11 +1,6 @@
 -- What the session stands for behind a file that was left or entered, a refused inclusion, and a turn.
-use Rattle.std.proofs.Common.{◌≡◌, ◌⊎◌, inl, inr, ℕ, ◌+◌, ◌≤◌, List, [], ◌∷◌, ◌++◌, length, drop, reverse, get_or, Bool, true, false, not, ◌||◌, Option, refl, sym, ap, subst, ◌∙◌, arith, append_assoc, leb-true, Result, Ok, Err, IfErr}
-use Rattle.std.specs.Prelude.{nat_le}
-use Rattle.std.specs.Str.{bytes_eq}
-use Rattle.std.proofs.lemmas.List.Sums.{prefix_len-le-length}
+use Rattle.std.proofs.Common.{◌≡◌, ◌⊎◌, inl, inr, ℕ, ◌+◌, ◌≤◌, List, [], ◌∷◌, ◌++◌, length, drop, reverse, get_or, Bool, true, false, Option, refl, sym, ap, subst, ◌∙◌, arith, append_assoc, Result, Ok, Err, IfErr}
 use Rattle.inf_token.specs.Files.{Openings, Sources, opened}
-use Rattle.inf_lexer.specs.Entering.{has_one_too_many}
-use Rattle.inf_lexer.specs.Names.{number_of}
 use Rattle.inf_lexer.specs.Readers.{Reader}
 use Rattle.inf_sources.specs.Cursors.{Cursor}
 use Rattle.inf_sources.specs.Inclusions.{Nesting, closed, resumed}
@@ -18,8 +13,7 @@ use Rattle.inf_unit.specs.Messages.{Reported, flushed}
 use Rattle.inf_work.specs.Actions.{Work, left as left_file}
 use Rattle.inf_reader.specs.declared.mode.Mode.TheVariants as mode
 use Rattle.inf_session.specs.Choices.{Choices}
-use Rattle.inf_session.specs.Faults.{IfRead}
-use Rattle.inf_session.specs.Given.{GivesAtLeast, given_to}
+use Rattle.inf_session.specs.Faults.{Caused, IfRead}
 use Rattle.inf_session.specs.Leading.{CutsShort, Writes}
 use Rattle.inf_session.specs.Session.{State, file_closed, followed, left, left_by, stepped, told_out, turn}
 use Rattle.inf_session.specs.Standing.{state}
@@ -88,49 +82,18 @@ stays s n c r left told e none =
     ap (λ (x : State). record x { nesting = n }) (closed_is s c r left told)
     ∙ ap (λ (m : Nesting). record (file_closed s) { nesting = m }) e ∙ sym (ap (λ (waiting : List Cursor). left_by waiting (file_closed s)) none)
 
--- What was given
-
-given_more : (xs : List Reader) (r : Reader) → given_to (xs ++ r ∷ []) ≡ given_to xs + r.window.given
-given_more [] r = omega arith
-given_more (x ∷ xs) r = let rest = given_more xs r in omega (arith, rest)
-
--- a file less is open
-pub given_left : (base count : ℕ) (before after : Open) → before.outer ≡ after.outer ++ after.lexer ∷ [] → GivesAtLeast base before count → GivesAtLeast base after count
-given_left base count before after e h =
-    let split : given_to before.outer ≡ given_to after.outer + after.lexer.window.given = ap given_to e ∙ given_more after.outer after.lexer in
-    omega (arith, split, h)
-
--- one more is
-pub given_entered : (base count : ℕ) (before after : Open) → after.lexer.window.given ≡ 0 → after.outer ≡ before.outer ++ before.lexer ∷ []
-    → GivesAtLeast base before count → GivesAtLeast base after count
-given_entered base count before after none e h =
-    let split : given_to after.outer ≡ given_to before.outer + before.lexer.window.given = ap given_to e ∙ given_more before.outer before.lexer in
-    omega (arith, split, none, h)
-
--- Names
-
-number_within : (name : List ℕ) (known : List (List ℕ)) → number_of name known ≤ length known
-number_within name known = prefix_len-le-length (λ k. not (bytes_eq name k)) known
-
-or_cases : (a b : Bool) → (a || b) ≡ true → (a ≡ true) ⊎ (b ≡ true)
-or_cases true b e = inl refl
-or_cases false b e = inr e
-
-pub many_names : (known names : List (List ℕ)) → has_one_too_many known names ≡ true → 65535 ≤ length known
-many_names known [] e = cc
-many_names known (name ∷ names) e =
-    elim (or_cases (nat_le 65535 (number_of name known)) (has_one_too_many known names) e) [
-      | inl here ↦ let within = number_within name known in let far : 65535 ≤ number_of name known = leb-true 65535 (number_of name known) here in omega (arith, within, far)
-      | inr later ↦ many_names known names later
-    ]
-
 -- Faults
 
-pub read_always : (f : Fault) (P : List ℕ → Type 0) → ((name : List ℕ) → P name) → IfRead f P
-read_always fault.Memory P h = tt
-read_always (fault.Read name) P h = h _
-read_always fault.Messages P h = tt
-read_always (fault.Story n) P h = tt
+pub caused_more : (f : Fault) (P Q : List ℕ → Type 0) (A B : Type 0) → ((name : List ℕ) → P name → Q name) → (A → B) → Caused f P A → Caused f Q B
+caused_more fault.Memory P Q A B h k p = tt
+caused_more (fault.Read name) P Q A B h k p = h _ p
+caused_more fault.Messages P Q A B h k p = k p
+caused_more (fault.Story n) P Q A B h k p = p
+
+pub if_caused_more : {T : Type 0} (r : Result T Fault) (P Q : List ℕ → Type 0) (A B : Type 0) → ((name : List ℕ) → P name → Q name) → (A → B)
+    → IfErr r (λ f. Caused f P A) → IfErr r (λ f. Caused f Q B)
+if_caused_more (Ok x) P Q A B h k p = tt
+if_caused_more (Err f) P Q A B h k p = caused_more f P Q A B h k p
 
 pub read_more : (f : Fault) (P Q : List ℕ → Type 0) → ((name : List ℕ) → P name → Q name) → IfRead f P → IfRead f Q
 read_more fault.Memory P Q h p = tt
@@ -138,21 +101,24 @@ read_more (fault.Read name) P Q h p = h _ p
 read_more fault.Messages P Q h p = tt
 read_more (fault.Story n) P Q h p = tt
 
-pub if_read_more : {T : Type 0} (r : Result T Fault) (A B : Type 0) → (A → B) → IfErr r (λ f. IfRead f (λ name. A)) → IfErr r (λ f. IfRead f (λ name. B))
-if_read_more (Ok x) A B h p = tt
-if_read_more (Err f) A B h p = read_more f (λ name. A) (λ name. B) (λ name a. h a) p
+pub if_read_more : {T : Type 0} (r : Result T Fault) (P Q : List ℕ → Type 0) → ((name : List ℕ) → P name → Q name) → IfErr r (λ f. IfRead f P) → IfErr r (λ f. IfRead f Q)
+if_read_more (Ok x) P Q h p = tt
+if_read_more (Err f) P Q h p = read_more f P Q h p
 
-pub if_read_both : {T : Type 0} (r : Result T Fault) (A B C : Type 0) → (A → B → C) → IfErr r (λ f. IfRead f (λ name. A)) → IfErr r (λ f. IfRead f (λ name. B))
-    → IfErr r (λ f. IfRead f (λ name. C))
-if_read_both (Ok x) A B C h a b = tt
-if_read_both (Err fault.Memory) A B C h a b = tt
-if_read_both (Err (fault.Read name)) A B C h a b = h a b
-if_read_both (Err fault.Messages) A B C h a b = tt
-if_read_both (Err (fault.Story n)) A B C h a b = tt
+pub if_read_both : {T : Type 0} (r : Result T Fault) (A : Type 0) (P Q : List ℕ → Type 0) → ((name : List ℕ) → A → P name → Q name) → IfErr r (λ f. IfRead f (λ name. A))
+    → IfErr r (λ f. IfRead f P) → IfErr r (λ f. IfRead f Q)
+if_read_both (Ok x) A P Q h a p = tt
+if_read_both (Err fault.Memory) A P Q h a p = tt
+if_read_both (Err (fault.Read name)) A P Q h a p = h _ a p
+if_read_both (Err fault.Messages) A P Q h a p = tt
+if_read_both (Err (fault.Story n)) A P Q h a p = tt
 
-pub if_read_always : {T : Type 0} (r : Result T Fault) (A : Type 0) → A → IfErr r (λ f. IfRead f (λ name. A))
-if_read_always (Ok x) A a = tt
-if_read_always (Err f) A a = read_always f (λ name. A) (λ name. a)
+-- a fault of reading that has its cause
+pub read_caused : (f : Fault) (P Q : List ℕ → Type 0) (A : Type 0) → ((name : List ℕ) → P name → Q name) → Caused f P A → IfRead f Q
+read_caused fault.Memory P Q A h p = tt
+read_caused (fault.Read name) P Q A h p = h _ p
+read_caused fault.Messages P Q A h p = tt
+read_caused (fault.Story n) P Q A h p = tt
 
 -- A turn, with what it tells
 

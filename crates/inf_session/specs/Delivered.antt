@@ -1,7 +1,8 @@
 -- What was written and answered at the end of a compilation.
-use Rattle.std.specs.Prelude.{◌≡◌, ℕ, List, ◌++◌, Option, Some, None, option_map}
+use Rattle.std.specs.Prelude.{◌≡◌, ℕ, ◌≤◌, List, ◌++◌, Option, option_map}
 use Rattle.inf_report.specs.Reports.{closing}
 use Rattle.inf_symbol.specs.Sinks.{Takes}
+use Rattle.inf_symbol.specs.declared.sinks.Sink.{Ghosts as Sink}
 use Rattle.inf_session.specs.Ending.{Ending}
 use Rattle.inf_session.specs.Leading.{IsFront}
 use Rattle.inf_session.specs.declared.compiled.Compiled.{Compiled}
@@ -18,13 +19,14 @@ pub record TakesFront (lines : List ℕ) (old new : Option (List ℕ)) : Type 0 
   pub takes : Takes old new front
   pub begins : IsFront front lines
 
--- Lines that end with the one that tells of no error, and of so many warnings.
-pub record IsClean (lines : List ℕ) : Type 0 where
-  pub before : List ℕ
-  pub warnings : ℕ
-  pub is : lines ≡ before ++ closing 0 warnings
+-- A sink took some lines behind what it took before, and each failure is counted.
+pub record Appends {S : Type 0} (m : Sink S) (old new : S) : Type 0 where
+  pub lines : List ℕ
+  pub takes : Takes (m.taken old) (m.taken new) lines
+  pub failures : m.failures old ≤ m.failures new
 
--- What a device has taken, where it states it, ends so.
-abbrev pub EndsClean : Option (List ℕ) → Type 0
-EndsClean None = Unit {0}
-EndsClean (Some lines) = IsClean lines
+-- The last of the lines that it took is the closing line of a compilation without an error.
+pub record EndsClean (old new : Option (List ℕ)) : Type 0 where
+  pub front : List ℕ
+  pub warnings : ℕ
+  pub takes : Takes old new (front ++ closing 0 warnings)

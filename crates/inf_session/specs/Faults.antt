@@ -3,17 +3,18 @@ use Rattle.std.specs.Prelude.{ℕ, List, string_bytes}
 use Rattle.inf_session.specs.declared.faults.Fault.{Fault}
 use Rattle.inf_session.specs.declared.faults.Fault.TheVariants as fault
 
+-- A fault of reading, with the name that it tells, and one of writing messages have their causes. There is none of the story.
+abbrev pub Caused : Fault → (List ℕ → Type 0) → Type 0 → Type 0
+Caused fault.Memory P Q = Unit {0}
+Caused (fault.Read name) P Q = P (string_bytes name)
+Caused fault.Messages P Q = Q
+Caused (fault.Story n) P Q = ⊥
+
 abbrev pub IfRead : Fault → (List ℕ → Type 0) → Type 0
 IfRead (fault.Read name) P = P (string_bytes name)
 IfRead fault.Memory P = Unit {0}
 IfRead fault.Messages P = Unit {0}
 IfRead (fault.Story n) P = Unit {0}
-
-abbrev pub IfMessages : Fault → Type 0 → Type 0
-IfMessages fault.Messages P = P
-IfMessages fault.Memory P = Unit {0}
-IfMessages (fault.Read name) P = Unit {0}
-IfMessages (fault.Story n) P = Unit {0}
 
 abbrev pub IfStory : Fault → (ℕ → Type 0) → Type 0
 IfStory (fault.Story n) P = P n
@@ -26,10 +27,3 @@ UnlessStory (fault.Story n) P = Unit {0}
 UnlessStory fault.Memory P = P
 UnlessStory (fault.Read name) P = P
 UnlessStory fault.Messages P = P
-
--- a fault of the reader of files, or of memory
-abbrev pub IsOfReading : Fault → Type 0
-IsOfReading fault.Memory = Unit {0}
-IsOfReading (fault.Read name) = Unit {0}
-IsOfReading fault.Messages = ⊥
-IsOfReading (fault.Story n) = ⊥

@@ -1,11 +1,17 @@
 -- What some turns of reading lead to, and what they write.
-use Rattle.std.specs.Prelude.{◌≡◌, ℕ, ◌≤◌, ◌⊎◌, List, ◌++◌, Option}
-use Rattle.inf_token.specs.Files.{Sources}
-use Rattle.inf_sources.specs.Cursors.{Unfinished}
-use Rattle.inf_unit.specs.Directives.{Asked, Include}
+use Rattle.std.specs.Prelude.{◌≡◌, ℕ, ◌-◌, ◌<◌, ◌⊎◌, List, ◌∷◌, ◌++◌, map, reverse, Option, false}
+use Rattle.inf_scanner.specs.declared.tokens.Place.{Place}
+use Rattle.inf_token.specs.Files.{Openings, Sources}
+use Rattle.inf_lexer.specs.Unread.{unread}
+use Rattle.inf_sources.specs.Cursors.{Cursor, Unfinished}
+use Rattle.inf_sources.specs.Inclusions.{Nesting, OpenedInVain, OpensTooMany, inclusion, innermost_name}
+use Rattle.inf_sources.specs.Open.{Open, files_of, opened_since}
+use Rattle.inf_sources.specs.declared.faults.IncludeFault.TheVariants as fault
+use Rattle.inf_unit.specs.Directives.{Include}
 use Rattle.inf_symbol.specs.Sinks.{Takes}
+use Rattle.inf_reader.specs.Reading.{is_mode_ended}
 use Rattle.inf_session.specs.Choices.{Choices}
-use Rattle.inf_session.specs.Session.{State, run, stepped}
+use Rattle.inf_session.specs.Session.{State, has_ended, run, stepped}
 
 -- The first list is a front of the second.
 pub record IsFront (front whole : List ℕ) : Type 0 where
@@ -38,18 +44,38 @@ OpensAll step was openings = (told : List ℕ) → openings ≡ (step (was told)
 abbrev pub OpensWithin : (State → State) → (List ℕ → State) → List (List ℕ) → Type 0
 OpensWithin step was openings = OpensAll (λ s. s) was openings ⊎ OpensAll step was openings
 
--- a directive asks for a file
-abbrev pub IsInclusion : Asked → Type 0
-IsInclusion (Include text unit) = Unit {0}
-IsInclusion _ = ⊥
+-- Reading was given up in a token, where these files are open: it is not ended by what was given of the innermost file, of a source
+-- that has too many bytes by as many as it may have. The device failed, or the source has too many.
+pub record StopsInToken (failed : Type 0) (sources : Sources) (s : State) (start now : Openings) (files : Open) (name : List ℕ) : Type 0 where
+  pub cause : failed ⊎ (16777216 < files.lexer.window.given)
+  pub not_ended : Unfinished s.nesting.cursor (files.lexer.window.given - 16777216) (unread sources now)
+  pub goes_on : files.lexer.window.is_over ≡ false
+  pub openings : opened_since start now ≡ s.nesting.openings
+  pub names : files.nest.names ≡ s.nesting.names
+  pub numbers : files_of (files.lexer ∷ reverse files.outer) ≡ map (λ (c : Cursor). c.file) (s.nesting.cursor ∷ s.nesting.waiting)
+  pub name_is : name ≡ innermost_name s.nesting
 
--- What was not given of the innermost file is needed for the next token, or behind that token a file is asked for.
-abbrev pub NeedsMore : State → List ℕ → Type 0
-NeedsMore s unread = Unfinished s.nesting.cursor unread ⊎ IsInclusion (stepped s).work.asked
+-- A file that an inclusion names could not be opened, or is one more than can be numbered.
+pub record NotTried (failed : Type 0) (sources : Sources) (directories : List (List ℕ)) (text : List ℕ) (n : Nesting) (openings : List (List ℕ)) : Type 0 where
+  pub cause : failed ⊎ OpensTooMany (inclusion sources directories text n) n openings
+  pub openings_are : OpenedInVain fault.Device (inclusion sources directories text n) n openings
 
--- Reading was given up for a file, of which so many bytes were given and these were not: what was written is all that so many turns
--- write, and behind them, unless the file has too many bytes, more is needed for the next one.
-pub record GivenUp (sources : Sources) (o : Choices) (was : List ℕ → State) (old new : Option (List ℕ)) (given : ℕ) (unread : List ℕ) : Type 0 where
+-- Reading was given up behind a token that ends a directive, which asks for a file by this name.
+pub record StopsAtInclusion (failed : Type 0) (sources : Sources) (o : Choices) (s : State) (openings : List (List ℕ)) (name : List ℕ) : Type 0 where
+  pub unit : Place
+  pub asks : s.work.asked ≡ Include name unit
+  pub reads : is_mode_ended s.reading.mode ≡ false
+  pub goes_on : s.work.report.counts.is_over ≡ false
+  pub not_tried : NotTried failed sources o.directories name s.nesting openings
+
+-- The next token was not read, or the file was not entered that it asks for.
+abbrev pub StopsFor : Type 0 → Sources → Choices → State → Openings → Openings → Open → List ℕ → Type 0
+StopsFor failed sources o s start now files name =
+    StopsInToken failed sources s start now files name ⊎ StopsAtInclusion failed sources o (stepped s) (opened_since start now) name
+
+-- Reading was given up for the file of a name: what was written is all that so many turns write, and behind them reading stops so.
+pub record GivenUp (failed : Type 0) (sources : Sources) (o : Choices) (was : List ℕ → State) (old new : Option (List ℕ)) (start now : Openings) (files : Open) (name : List ℕ) : Type 0 where
   pub turns : ℕ
   pub wrote : WroteAll (run sources o turns) was old new
-  pub needs : given ≤ 16777216 → (told : List ℕ) → NeedsMore (run sources o turns (was told)) unread
+  pub goes_on : (told : List ℕ) → has_ended (run sources o turns (was told)) ≡ false
+  pub stops : (told : List ℕ) → StopsFor failed sources o (run sources o turns (was told)) start now files name

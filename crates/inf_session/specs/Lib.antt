@@ -1,7 +1,6 @@
 pub mod Choices
 pub mod Faults
 pub mod Session
-pub mod Given
 pub mod Standing
 pub mod Leading
 pub mod Ending

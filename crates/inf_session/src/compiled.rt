@@ -1,10 +1,10 @@
 //! What comes of a compilation, and the end of one.
-ghost use Rattle.std.specs.Prelude.{◌≡◌, ◌≤◌, None, IfOk, IfErr, OnErr};
+ghost use Rattle.std.specs.Prelude.{◌≡◌, None, IfOk, IfErr, OnErr};
 ghost use Rattle.inf_token.specs.Files.{Rose};
 ghost use Rattle.inf_work.specs.Works.{work as work_of};
-ghost use Rattle.inf_session.specs.Delivered.{Delivers, EndsClean, TakesFront};
+ghost use Rattle.inf_session.specs.Delivered.{Appends, Delivers, EndsClean, TakesFront};
 ghost use Rattle.inf_session.specs.Ending.{finished, seen};
-ghost use Rattle.inf_session.specs.Faults.{IfMessages, IfRead, IfStory};
+ghost use Rattle.inf_session.specs.Faults.{Caused};
 
 use crate::ending::{Ending, finish};
 use crate::faults::Fault;
@@ -41,10 +41,9 @@ pub(crate) fn conclude<M: Sink>(
         (M.taken messages.old) (M.taken messages.new)) }
     ensures err { OnErr result (TakesFront (finished serial.now names.now.names (work_of work)).messages (M.taken messages.old) (M.taken messages.new)) }
     ensures errors { IfOk result (λ compiled. compiled.status ≡ Status.Errors → compiled.story ≡ None) }
-    ensures clean { IfOk result (λ compiled. compiled.status ≡ Status.Success → EndsClean (M.taken messages.new)) }
-    ensures kind { IfErr result (λ fault. IfRead fault (λ name. ⊥) × IfStory fault (λ n. ⊥)) }
-    ensures messages { IfErr result (λ fault. IfMessages fault (Rose (M.failures messages.old) (M.failures messages.new))) }
-    ensures failures { M.failures messages.old ≤ M.failures messages.new }
+    ensures clean { IfOk result (λ compiled. compiled.status ≡ Status.Success → EndsClean (M.taken messages.old) (M.taken messages.new)) }
+    ensures fault { IfErr result (λ fault. Caused fault (λ name. ⊥) (Rose (M.failures messages.old) (M.failures messages.new))) }
+    ensures wrote { Appends M.Sink messages.old messages.new }
 {
     let ending = finish(alloc, names, serial, work)?;
     written(ending, messages)
@@ -54,9 +53,8 @@ pub(crate) fn conclude<M: Sink>(
 pub fn written<M: Sink>(ending: Ending, messages: &mut M) -> Result<Compiled, Fault>
     ensures ok { IfOk result (λ compiled. Delivers (seen ending) compiled (M.taken messages.old) (M.taken messages.new)) }
     ensures err { OnErr result (TakesFront (seen ending).messages (M.taken messages.old) (M.taken messages.new)) }
-    ensures kind { IfErr result (λ fault. IfRead fault (λ name. ⊥) × IfStory fault (λ n. ⊥)) }
-    ensures messages { IfErr result (λ fault. IfMessages fault (Rose (M.failures messages.old) (M.failures messages.new))) }
-    ensures failures { M.failures messages.old ≤ M.failures messages.new }
+    ensures fault { IfErr result (λ fault. Caused fault (λ name. ⊥) (Rose (M.failures messages.old) (M.failures messages.new))) }
+    ensures wrote { Appends M.Sink messages.old messages.new }
 {
     match write_whole(messages, ending.messages.as_slice()) {
         Ok(()) => Ok(Compiled {

@@ -1,6 +1,6 @@
 //! Why a compilation was given up.
 ghost use Rattle.std.specs.Prelude.{◌≡◌};
-ghost use Rattle.inf_session.specs.Faults.{IfRead, IsOfReading};
+ghost use Rattle.inf_session.specs.Faults.{Caused};
 
 use inf_report::report::ReportFault;
 use std::alloc::{AllocError, Global};
@@ -45,8 +45,7 @@ impl From<ReportFault> for Fault {
 
 /// That the source of this name could not be read.
 pub fn unread(alloc: Global, name: &str) -> Fault
-    ensures reading { IsOfReading result }
-    ensures name { IfRead result (λ told. told ≡ name.now) }
+    ensures { Caused result (λ told. told ≡ name.now) ⊥ }
 {
     match String::from_str(alloc, name) {
         Ok(name) => Fault::Read(name),

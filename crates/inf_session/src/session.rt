@@ -1,20 +1,19 @@
 //! The reading of a main source and of the files that it includes.
-ghost use Rattle.std.specs.Prelude.{◌≡◌, ℕ, ◌+◌, ◌<◌, ◌≤◌, ◌⊎◌, List, OnOk, OnErr, IfErr, IfOk, IsTrue, None, false, true, length};
+ghost use Rattle.std.specs.Prelude.{◌≡◌, ℕ, ◌<◌, ◌≤◌, ◌⊎◌, List, Ok, OnOk, OnErr, IfErr, IfOk, IsTrue, None, false, true, length};
 ghost use Rattle.inf_token.specs.Files.{Openings, Rose, Sources};
 ghost use Rattle.inf_reader.specs.Reading.{has_ended_at, is_mode_ended};
 ghost use Rattle.inf_reader.specs.Standing.{standing};
-ghost use Rattle.inf_lexer.specs.Unread.{unread as unread_now};
-ghost use Rattle.inf_sources.specs.Cursors.{Unfinished};
-ghost use Rattle.inf_sources.specs.Open.{AllGiven, IsNested, NamesAreOpened, nesting, opened_since};
+ghost use Rattle.inf_lexer.specs.Names.{can_name};
+ghost use Rattle.inf_sources.specs.Calls.{Honestly, IsUnreadable, StaysFit, Went};
+ghost use Rattle.inf_sources.specs.Open.{nesting, opened_since};
 ghost use Rattle.inf_session.specs.Choices.{chosen, most_quoted};
-ghost use Rattle.inf_session.specs.Faults.{IfMessages, IfRead, IfStory, IsOfReading};
-ghost use Rattle.inf_session.specs.Delivered.{Delivers, EndsClean, TakesFront};
-ghost use Rattle.inf_session.specs.Given.{GivesAtLeast, IsUnreadable};
+ghost use Rattle.inf_session.specs.Faults.{Caused, IfRead};
+ghost use Rattle.inf_session.specs.Delivered.{Appends, Delivers, EndsClean, TakesFront};
 ghost use Rattle.inf_session.specs.Ending.{finished};
 ghost use Rattle.inf_settings.specs.Settings.{all_settings};
 ghost use Rattle.inf_work.specs.Limits.{SameLimits};
 ghost use Rattle.inf_work.specs.Works.{work as work_of};
-ghost use Rattle.inf_session.specs.Leading.{CutsShort, GivenUp, IsInclusion, NeedsMore, OpensAll, OpensWithin, Writes};
+ghost use Rattle.inf_session.specs.Leading.{CutsShort, GivenUp, NotTried, OpensAll, OpensWithin, StopsFor, StopsAtInclusion, StopsInToken, Writes};
 ghost use Rattle.inf_conditionals.specs.Open.{no_conditions};
 ghost use Rattle.inf_session.specs.Session.{begun_with, followed, heeded, included, left, part, quoted_behind, quoted_bytes, rested, run, stepped, turn};
 ghost use Rattle.inf_session.specs.Standing.{AreWithin, IsBounded, IsSet, SameBounds, came_to, ended, held_by, is_fatal, parted, resting, state};
@@ -110,41 +109,30 @@ impl<'a> Session<'a> {
         requires set { IsSet self.old }
 
         // With an honest reader.
-        ensures read { IsTrue (F.is_honest files.old) → (start : Openings) → IsNested start (F.openings files.old) self.old.open_files →
+        ensures read { Honestly F.Files files.old self.old.open_files (λ start.
             OnOk result ((turns : ℕ) × Writes (run (F.sources files.old) (chosen self.old.setup) turns)
             (state (F.sources files.old) start (F.openings files.old) self.old) (state (F.sources files.old) start (F.openings files.new) self.new)
-            (M.taken messages.old) (M.taken messages.new)) }
-        ensures cut { IsTrue (F.is_honest files.old) → (start : Openings) → IsNested start (F.openings files.old) self.old.open_files →
+            (M.taken messages.old) (M.taken messages.new))) }
+        ensures cut { Honestly F.Files files.old self.old.open_files (λ start.
             OnErr result ((turns : ℕ) × CutsShort (run (F.sources files.old) (chosen self.old.setup) turns)
-            (state (F.sources files.old) start (F.openings files.old) self.old) (M.taken messages.old) (M.taken messages.new)) }
-        ensures nested { IsTrue (F.is_honest files.old) → (start : Openings) → IsNested start (F.openings files.old) self.old.open_files →
-            IsNested start (F.openings files.new) self.new.open_files }
-        ensures opened { IsTrue (F.is_honest files.old) → (start : Openings) → IsNested start (F.openings files.old) self.old.open_files →
+            (state (F.sources files.old) start (F.openings files.old) self.old) (M.taken messages.old) (M.taken messages.new))) }
+        ensures opened { Honestly F.Files files.old self.old.open_files (λ start.
             OnErr result ((turns : ℕ) × OpensAll (run (F.sources files.old) (chosen self.old.setup) turns)
-            (state (F.sources files.old) start (F.openings files.old) self.old) (opened_since start (F.openings files.new))) }
+            (state (F.sources files.old) start (F.openings files.old) self.old) (opened_since start (F.openings files.new)))) }
 
         // With any reader.
+        ensures went { Went F.Files files.old files.new self.old.open_files self.new.open_files }
         ensures ended { OnOk result (ended self.new ≡ true) }
         ensures is_open { length self.new.open_files.outer < F.depth files.new }
-        ensures cause { IfErr result (λ fault. IfRead fault (λ name. IsUnreadable (F.faults files.old) (F.faults files.new) self.new.open_files)) }
-        ensures unread { IsTrue (F.is_honest files.old) → (start : Openings) → IsNested start (F.openings files.old) self.old.open_files →
-            IfErr result (λ fault. IfRead fault (λ name. GivenUp (F.sources files.old) (chosen self.old.setup)
+        ensures fault { IfErr result (λ fault. Caused fault (λ name. IsUnreadable F.Files files.old files.new self.old.open_files self.new.open_files)
+            (Rose (M.failures messages.old) (M.failures messages.new))) }
+        ensures unread { Honestly F.Files files.old self.old.open_files (λ start.
+            IfErr result (λ fault. IfRead fault (λ name. GivenUp (Rose (F.faults files.old) (F.faults files.new)) (F.sources files.old) (chosen self.old.setup)
             (state (F.sources files.old) start (F.openings files.old) self.old) (M.taken messages.old) (M.taken messages.new)
-            self.new.open_files.lexer.window.given (unread_now (F.sources files.old) (F.openings files.new)))) }
-        ensures told { IfErr result (λ fault. IfMessages fault (Rose (M.failures messages.old) (M.failures messages.new))) }
-        ensures unless { IfErr result (λ fault. IfStory fault (λ n. ⊥)) }
-        ensures given_all { IsTrue (F.is_honest files.old) → (start : Openings) → IsNested start (F.openings files.old) self.old.open_files →
-            AllGiven (F.sources files.old) (length start.all) (F.openings files.old) self.old.open_files →
-            OnOk result (AllGiven (F.sources files.old) (length start.all) (F.openings files.new) self.new.open_files) }
-        ensures names { IsTrue (F.is_honest files.old) → (base : ℕ) → NamesAreOpened base (F.openings files.old) self.old.open_files →
-            NamesAreOpened base (F.openings files.new) self.new.open_files }
-        ensures given { (base : ℕ) → GivesAtLeast base self.old.open_files (F.given files.old) → GivesAtLeast base self.new.open_files (F.given files.new) }
+            start (F.openings files.new) self.new.open_files name))) }
+        ensures fits { OnOk result (StaysFit F.Files files.old files.new self.old.open_files) }
         ensures setup { self.new.setup ≡ self.old.setup }
-        ensures depth { F.depth files.new + length self.old.open_files.outer ≡ F.depth files.old + length self.new.open_files.outer }
-        ensures faults { F.faults files.old ≤ F.faults files.new }
-        ensures failures { M.failures messages.old ≤ M.failures messages.new }
-        ensures sources { F.sources files.new ≡ F.sources files.old }
-        ensures honesty { F.is_honest files.new ≡ F.is_honest files.old }
+        ensures wrote { Appends M.Sink messages.old messages.new }
     {
         while !self.has_ended() {
             self.step(files, messages)?;
@@ -153,7 +141,7 @@ impl<'a> Session<'a> {
     }
 
     /// Reads one part: a directive, with the side that it leaves out; what of a bad one is passed over; or the end of a file. Each
-    /// message is written as soon as it is found. Behind the end, or a fatal message, nothing is read, and nothing changes.
+    /// message is written as soon as it is found. Behind the end, or a fatal message, it answers the same again and changes nothing.
     ///
     /// The faults are those of `translate`, but for that of the story.
     pub fn step<F: Files, M: Sink>(
@@ -166,50 +154,41 @@ impl<'a> Session<'a> {
         requires set { IsSet self.old }
 
         // With an honest reader.
-        ensures part { IsTrue (F.is_honest files.old) → (start : Openings) → IsNested start (F.openings files.old) self.old.open_files →
+        ensures part { Honestly F.Files files.old self.old.open_files (λ start.
             OnOk result ((turns : ℕ) × (Writes (part (F.sources files.old) (chosen self.old.setup) turns)
             (state (F.sources files.old) start (F.openings files.old) self.old) (state (F.sources files.old) start (F.openings files.new) self.new)
             (M.taken messages.old) (M.taken messages.new)
             × Writes (run (F.sources files.old) (chosen self.old.setup) turns)
             (state (F.sources files.old) start (F.openings files.old) self.old) (state (F.sources files.old) start (F.openings files.new) self.new)
-            (M.taken messages.old) (M.taken messages.new))) }
-        ensures cut { IsTrue (F.is_honest files.old) → (start : Openings) → IsNested start (F.openings files.old) self.old.open_files →
+            (M.taken messages.old) (M.taken messages.new)))) }
+        ensures cut { Honestly F.Files files.old self.old.open_files (λ start.
             OnErr result ((turns : ℕ) × CutsShort (run (F.sources files.old) (chosen self.old.setup) turns)
-            (state (F.sources files.old) start (F.openings files.old) self.old) (M.taken messages.old) (M.taken messages.new)) }
-        ensures nested { IsTrue (F.is_honest files.old) → (start : Openings) → IsNested start (F.openings files.old) self.old.open_files →
-            IsNested start (F.openings files.new) self.new.open_files }
-        ensures opened { IsTrue (F.is_honest files.old) → (start : Openings) → IsNested start (F.openings files.old) self.old.open_files →
+            (state (F.sources files.old) start (F.openings files.old) self.old) (M.taken messages.old) (M.taken messages.new))) }
+        ensures opened { Honestly F.Files files.old self.old.open_files (λ start.
             OnErr result ((turns : ℕ) × OpensAll (run (F.sources files.old) (chosen self.old.setup) turns)
-            (state (F.sources files.old) start (F.openings files.old) self.old) (opened_since start (F.openings files.new))) }
+            (state (F.sources files.old) start (F.openings files.old) self.old) (opened_since start (F.openings files.new)))) }
 
         // With any reader.
-        ensures over { ended self.old ≡ true → (self.new ≡ self.old) × ((files.new ≡ files.old) × (messages.new ≡ messages.old)) }
+        ensures went { Went F.Files files.old files.new self.old.open_files self.new.open_files }
         ensures parted { OnOk result (parted self.new ≡ true) }
         ensures came { IfOk result (λ step. step ≡ came_to (ended self.old) self.new) }
+        ensures ends { IfOk result (λ step. (step ≡ Step.More → ⊥) → ended self.new ≡ true) }
+        ensures again { ended self.old ≡ true → (result ≡ Ok (came_to true self.old))
+            × ((self.new ≡ self.old) × ((files.new ≡ files.old) × (messages.new ≡ messages.old))) }
         ensures bounded { IsBounded self.old → OnOk result (IsBounded self.new) }
         ensures falls { OnOk result ((ended self.new ≡ true) ⊎ (weight self.new.open_files < weight self.old.open_files)) }
         ensures goes { OnOk result (self.new.open_files.lexer.has_failed ≡ false) }
         ensures set { IsSet self.new }
         ensures is_open { length self.new.open_files.outer < F.depth files.new }
-        ensures cause { IfErr result (λ fault. IfRead fault (λ name. IsUnreadable (F.faults files.old) (F.faults files.new) self.new.open_files)) }
-        ensures unread { IsTrue (F.is_honest files.old) → (start : Openings) → IsNested start (F.openings files.old) self.old.open_files →
-            IfErr result (λ fault. IfRead fault (λ name. GivenUp (F.sources files.old) (chosen self.old.setup)
+        ensures fault { IfErr result (λ fault. Caused fault (λ name. IsUnreadable F.Files files.old files.new self.old.open_files self.new.open_files)
+            (Rose (M.failures messages.old) (M.failures messages.new))) }
+        ensures unread { Honestly F.Files files.old self.old.open_files (λ start.
+            IfErr result (λ fault. IfRead fault (λ name. GivenUp (Rose (F.faults files.old) (F.faults files.new)) (F.sources files.old) (chosen self.old.setup)
             (state (F.sources files.old) start (F.openings files.old) self.old) (M.taken messages.old) (M.taken messages.new)
-            self.new.open_files.lexer.window.given (unread_now (F.sources files.old) (F.openings files.new)))) }
-        ensures told { IfErr result (λ fault. IfMessages fault (Rose (M.failures messages.old) (M.failures messages.new))) }
-        ensures unless { IfErr result (λ fault. IfStory fault (λ n. ⊥)) }
-        ensures given_all { IsTrue (F.is_honest files.old) → (start : Openings) → IsNested start (F.openings files.old) self.old.open_files →
-            AllGiven (F.sources files.old) (length start.all) (F.openings files.old) self.old.open_files →
-            OnOk result (AllGiven (F.sources files.old) (length start.all) (F.openings files.new) self.new.open_files) }
-        ensures names { IsTrue (F.is_honest files.old) → (base : ℕ) → NamesAreOpened base (F.openings files.old) self.old.open_files →
-            NamesAreOpened base (F.openings files.new) self.new.open_files }
-        ensures given { (base : ℕ) → GivesAtLeast base self.old.open_files (F.given files.old) → GivesAtLeast base self.new.open_files (F.given files.new) }
+            start (F.openings files.new) self.new.open_files name))) }
+        ensures fits { OnOk result (StaysFit F.Files files.old files.new self.old.open_files) }
         ensures setup { self.new.setup ≡ self.old.setup }
-        ensures depth { F.depth files.new + length self.old.open_files.outer ≡ F.depth files.old + length self.new.open_files.outer }
-        ensures faults { F.faults files.old ≤ F.faults files.new }
-        ensures failures { M.failures messages.old ≤ M.failures messages.new }
-        ensures sources { F.sources files.new ≡ F.sources files.old }
-        ensures honesty { F.is_honest files.new ≡ F.is_honest files.old }
+        ensures wrote { Appends M.Sink messages.old messages.new }
     {
         if self.has_ended() {
             return Ok(self.came_to(true));
@@ -236,10 +215,9 @@ impl<'a> Session<'a> {
         ensures err { OnErr result.1 (TakesFront (finished serial.now self.entry.open_files.nest.names (work_of self.entry.progress.work)).messages
             (M.taken messages.old) (M.taken messages.new)) }
         ensures errors { IfOk result.1 (λ compiled. compiled.status ≡ Status.Errors → compiled.story ≡ None) }
-        ensures clean { IfOk result.1 (λ compiled. compiled.status ≡ Status.Success → EndsClean (M.taken messages.new)) }
-        ensures kind { IfErr result.1 (λ fault. IfRead fault (λ name. ⊥) × IfStory fault (λ n. ⊥)) }
-        ensures messages { IfErr result.1 (λ fault. IfMessages fault (Rose (M.failures messages.old) (M.failures messages.new))) }
-        ensures failures { M.failures messages.old ≤ M.failures messages.new }
+        ensures clean { IfOk result.1 (λ compiled. compiled.status ≡ Status.Success → EndsClean (M.taken messages.old) (M.taken messages.new)) }
+        ensures fault { IfErr result.1 (λ fault. Caused fault (λ name. ⊥) (Rose (M.failures messages.old) (M.failures messages.new))) }
+        ensures wrote { Appends M.Sink messages.old messages.new }
     {
         let Session {
             alloc,
@@ -308,18 +286,17 @@ impl<'a> Session<'a> {
         requires is_open { length self.old.open_files.outer < F.depth files.old }
         requires goes { self.old.open_files.lexer.has_failed ≡ false }
         requires set { IsSet self.old }
-        ensures turned { IsTrue (F.is_honest files.old) → (start : Openings) → IsNested start (F.openings files.old) self.old.open_files →
+        ensures turned { Honestly F.Files files.old self.old.open_files (λ start.
             OnOk result (Writes (turn (F.sources files.old) (chosen self.old.setup))
             (state (F.sources files.old) start (F.openings files.old) self.old) (state (F.sources files.old) start (F.openings files.new) self.new)
-            (M.taken messages.old) (M.taken messages.new)) }
-        ensures cut { IsTrue (F.is_honest files.old) → (start : Openings) → IsNested start (F.openings files.old) self.old.open_files →
+            (M.taken messages.old) (M.taken messages.new))) }
+        ensures cut { Honestly F.Files files.old self.old.open_files (λ start.
             OnErr result (CutsShort (turn (F.sources files.old) (chosen self.old.setup))
-            (state (F.sources files.old) start (F.openings files.old) self.old) (M.taken messages.old) (M.taken messages.new)) }
-        ensures nested { IsTrue (F.is_honest files.old) → (start : Openings) → IsNested start (F.openings files.old) self.old.open_files →
-            IsNested start (F.openings files.new) self.new.open_files }
-        ensures opened { IsTrue (F.is_honest files.old) → (start : Openings) → IsNested start (F.openings files.old) self.old.open_files →
+            (state (F.sources files.old) start (F.openings files.old) self.old) (M.taken messages.old) (M.taken messages.new))) }
+        ensures opened { Honestly F.Files files.old self.old.open_files (λ start.
             OnErr result (OpensWithin (turn (F.sources files.old) (chosen self.old.setup))
-            (state (F.sources files.old) start (F.openings files.old) self.old) (opened_since start (F.openings files.new))) }
+            (state (F.sources files.old) start (F.openings files.old) self.old) (opened_since start (F.openings files.new)))) }
+        ensures went { Went F.Files files.old files.new self.old.open_files self.new.open_files }
         ensures falls { OnOk result ((ended self.new ≡ true) ⊎ (weight self.new.open_files < weight self.old.open_files)) }
         ensures is_open { length self.new.open_files.outer < F.depth files.new }
         ensures goes { OnOk result (self.new.open_files.lexer.has_failed ≡ false) }
@@ -327,24 +304,14 @@ impl<'a> Session<'a> {
         ensures set { IsSet self.new }
         ensures limits { OnOk result (SameLimits (work_of self.old.progress.work) (work_of self.new.progress.work)) }
         ensures longest { let most = most_quoted (chosen self.old.setup) in self.old.quoted ≤ most → OnOk result (self.new.quoted ≤ most) }
-        ensures cause { IfErr result (λ fault. IfRead fault (λ name. IsUnreadable (F.faults files.old) (F.faults files.new) self.new.open_files)) }
+        ensures fault { IfErr result (λ fault. Caused fault (λ name. IsUnreadable F.Files files.old files.new self.old.open_files self.new.open_files)
+            (Rose (M.failures messages.old) (M.failures messages.new))) }
         ensures unread { IfErr result (λ fault. IfRead fault (λ name. M.taken messages.new ≡ M.taken messages.old)) }
-        ensures needs { IsTrue (F.is_honest files.old) → (start : Openings) → IsNested start (F.openings files.old) self.old.open_files →
-            IfErr result (λ fault. IfRead fault (λ name. self.new.open_files.lexer.window.given ≤ 16777216 → (told : List ℕ) →
-            NeedsMore (state (F.sources files.old) start (F.openings files.old) self.old told) (unread_now (F.sources files.old) (F.openings files.new)))) }
-        ensures told { IfErr result (λ fault. IfMessages fault (Rose (M.failures messages.old) (M.failures messages.new))) }
-        ensures unless { IfErr result (λ fault. IfStory fault (λ n. ⊥)) }
-        ensures given_all { IsTrue (F.is_honest files.old) → (start : Openings) → IsNested start (F.openings files.old) self.old.open_files →
-            AllGiven (F.sources files.old) (length start.all) (F.openings files.old) self.old.open_files →
-            OnOk result (AllGiven (F.sources files.old) (length start.all) (F.openings files.new) self.new.open_files) }
-        ensures names { IsTrue (F.is_honest files.old) → (base : ℕ) → NamesAreOpened base (F.openings files.old) self.old.open_files →
-            NamesAreOpened base (F.openings files.new) self.new.open_files }
-        ensures given { (base : ℕ) → GivesAtLeast base self.old.open_files (F.given files.old) → GivesAtLeast base self.new.open_files (F.given files.new) }
-        ensures depth { F.depth files.new + length self.old.open_files.outer ≡ F.depth files.old + length self.new.open_files.outer }
-        ensures faults { F.faults files.old ≤ F.faults files.new }
-        ensures failures { M.failures messages.old ≤ M.failures messages.new }
-        ensures sources { F.sources files.new ≡ F.sources files.old }
-        ensures honesty { F.is_honest files.new ≡ F.is_honest files.old }
+        ensures stops { Honestly F.Files files.old self.old.open_files (λ start.
+            IfErr result (λ fault. IfRead fault (λ name. (told : List ℕ) → StopsFor (Rose (F.faults files.old) (F.faults files.new)) (F.sources files.old) (chosen self.old.setup)
+            (state (F.sources files.old) start (F.openings files.old) self.old told) start (F.openings files.new) self.new.open_files name))) }
+        ensures fits { OnOk result (StaysFit F.Files files.old files.new self.old.open_files) }
+        ensures wrote { Appends M.Sink messages.old messages.new }
     {
         self.take_token(files)?;
         self.follow(files)?;
@@ -356,13 +323,12 @@ impl<'a> Session<'a> {
     fn take_token<F: Files>(&mut self, files: &mut F) -> Result<(), Fault>
         requires is_open { length self.old.open_files.outer < F.depth files.old }
         requires goes { self.old.open_files.lexer.has_failed ≡ false }
-        ensures stepped { IsTrue (F.is_honest files.old) → (start : Openings) → IsNested start (F.openings files.old) self.old.open_files →
+        ensures stepped { Honestly F.Files files.old self.old.open_files (λ start.
             OnOk result ((told : List ℕ) → state (F.sources files.old) start (F.openings files.new) self.new told
-            ≡ stepped (state (F.sources files.old) start (F.openings files.old) self.old told)) }
-        ensures nested { IsTrue (F.is_honest files.old) → (start : Openings) → IsNested start (F.openings files.old) self.old.open_files →
-            IsNested start (F.openings files.new) self.new.open_files }
-        ensures opened { IsTrue (F.is_honest files.old) → (start : Openings) → IsNested start (F.openings files.old) self.old.open_files →
-            opened_since start (F.openings files.new) ≡ opened_since start (F.openings files.old) }
+            ≡ stepped (state (F.sources files.old) start (F.openings files.old) self.old told))) }
+        ensures opened { Honestly F.Files files.old self.old.open_files (λ start.
+            opened_since start (F.openings files.new) ≡ opened_since start (F.openings files.old)) }
+        ensures went { Went F.Files files.old files.new self.old.open_files self.new.open_files }
         ensures moves { OnOk result ((is_mode_ended self.new.progress.reader.mode ≡ true) ⊎ (room self.new.open_files.lexer < room self.old.open_files.lexer)) }
         ensures goes { OnOk result (self.new.open_files.lexer.has_failed ≡ false) }
         ensures same { (self.new.open_files.nest ≡ self.old.open_files.nest) × (self.new.open_files.outer ≡ self.old.open_files.outer) }
@@ -370,21 +336,11 @@ impl<'a> Session<'a> {
         ensures few { OnOk result (self.new.open_files.lexer.window.given ≤ 16777216) }
         ensures limits { OnOk result (SameLimits (work_of self.old.progress.work) (work_of self.new.progress.work)) }
         ensures longest { let most = self.old.open_files.nest.limit in self.old.quoted ≤ most → OnOk result (self.new.quoted ≤ most) }
-        ensures kind { IfErr result (λ fault. IsOfReading fault) }
-        ensures unfinished { IsTrue (F.is_honest files.old) → (start : Openings) →
-            IfErr result (λ fault. IfRead fault (λ name. self.new.open_files.lexer.window.given ≤ 16777216 →
-            Unfinished (nesting (F.sources files.old) start (F.openings files.old) self.old.open_files).cursor (unread_now (F.sources files.old) (F.openings files.new)))) }
-        ensures cause { IfErr result (λ fault. IfRead fault (λ name. IsUnreadable (F.faults files.old) (F.faults files.new) self.new.open_files)) }
-        ensures given_all { IsTrue (F.is_honest files.old) → (start : Openings) → IsNested start (F.openings files.old) self.old.open_files →
-            AllGiven (F.sources files.old) (length start.all) (F.openings files.old) self.old.open_files →
-            OnOk result (AllGiven (F.sources files.old) (length start.all) (F.openings files.new) self.new.open_files) }
-        ensures names { IsTrue (F.is_honest files.old) → (base : ℕ) → NamesAreOpened base (F.openings files.old) self.old.open_files →
-            NamesAreOpened base (F.openings files.new) self.new.open_files }
-        ensures given { (base : ℕ) → GivesAtLeast base self.old.open_files (F.given files.old) → GivesAtLeast base self.new.open_files (F.given files.new) }
-        ensures depth { F.depth files.new ≡ F.depth files.old }
-        ensures faults { F.faults files.old ≤ F.faults files.new }
-        ensures sources { F.sources files.new ≡ F.sources files.old }
-        ensures honesty { F.is_honest files.new ≡ F.is_honest files.old }
+        ensures stops { Honestly F.Files files.old self.old.open_files (λ start.
+            IfErr result (λ fault. IfRead fault (λ name. (told : List ℕ) → StopsInToken (Rose (F.faults files.old) (F.faults files.new)) (F.sources files.old)
+            (state (F.sources files.old) start (F.openings files.old) self.old told) start (F.openings files.new) self.new.open_files name))) }
+        ensures fault { IfErr result (λ fault. Caused fault (λ name. IsUnreadable F.Files files.old files.new self.old.open_files self.new.open_files) ⊥) }
+        ensures fits { OnOk result (StaysFit F.Files files.old files.new self.old.open_files) }
     {
         let token = match self.open_files.next(files) {
             Ok(token) => token,
@@ -414,32 +370,23 @@ impl<'a> Session<'a> {
         requires is_open { length self.old.open_files.outer < F.depth files.old }
         requires goes { self.old.open_files.lexer.has_failed ≡ false }
         requires set { IsSet self.old }
-        ensures followed { IsTrue (F.is_honest files.old) → (start : Openings) → IsNested start (F.openings files.old) self.old.open_files →
+        ensures followed { Honestly F.Files files.old self.old.open_files (λ start.
             OnOk result ((told : List ℕ) → state (F.sources files.old) start (F.openings files.new) self.new told
-            ≡ followed (F.sources files.old) (chosen self.old.setup) (state (F.sources files.old) start (F.openings files.old) self.old told)) }
-        ensures nested { IsTrue (F.is_honest files.old) → (start : Openings) → IsNested start (F.openings files.old) self.old.open_files →
-            IsNested start (F.openings files.new) self.new.open_files }
-        ensures opened { IsTrue (F.is_honest files.old) → (start : Openings) → IsNested start (F.openings files.old) self.old.open_files →
+            ≡ followed (F.sources files.old) (chosen self.old.setup) (state (F.sources files.old) start (F.openings files.old) self.old told))) }
+        ensures opened { Honestly F.Files files.old self.old.open_files (λ start.
             OnErr result (OpensWithin (followed (F.sources files.old) (chosen self.old.setup))
-            (state (F.sources files.old) start (F.openings files.old) self.old) (opened_since start (F.openings files.new))) }
+            (state (F.sources files.old) start (F.openings files.old) self.old) (opened_since start (F.openings files.new)))) }
+        ensures went { Went F.Files files.old files.new self.old.open_files self.new.open_files }
         ensures goes_on { OnOk result ((ended self.new ≡ true) ⊎ GoesOn (is_mode_ended self.old.progress.reader.mode) self.old.open_files self.new.open_files) }
         ensures goes { OnOk result (self.new.open_files.lexer.has_failed ≡ false) }
         ensures setup { self.new.setup ≡ self.old.setup }
         ensures set { IsSet self.new }
         ensures stays { OnOk result (SameBounds self.old self.new) }
-        ensures kind { IfErr result (λ fault. IsOfReading fault) }
-        ensures asks { IfErr result (λ fault. IfRead fault (λ name. IsInclusion (work_of self.old.progress.work).asked)) }
-        ensures cause { IfErr result (λ fault. IfRead fault (λ name. IsUnreadable (F.faults files.old) (F.faults files.new) self.new.open_files)) }
-        ensures given_all { IsTrue (F.is_honest files.old) → (start : Openings) → IsNested start (F.openings files.old) self.old.open_files →
-            AllGiven (F.sources files.old) (length start.all) (F.openings files.old) self.old.open_files →
-            OnOk result (AllGiven (F.sources files.old) (length start.all) (F.openings files.new) self.new.open_files) }
-        ensures names { IsTrue (F.is_honest files.old) → (base : ℕ) → NamesAreOpened base (F.openings files.old) self.old.open_files →
-            NamesAreOpened base (F.openings files.new) self.new.open_files }
-        ensures given { (base : ℕ) → GivesAtLeast base self.old.open_files (F.given files.old) → GivesAtLeast base self.new.open_files (F.given files.new) }
-        ensures depth { F.depth files.new + length self.old.open_files.outer ≡ F.depth files.old + length self.new.open_files.outer }
-        ensures faults { F.faults files.old ≤ F.faults files.new }
-        ensures sources { F.sources files.new ≡ F.sources files.old }
-        ensures honesty { F.is_honest files.new ≡ F.is_honest files.old }
+        ensures fault { IfErr result (λ fault. Caused fault (λ name. IsUnreadable F.Files files.old files.new self.old.open_files self.new.open_files) ⊥) }
+        ensures stops { Honestly F.Files files.old self.old.open_files (λ start.
+            IfErr result (λ fault. IfRead fault (λ name. (told : List ℕ) → StopsAtInclusion (Rose (F.faults files.old) (F.faults files.new)) (F.sources files.old) (chosen self.old.setup)
+            (state (F.sources files.old) start (F.openings files.old) self.old told) (opened_since start (F.openings files.new)) name))) }
+        ensures fits { OnOk result (StaysFit F.Files files.old files.new self.old.open_files) }
     {
         self.heed(files)?;
         self.rest()?;
@@ -452,32 +399,23 @@ impl<'a> Session<'a> {
         requires is_open { length self.old.open_files.outer < F.depth files.old }
         requires goes { self.old.open_files.lexer.has_failed ≡ false }
         requires set { IsSet self.old }
-        ensures heeded { IsTrue (F.is_honest files.old) → (start : Openings) → IsNested start (F.openings files.old) self.old.open_files →
+        ensures heeded { Honestly F.Files files.old self.old.open_files (λ start.
             OnOk result ((told : List ℕ) → state (F.sources files.old) start (F.openings files.new) self.new told
-            ≡ heeded (F.sources files.old) (chosen self.old.setup) (state (F.sources files.old) start (F.openings files.old) self.old told)) }
-        ensures nested { IsTrue (F.is_honest files.old) → (start : Openings) → IsNested start (F.openings files.old) self.old.open_files →
-            IsNested start (F.openings files.new) self.new.open_files }
-        ensures opened { IsTrue (F.is_honest files.old) → (start : Openings) → IsNested start (F.openings files.old) self.old.open_files →
+            ≡ heeded (F.sources files.old) (chosen self.old.setup) (state (F.sources files.old) start (F.openings files.old) self.old told))) }
+        ensures opened { Honestly F.Files files.old self.old.open_files (λ start.
             OnErr result (OpensWithin (heeded (F.sources files.old) (chosen self.old.setup))
-            (state (F.sources files.old) start (F.openings files.old) self.old) (opened_since start (F.openings files.new))) }
+            (state (F.sources files.old) start (F.openings files.old) self.old) (opened_since start (F.openings files.new)))) }
+        ensures went { Went F.Files files.old files.new self.old.open_files self.new.open_files }
         ensures goes_on { OnOk result ((ended self.new ≡ true) ⊎ GoesOn (is_mode_ended self.old.progress.reader.mode) self.old.open_files self.new.open_files) }
         ensures goes { OnOk result (self.new.open_files.lexer.has_failed ≡ false) }
         ensures setup { self.new.setup ≡ self.old.setup }
         ensures set { IsSet self.new }
         ensures stays { OnOk result (SameBounds self.old self.new) }
-        ensures kind { IfErr result (λ fault. IsOfReading fault) }
-        ensures asks { IfErr result (λ fault. IfRead fault (λ name. IsInclusion (work_of self.old.progress.work).asked)) }
-        ensures cause { IfErr result (λ fault. IfRead fault (λ name. IsUnreadable (F.faults files.old) (F.faults files.new) self.new.open_files)) }
-        ensures given_all { IsTrue (F.is_honest files.old) → (start : Openings) → IsNested start (F.openings files.old) self.old.open_files →
-            AllGiven (F.sources files.old) (length start.all) (F.openings files.old) self.old.open_files →
-            OnOk result (AllGiven (F.sources files.old) (length start.all) (F.openings files.new) self.new.open_files) }
-        ensures names { IsTrue (F.is_honest files.old) → (base : ℕ) → NamesAreOpened base (F.openings files.old) self.old.open_files →
-            NamesAreOpened base (F.openings files.new) self.new.open_files }
-        ensures given { (base : ℕ) → GivesAtLeast base self.old.open_files (F.given files.old) → GivesAtLeast base self.new.open_files (F.given files.new) }
-        ensures depth { F.depth files.new + length self.old.open_files.outer ≡ F.depth files.old + length self.new.open_files.outer }
-        ensures faults { F.faults files.old ≤ F.faults files.new }
-        ensures sources { F.sources files.new ≡ F.sources files.old }
-        ensures honesty { F.is_honest files.new ≡ F.is_honest files.old }
+        ensures fault { IfErr result (λ fault. Caused fault (λ name. IsUnreadable F.Files files.old files.new self.old.open_files self.new.open_files) ⊥) }
+        ensures stops { Honestly F.Files files.old self.old.open_files (λ start.
+            IfErr result (λ fault. IfRead fault (λ name. (told : List ℕ) → StopsAtInclusion (Rose (F.faults files.old) (F.faults files.new)) (F.sources files.old) (chosen self.old.setup)
+            (state (F.sources files.old) start (F.openings files.old) self.old told) (opened_since start (F.openings files.new)) name))) }
+        ensures fits { OnOk result (StaysFit F.Files files.old files.new self.old.open_files) }
     {
         if self.progress.work.report.is_over() {
             return Ok(());
@@ -524,31 +462,23 @@ impl<'a> Session<'a> {
     fn include<F: Files>(&mut self, files: &mut F, text: &[u8], unit: Place) -> Result<(), Fault>
         requires goes { self.old.open_files.lexer.has_failed ≡ false }
         requires set { IsSet self.old }
-        ensures included { IsTrue (F.is_honest files.old) → (start : Openings) → IsNested start (F.openings files.old) self.old.open_files →
+        ensures included { Honestly F.Files files.old self.old.open_files (λ start.
             OnOk result ((told : List ℕ) → state (F.sources files.old) start (F.openings files.new) self.new told
-            ≡ included (F.sources files.old) (chosen self.old.setup) unit text.now (state (F.sources files.old) start (F.openings files.old) self.old told)) }
-        ensures nested { IsTrue (F.is_honest files.old) → (start : Openings) → IsNested start (F.openings files.old) self.old.open_files →
-            IsNested start (F.openings files.new) self.new.open_files }
-        ensures opened { IsTrue (F.is_honest files.old) → (start : Openings) → IsNested start (F.openings files.old) self.old.open_files →
+            ≡ included (F.sources files.old) (chosen self.old.setup) unit text.now (state (F.sources files.old) start (F.openings files.old) self.old told))) }
+        ensures opened { Honestly F.Files files.old self.old.open_files (λ start.
             OnErr result (OpensWithin (included (F.sources files.old) (chosen self.old.setup) unit text.now)
-            (state (F.sources files.old) start (F.openings files.old) self.old) (opened_since start (F.openings files.new))) }
+            (state (F.sources files.old) start (F.openings files.old) self.old) (opened_since start (F.openings files.new)))) }
+        ensures went { Went F.Files files.old files.new self.old.open_files self.new.open_files }
         ensures goes_on { OnOk result ((ended self.new ≡ true) ⊎ GoesOn false self.old.open_files self.new.open_files) }
         ensures goes { OnOk result (self.new.open_files.lexer.has_failed ≡ false) }
         ensures setup { self.new.setup ≡ self.old.setup }
         ensures set { IsSet self.new }
         ensures stays { OnOk result (SameBounds self.old self.new) }
-        ensures kind { IfErr result (λ fault. IsOfReading fault) }
-        ensures cause { IfErr result (λ fault. IfRead fault (λ name. IsUnreadable (F.faults files.old) (F.faults files.new) self.new.open_files)) }
-        ensures given_all { IsTrue (F.is_honest files.old) → (start : Openings) → IsNested start (F.openings files.old) self.old.open_files →
-            AllGiven (F.sources files.old) (length start.all) (F.openings files.old) self.old.open_files →
-            OnOk result (AllGiven (F.sources files.old) (length start.all) (F.openings files.new) self.new.open_files) }
-        ensures names { IsTrue (F.is_honest files.old) → (base : ℕ) → NamesAreOpened base (F.openings files.old) self.old.open_files →
-            NamesAreOpened base (F.openings files.new) self.new.open_files }
-        ensures given { (base : ℕ) → GivesAtLeast base self.old.open_files (F.given files.old) → GivesAtLeast base self.new.open_files (F.given files.new) }
-        ensures depth { F.depth files.new + length self.old.open_files.outer ≡ F.depth files.old + length self.new.open_files.outer }
-        ensures faults { F.faults files.old ≤ F.faults files.new }
-        ensures sources { F.sources files.new ≡ F.sources files.old }
-        ensures honesty { F.is_honest files.new ≡ F.is_honest files.old }
+        ensures fault { IfErr result (λ fault. Caused fault (λ name. IsUnreadable F.Files files.old files.new self.old.open_files self.new.open_files) ⊥) }
+        ensures stops { Honestly F.Files files.old self.old.open_files (λ start. IfErr result (λ fault. IfRead fault (λ name.
+            (name ≡ text.now) × NotTried (Rose (F.faults files.old) (F.faults files.new)) (F.sources files.old) (chosen self.old.setup).directories text.now
+            (nesting (F.sources files.old) start (F.openings files.old) self.old.open_files) (opened_since start (F.openings files.new))))) }
+        ensures fits { OnOk result (StaysFit F.Files files.old files.new self.old.open_files) }
     {
         let message = match self.open_files.include(files, self.setup.directories, text) {
             Ok(Included::Entered) => {
@@ -574,31 +504,19 @@ impl<'a> Session<'a> {
         requires is_open { length self.old.open_files.outer < F.depth files.old }
         requires set { IsSet self.old }
         requires at_end { is_mode_ended self.old.progress.reader.mode ≡ true }
-        ensures left { IsTrue (F.is_honest files.old) → (start : Openings) → IsNested start (F.openings files.old) self.old.open_files →
+        ensures left { Honestly F.Files files.old self.old.open_files (λ start.
             OnOk result ((told : List ℕ) → state (F.sources files.old) start (F.openings files.new) self.new told
-            ≡ left (state (F.sources files.old) start (F.openings files.old) self.old told)) }
-        ensures nested { IsTrue (F.is_honest files.old) → (start : Openings) → IsNested start (F.openings files.old) self.old.open_files →
-            IsNested start (F.openings files.new) self.new.open_files }
-        ensures opened { IsTrue (F.is_honest files.old) → (start : Openings) → IsNested start (F.openings files.old) self.old.open_files →
-            opened_since start (F.openings files.new) ≡ opened_since start (F.openings files.old) }
+            ≡ left (state (F.sources files.old) start (F.openings files.old) self.old told))) }
+        ensures opened { Honestly F.Files files.old self.old.open_files (λ start.
+            opened_since start (F.openings files.new) ≡ opened_since start (F.openings files.old)) }
+        ensures went { Went F.Files files.old files.new self.old.open_files self.new.open_files }
         ensures goes_on { OnOk result ((ended self.new ≡ true) ⊎ GoesOn true self.old.open_files self.new.open_files) }
-        ensures kind { IfErr result (λ fault. IsOfReading fault) }
-        ensures unless { IfErr result (λ fault. IfRead fault (λ name. ⊥)) }
-        ensures cause { IfErr result (λ fault. IfRead fault (λ name. IsUnreadable (F.faults files.old) (F.faults files.new) self.new.open_files)) }
+        ensures fault { IfErr result (λ fault. Caused fault (λ name. ⊥) ⊥) }
         ensures goes { self.old.open_files.lexer.has_failed ≡ false → self.new.open_files.lexer.has_failed ≡ false }
         ensures setup { self.new.setup ≡ self.old.setup }
         ensures set { IsSet self.new }
         ensures stays { OnOk result (SameBounds self.old self.new) }
-        ensures given_all { IsTrue (F.is_honest files.old) → (start : Openings) → IsNested start (F.openings files.old) self.old.open_files →
-            AllGiven (F.sources files.old) (length start.all) (F.openings files.old) self.old.open_files →
-            AllGiven (F.sources files.old) (length start.all) (F.openings files.new) self.new.open_files }
-        ensures names { IsTrue (F.is_honest files.old) → (base : ℕ) → NamesAreOpened base (F.openings files.old) self.old.open_files →
-            NamesAreOpened base (F.openings files.new) self.new.open_files }
-        ensures given { (base : ℕ) → GivesAtLeast base self.old.open_files (F.given files.old) → GivesAtLeast base self.new.open_files (F.given files.new) }
-        ensures depth { F.depth files.new + length self.old.open_files.outer ≡ F.depth files.old + length self.new.open_files.outer }
-        ensures faults { F.faults files.old ≤ F.faults files.new }
-        ensures sources { F.sources files.new ≡ F.sources files.old }
-        ensures honesty { F.is_honest files.new ≡ F.is_honest files.old }
+        ensures fits { StaysFit F.Files files.old files.new self.old.open_files }
     {
         self.conditionals
             .end_file(self.open_files.names(), &mut self.progress.work.report)?;
@@ -641,7 +559,12 @@ fn quoted_bytes(token: &Spelled<'_>) -> usize
     }
 }
 
-/// The name of a file, which is of ASCII.
-fn shown(text: &[u8]) -> &str {
-    str::from_utf8(text).unwrap_or("?")
+/// The text of an inclusion, which is of ASCII where it can name a file.
+fn shown(text: &[u8]) -> &str
+    ensures { can_name text.now ≡ true → result.now ≡ text.now }
+{
+    match str::from_utf8(text) {
+        Ok(text) => text,
+        Err(_) => "?",
+    }
 }

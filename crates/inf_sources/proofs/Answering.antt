@@ -7,7 +7,7 @@ use Rattle.inf_token.specs.Files.{Openings, Sources}
 use Rattle.inf_lexer.specs.Entering.{ClosedAgain, first_there, with_opened}
 use Rattle.inf_lexer.specs.Names.{Nest, can_name, candidates, entered, innermost_name, name_at, number_of}
 use Rattle.inf_lexer.specs.Readers.{Reader, at_front}
-use Rattle.inf_sources.specs.Inclusions.{Inclusion, OpenedInVain, OpensNone, Opens, by_first, inclusion, nested_by}
+use Rattle.inf_sources.specs.Inclusions.{Inclusion, OpenedInVain, OpensNone, OpensTooMany, Opens, by_first, inclusion, nested_by}
 use Rattle.inf_sources.specs.declared.faults.IncludeFault.TheVariants as vain
 use Rattle.inf_sources.specs.Open.{AllWait, IsNested, Open, Waits, cursors_at, files_of, nesting, opened_since}
 use Rattle.inf_sources.specs.declared.open_files.Included.TheVariants as included
@@ -40,7 +40,7 @@ files_length (r ∷ readers) = ap suc (files_length readers)
 abbrev pub IsNumbered : Open → Type 0
 IsNumbered files = files.nest.open_files ≡ files_of files.outer ++ files.lexer.file ∷ []
 
-same_name : (files : Open) → IsNumbered files → innermost_name files.nest ≡ unwrap_or (slice_get files.nest.names files.lexer.file) []
+pub same_name : (files : Open) → IsNumbered files → innermost_name files.nest ≡ unwrap_or (slice_get files.nest.names files.lexer.file) []
 same_name files e =
     ap (λ (fs : List ℕ). name_at (slice_get fs (length fs - 1)) files.nest.names) e
     ∙ ap (λ (o : Option ℕ). name_at o files.nest.names) (last_file (files_of files.outer) files.lexer.file)
@@ -93,18 +93,25 @@ first_is s directories text start now files first n e fit flat there =
     (is_false (nat_le 16 (length files.nest.open_files)) (λ h. flat (leb-true 16 (length files.nest.open_files) h)))
     ∙ ap (λ o. by_tests true false o) there
 
--- what was opened where the device refused, or the file was one too many
+-- what was opened where the file was one too many
+pub opens_too_many : (s : Sources) (directories : List (List ℕ)) (text : List ℕ) (start old new : Openings) (before : Open) → IsNested start old before
+    → IsNumbered before → (can_name text ≡ false → ⊥) → (16 ≤ length before.nest.open_files → ⊥)
+    → ClosedAgain s before.nest.names (candidates directories (innermost_name before.nest) text) old new
+    → OpensTooMany (inclusion s directories text (nesting s start old before)) (nesting s start old before) (opened_since start new)
+opens_too_many s directories text start old new before n e fit flat c = record {
+  name = c.name;
+  is_opened = first_is s directories text start old before (Some c.name) n e fit flat c.is_first;
+  is_too_many = c.is_too_many;
+  openings_are = opened_and_closed start old new c.name n.more c.is_closed;
+}
+
+-- or the device refused
 pub opened_in_vain : (s : Sources) (directories : List (List ℕ)) (text : List ℕ) (start old new : Openings) (before : Open) → IsNested start old before
     → IsNumbered before → (can_name text ≡ false → ⊥) → (16 ≤ length before.nest.open_files → ⊥)
     → (new ≡ old) ⊎ ClosedAgain s before.nest.names (candidates directories (innermost_name before.nest) text) old new
     → OpenedInVain vain.Device (inclusion s directories text (nesting s start old before)) (nesting s start old before) (opened_since start new)
 opened_in_vain s directories text start old new before n e fit flat (inl same) = inl (ap (λ (o : Openings). opened_since start o) same)
-opened_in_vain s directories text start old new before n e fit flat (inr c) = inr (record {
-  name = c.name;
-  is_opened = first_is s directories text start old before (Some c.name) n e fit flat c.is_first;
-  is_too_many = c.is_too_many;
-  openings_are = opened_and_closed start old new c.name n.more c.is_closed;
-})
+opened_in_vain s directories text start old new before n e fit flat (inr c) = inr (opens_too_many s directories text start old new before n e fit flat c)
 
 -- what is open behind a file that was entered
 pub entered_is : (s : Sources) (start old new : Openings) (before : Open) (name : List ℕ) (nest : Nest) (lexer : Reader) (outer : List Reader) → IsNested start old before

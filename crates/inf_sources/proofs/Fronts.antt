@@ -1,19 +1,18 @@
--- What was given of each opening is a front of its source, and its lexer counts it.
-use Rattle.std.proofs.Common.{◌≡◌, ◌⊎◌, inl, inr, ℕ, suc, zero, ◌-◌, ◌<◌, ◌≤◌, List, [], ◌∷◌, ◌++◌, length, reverse, get_or, unwrap_or, refl, sym, ap, subst, ◌∙◌, arith, append_assoc, length-append}
+-- What was given of each opening is a front of its source, and each open file is tracked.
+use Rattle.std.proofs.Common.{◌≡◌, ◌⊎◌, inl, inr, ℕ, suc, zero, ◌-◌, ◌<◌, ◌≤◌, List, [], ◌∷◌, ◌++◌, length, reverse, get_or, unwrap_or, Some, refl, sym, ap, subst, ◌∙◌, arith, append_assoc, length-append}
 use Rattle.std.specs.Prelude.{slice_get}
 use Rattle.std.proofs.Math.Seq.{get_or-append_seam}
 use Rattle.std.proofs.lemmas.Bool.{cases_lt}
 use Rattle.inf_characters.specs.declared.characters.CharSet.{CharSet}
-use Rattle.inf_token.specs.Files.{Opening, Openings, Sources, opened}
+use Rattle.inf_token.specs.Files.{Closes, Opening, Openings, Sources, opened}
 use Rattle.inf_lexer.specs.Entering.{ClosedAgain, with_closed, with_opened}
+use Rattle.inf_lexer.specs.Names.{Nest, entered, number_of}
 use Rattle.inf_lexer.specs.Readers.{Reader, at_front}
-use Rattle.inf_lexer.specs.Unread.{Along, Ends, Gave, innermost, innermost_place, unread_of}
-use Rattle.inf_sources.specs.Open.{AllGiven, AreCounted, AreNested, IsCounted, IsGiven, IsNested, Open}
+use Rattle.inf_lexer.specs.Unread.{Along, Ends, Gave, StillGives, innermost, innermost_place, unread_of}
+use Rattle.inf_sources.specs.Open.{AllGiven, AreNested, AreTracked, Each, Fits, IsCounted, IsFrontOf, IsNested, IsTracked, Open}
+use Rattle.inf_sources.proofs.NamesKept.{named_at, names_stay}
 use Rattle.inf_sources.proofs.Openings.{slice_front}
 use Rattle.inf_sources.proofs.Places.{innermost_of, last_of, or_same, reverse_last}
-
-abbrev EachGiven : Sources → ℕ → List Opening → Type 0
-EachGiven s n all = (i : ℕ) → n ≤ i → i < length all → IsGiven s (get_or all i (opened []))
 
 -- two places are the same or not
 same_place : (i at : ℕ) → (i ≡ at) ⊎ (i ≡ at → ⊥)
@@ -26,87 +25,124 @@ same_place (suc i) (suc at) = next (same_place i at)
     next (inl e) = inl (ap suc e)
     next (inr other) = inr (λ e. other (omega (arith, e)))
 
--- nothing was given of an opening
-new_given : (s : Sources) (name : List ℕ) → IsGiven s (opened name)
-new_given s name = record { is_cut = refl; fits = omega arith }
-
 -- the next bytes were given
-next_given : (s : Sources) (old new : Opening) (bytes : List ℕ) → IsGiven s old → unread_of s old ≡ bytes ++ unread_of s new → new.given ≡ old.given ++ bytes
-    → new.name ≡ old.name → length new.given ≤ 16777216 → IsGiven s new
-next_given s old new bytes g next given name few = record {
-  is_cut = ap (λ (x : List ℕ). unwrap_or (s x) []) name ∙ g.is_cut ∙ ap (λ (x : List ℕ). old.given ++ x) next
-      ∙ sym (append_assoc old.given bytes (unread_of s new)) ∙ ap (λ (x : List ℕ). x ++ unread_of s new) (sym given);
-  fits = few;
-}
+next_front : (s : Sources) (old new : Opening) (bytes : List ℕ) → IsFrontOf s old → unread_of s old ≡ bytes ++ unread_of s new → new.given ≡ old.given ++ bytes
+    → new.name ≡ old.name → IsFrontOf s new
+next_front s old new bytes front next given name =
+    ap (λ (x : List ℕ). unwrap_or (s x) []) name ∙ front ∙ ap (λ (x : List ℕ). old.given ++ x) next
+    ∙ sym (append_assoc old.given bytes (unread_of s new)) ∙ ap (λ (x : List ℕ). x ++ unread_of s new) (sym given)
+
+-- What is known of names under their numbers stays.
+abbrev NamesStay : List (List ℕ) → List (List ℕ) → Type 0
+NamesStay known names = (i : ℕ) (name : List ℕ) → slice_get known i ≡ Some name → slice_get names i ≡ Some name
 
 -- lexers of openings that did not change
-counted_same : (s : Sources) (n : ℕ) (old new : List Opening) (bound : ℕ) (places : List ℕ) (readers : List Reader) → AreNested bound places readers
-    → ((i : ℕ) → i < bound → slice_get new i ≡ slice_get old i) → AreCounted s n old places readers → AreCounted s n new places readers
-counted_same s n old new bound places [] h same c = tt
-counted_same s n old new bound [] (r ∷ readers) h same c = absurd h
-counted_same s n old new bound (p ∷ places) (r ∷ readers) h same c = (
-  c.0,
-  (
-    subst (λ (o : Opening). IsCounted s o r.window) (sym (or_same old new p (same p h.0))) c.1.0,
-    counted_same s n old new p places readers h.1 (λ i less. same i (omega (arith, less, h.0))) c.1.1,
-  ),
-)
+tracked_same : (s : Sources) (n : ℕ) (known names : List (List ℕ)) (old new : List Opening) (bound : ℕ) (places : List ℕ) (readers : List Reader) → NamesStay known names
+    → AreNested bound places readers → ((i : ℕ) → i < bound → slice_get new i ≡ slice_get old i) → AreTracked s n known old places readers
+    → AreTracked s n names new places readers
+tracked_same s n known names old new bound places [] stay h same t = tt
+tracked_same s n known names old new bound [] (r ∷ readers) stay h same t = absurd h
+tracked_same s n known names old new bound (p ∷ places) (r ∷ readers) stay h same t =
+    let here : get_or new p (opened []) ≡ get_or old p (opened []) = or_same old new p (same p h.0) in (
+      record {
+        behind = t.0.behind;
+        named = stay r.file _ t.0.named ∙ ap (λ (o : Opening). Some o.name) (sym here);
+        counted = subst (λ (o : Opening). IsCounted s o r.window) (sym here) t.0.counted;
+      },
+      tracked_same s n known names old new p places readers stay h.1 (λ i less. same i (omega (arith, less, h.0))) t.1,
+    )
 
 -- The innermost gave some bytes
 
-read_each : (s : Sources) (n : ℕ) (old new : Openings) (bytes : List ℕ) → Gave s old new bytes → innermost_place old < length old.all → n ≤ innermost_place old
-    → length (innermost new).given ≤ 16777216 → EachGiven s n old.all → EachGiven s n new.all
-read_each s n old new bytes gave less behind few each = λ i le lt. at i le lt (same_place i (innermost_place old))
+-- what holds of it then, and held of each, holds of each
+read_each : (P : Opening → Type 0) (s : Sources) (n : ℕ) (old new : Openings) (bytes : List ℕ) → Gave s old new bytes → P (innermost new) → Each P n old.all → Each P n new.all
+read_each P s n old new bytes gave here each = λ i le lt. at i le lt (same_place i (innermost_place old))
   where
     place : innermost_place new ≡ innermost_place old
     place = ap (λ (ps : List ℕ). get_or ps (length ps - 1) 0) gave.places
 
-    here : IsGiven s (innermost new)
-    here = next_given s (innermost old) (innermost new) bytes (each (innermost_place old) behind less) gave.next gave.given gave.name few
-
-    at : (i : ℕ) → n ≤ i → i < length new.all → (i ≡ innermost_place old) ⊎ (i ≡ innermost_place old → ⊥) → IsGiven s (get_or new.all i (opened []))
-    at i le lt (inl e) = subst (λ (k : ℕ). IsGiven s (get_or new.all k (opened []))) (place ∙ sym e) here
+    at : (i : ℕ) → n ≤ i → i < length new.all → (i ≡ innermost_place old) ⊎ (i ≡ innermost_place old → ⊥) → P (get_or new.all i (opened []))
+    at i le lt (inl e) = subst (λ (k : ℕ). P (get_or new.all k (opened []))) (place ∙ sym e) here
     at i le lt (inr other) =
-        subst (λ (o : Opening). IsGiven s o) (sym (or_same old.all new.all i (gave.others i other))) (each i le (omega (arith, lt, gave.count)))
+        subst (λ (o : Opening). P o) (sym (or_same old.all new.all i (gave.others i other))) (each i le (omega (arith, lt, gave.count)))
 
-pub read_given : (s : Sources) (start old new : Openings) (before after : Open) → IsNested start old before → after.outer ≡ before.outer
-    → Along s old new before.lexer.window.given after.lexer.window.given → after.lexer.window.given ≤ 16777216 → length after.lexer.window.left ≤ 4096
-    → (Ends s old before.lexer.window → Ends s new after.lexer.window)
-    → AllGiven s (length start.all) old before → AllGiven s (length start.all) new after
-read_given s start old new before after nested outer along few window ends given =
+-- the innermost file is tracked behind it
+read_first : (s : Sources) (start old new : Openings) (before after : Open) → IsNested start old before → after.nest.names ≡ before.nest.names
+    → after.lexer.file ≡ before.lexer.file → Along s old new before.lexer.window.given after.lexer.window.given → length after.lexer.window.left ≤ 4096
+    → (Ends s old before.lexer.window → Ends s new after.lexer.window) → (StillGives old before.lexer.window → StillGives new after.lexer.window)
+    → AllGiven s (length start.all) old before → IsTracked s (length start.all) after.nest.names new.all (innermost_place old) after.lexer
+read_first s start old new before after nested names file along window ends still given =
     let n : ℕ = length start.all in
     let gave = along.gave in
     let at = innermost_of (length old.all) (reverse old.open_places) before.lexer (reverse before.outer) nested.nested in
     let place : innermost_place old ≡ at.place = last_of old.open_places at.place at.rest at.is in
-    let now : innermost_place new ≡ at.place = ap (λ (ps : List ℕ). get_or ps (length ps - 1) 0) gave.places ∙ place in
-    let was : AreCounted s n old.all (at.place ∷ at.rest) (before.lexer ∷ reverse before.outer) =
-    subst (λ (ps : List ℕ). AreCounted s n old.all ps (before.lexer ∷ reverse before.outer)) at.is given.counted in
-    let first : IsCounted s (innermost old) before.lexer.window =
-    subst (λ (k : ℕ). IsCounted s (get_or old.all k (opened [])) before.lexer.window) (sym place) was.1.0 in
-    let size : length (innermost new).given ≡ after.lexer.window.given =
-    omega (arith, ap length gave.given, length-append (innermost old).given along.bytes, first.count, along.count) in
-    let counted : IsCounted s (get_or new.all at.place (opened [])) after.lexer.window =
-    subst (λ (k : ℕ). IsCounted s (get_or new.all k (opened [])) after.lexer.window) now (record { count = size; window = window; ends = ends first.ends }) in
-    let rest : AreCounted s n new.all at.rest (reverse before.outer) =
-    counted_same s n old.all new.all at.place at.rest (reverse before.outer) at.inner (λ i less. gave.others i (λ e. omega (arith, less, e, place))) was.1.1 in
+    let now : innermost_place new ≡ innermost_place old = ap (λ (ps : List ℕ). get_or ps (length ps - 1) 0) gave.places in
+    let was : AreTracked s n before.nest.names old.all (at.place ∷ at.rest) (before.lexer ∷ reverse before.outer) =
+    subst (λ (ps : List ℕ). AreTracked s n before.nest.names old.all ps (before.lexer ∷ reverse before.outer)) at.is given.tracked in
+    let first : IsTracked s n before.nest.names old.all (innermost_place old) before.lexer =
+    subst (λ (k : ℕ). IsTracked s n before.nest.names old.all k before.lexer) (sym place) was.0 in
+    let counted : IsCounted s (innermost new) after.lexer.window = record {
+      count = omega (arith, ap length gave.given, length-append (innermost old).given along.bytes, first.counted.count, along.count);
+      window = window;
+      ends = ends first.counted.ends;
+      goes_on = still first.counted.goes_on;
+    } in
     record {
-      each = read_each s n old new along.bytes gave (omega (arith, place, at.less)) (omega (arith, place, was.0)) (omega (arith, size, few)) given.each;
-      counted = subst (λ (ps : List ℕ). AreCounted s n new.all ps (after.lexer ∷ reverse after.outer)) (sym (ap reverse gave.places ∙ at.is))
-          (subst (λ (rs : List Reader). AreCounted s n new.all (at.place ∷ at.rest) (after.lexer ∷ reverse rs)) (sym outer) (was.0, (counted, rest)));
+      behind = first.behind;
+      named = ap (λ (xs : List (List ℕ)). slice_get xs after.lexer.file) names ∙ ap (λ (k : ℕ). slice_get before.nest.names k) file ∙ first.named ∙ ap (λ (x : List ℕ). Some x) (sym gave.name)
+          ∙ ap (λ (k : ℕ). Some (get_or new.all k (opened [])).name) now;
+      counted = subst (λ (k : ℕ). IsCounted s (get_or new.all k (opened [])) after.lexer.window) now counted;
     }
+
+pub read_given : (s : Sources) (start old new : Openings) (before after : Open) → IsNested start old before → after.outer ≡ before.outer → after.nest.names ≡ before.nest.names
+    → after.lexer.file ≡ before.lexer.file → Along s old new before.lexer.window.given after.lexer.window.given → length after.lexer.window.left ≤ 4096
+    → (Ends s old before.lexer.window → Ends s new after.lexer.window) → (StillGives old before.lexer.window → StillGives new after.lexer.window)
+    → AllGiven s (length start.all) old before → AllGiven s (length start.all) new after
+read_given s start old new before after nested outer names file along window ends still given =
+    let n : ℕ = length start.all in
+    let gave = along.gave in
+    let at = innermost_of (length old.all) (reverse old.open_places) before.lexer (reverse before.outer) nested.nested in
+    let place : innermost_place old ≡ at.place = last_of old.open_places at.place at.rest at.is in
+    let first : IsTracked s n after.nest.names new.all at.place after.lexer =
+    subst (λ (k : ℕ). IsTracked s n after.nest.names new.all k after.lexer) place (read_first s start old new before after nested names file along window ends still given) in
+    let was : AreTracked s n before.nest.names old.all (at.place ∷ at.rest) (before.lexer ∷ reverse before.outer) =
+    subst (λ (ps : List ℕ). AreTracked s n before.nest.names old.all ps (before.lexer ∷ reverse before.outer)) at.is given.tracked in
+    let rest : AreTracked s n after.nest.names new.all at.rest (reverse before.outer) =
+    tracked_same s n before.nest.names after.nest.names old.all new.all at.place at.rest (reverse before.outer) (λ i name e. ap (λ (xs : List (List ℕ)). slice_get xs i) names ∙ e) at.inner
+    (λ i less. gave.others i (λ e. omega (arith, less, e, place))) was.1 in
+    let front : IsFrontOf s (innermost new) =
+    next_front s (innermost old) (innermost new) along.bytes
+    (given.each (innermost_place old) (omega (arith, place, was.0.behind)) (omega (arith, place, at.less))) gave.next gave.given gave.name in
+    record {
+      each = read_each (IsFrontOf s) s n old new along.bytes gave front given.each;
+      tracked = subst (λ (ps : List ℕ). AreTracked s n after.nest.names new.all ps (after.lexer ∷ reverse after.outer)) (sym (ap reverse gave.places ∙ at.is))
+          (subst (λ (rs : List Reader). AreTracked s n after.nest.names new.all (at.place ∷ at.rest) (after.lexer ∷ reverse rs)) (sym outer) (first, rest));
+    }
+
+-- as long as its lexer was given few bytes, no opening was given more
+pub read_fit : (s : Sources) (start old new : Openings) (before after : Open) → IsNested start old before → after.nest.names ≡ before.nest.names
+    → after.lexer.file ≡ before.lexer.file → Along s old new before.lexer.window.given after.lexer.window.given → after.lexer.window.given ≤ 16777216
+    → length after.lexer.window.left ≤ 4096 → (Ends s old before.lexer.window → Ends s new after.lexer.window)
+    → (StillGives old before.lexer.window → StillGives new after.lexer.window)
+    → AllGiven s (length start.all) old before → Each Fits (length start.all) old.all → Each Fits (length start.all) new.all
+read_fit s start old new before after nested names file along few window ends still given fit =
+    let gave = along.gave in
+    let now : innermost_place new ≡ innermost_place old = ap (λ (ps : List ℕ). get_or ps (length ps - 1) 0) gave.places in
+    let first = read_first s start old new before after nested names file along window ends still given in
+    read_each Fits s (length start.all) old new along.bytes gave
+    (subst (λ (k : ℕ). Fits (get_or new.all k (opened []))) (sym now) (omega (arith, first.counted.count, few))) fit
 
 -- One opening more
 
-each_more : (s : Sources) (n : ℕ) (all : List Opening) (name : List ℕ) → EachGiven s n all → EachGiven s n (all ++ opened name ∷ [])
-each_more s n all name each = λ i le lt. at i le lt (same_place i (length all))
+each_more : (P : Opening → Type 0) (n : ℕ) (all : List Opening) (name : List ℕ) → P (opened name) → Each P n all → Each P n (all ++ opened name ∷ [])
+each_more P n all name here each = λ i le lt. at i le lt (same_place i (length all))
   where
-    at : (i : ℕ) → n ≤ i → i < length (all ++ opened name ∷ []) → (i ≡ length all) ⊎ (i ≡ length all → ⊥) → IsGiven s (get_or (all ++ opened name ∷ []) i (opened []))
+    at : (i : ℕ) → n ≤ i → i < length (all ++ opened name ∷ []) → (i ≡ length all) ⊎ (i ≡ length all → ⊥) → P (get_or (all ++ opened name ∷ []) i (opened []))
     at i le lt (inl e) =
-        subst (λ (o : Opening). IsGiven s o) (sym (ap (λ (k : ℕ). get_or (all ++ opened name ∷ []) k (opened [])) e ∙ get_or-append_seam all (opened name) [] (opened [])))
-        (new_given s name)
+        subst (λ (o : Opening). P o) (sym (ap (λ (k : ℕ). get_or (all ++ opened name ∷ []) k (opened [])) e ∙ get_or-append_seam all (opened name) [] (opened []))) here
     at i le lt (inr other) =
         let less : i < length all = front i lt other in
-        subst (λ (o : Opening). IsGiven s o) (sym (or_same all (all ++ opened name ∷ []) i (slice_front all (opened name) i less))) (each i le less)
+        subst (λ (o : Opening). P o) (sym (or_same all (all ++ opened name ∷ []) i (slice_front all (opened name) i less))) (each i le less)
       where
         front : (i : ℕ) → i < length (all ++ opened name ∷ []) → (i ≡ length all → ⊥) → i < length all
         front i lt other = by (cases_lt i (length all))
@@ -115,38 +151,69 @@ each_more s n all name each = λ i le lt. at i le lt (same_place i (length all))
             by (inl less) = less
             by (inr more) = absurd (other (omega (arith, lt, more, length-append all (opened name ∷ []))))
 
-counted_new : (s : Sources) (all : List Opening) (name : List ℕ) (set : CharSet) (limit number : ℕ)
-    → IsCounted s (get_or (all ++ opened name ∷ []) (length all) (opened [])) (at_front set limit number).window
-counted_new s all name set limit number =
-    subst (λ (o : Opening). IsCounted s o (at_front set limit number).window) (sym (get_or-append_seam all (opened name) [] (opened [])))
-    (record { count = refl; window = omega arith; ends = λ e. cc })
+pub fit_more : (n : ℕ) (all : List Opening) (name : List ℕ) → Each Fits n all → Each Fits n (all ++ opened name ∷ [])
+fit_more n all name fit = each_more Fits n all name (omega arith) fit
+
+pub none_fit : (all : List Opening) (name : List ℕ) → Each Fits (length all) (all ++ opened name ∷ [])
+none_fit all name = fit_more (length all) all name (λ i le lt. absurd (omega (arith, le, lt)))
 
 -- one file more
-pub entered_given : (s : Sources) (start old new : Openings) (before after : Open) (name : List ℕ) (set : CharSet) (limit number : ℕ) → IsNested start old before
-    → new ≡ with_opened name old → after.lexer ≡ at_front set limit number → after.outer ≡ before.outer ++ before.lexer ∷ []
-    → AllGiven s (length start.all) old before → AllGiven s (length start.all) new after
-entered_given s start old new before after name set limit number nested opens fronts outer given =
+tracked_new : (s : Sources) (n : ℕ) (all : List Opening) (name : List ℕ) (nest : Nest) (set : CharSet) (limit : ℕ) → n ≤ length all
+    → IsTracked s n (entered name nest).names (all ++ opened name ∷ []) (length all) (at_front set limit (number_of name nest.names))
+tracked_new s n all name nest set limit behind =
+    let here : get_or (all ++ opened name ∷ []) (length all) (opened []) ≡ opened name = get_or-append_seam all (opened name) [] (opened []) in
+    record {
+      behind = behind;
+      named = named_at name nest.names ∙ ap (λ (o : Opening). Some o.name) (sym here);
+      counted = subst (λ (o : Opening). IsCounted s o (at_front set limit (number_of name nest.names)).window) (sym here)
+          (record { count = refl; window = omega arith; ends = λ e. cc; goes_on = λ e. refl });
+    }
+
+pub entered_given : (s : Sources) (start old new : Openings) (before after : Open) (name : List ℕ) (set : CharSet) (limit : ℕ) → IsNested start old before
+    → new ≡ with_opened name old → after.nest ≡ entered name before.nest → after.lexer ≡ at_front set limit (number_of name before.nest.names)
+    → after.outer ≡ before.outer ++ before.lexer ∷ [] → AllGiven s (length start.all) old before → AllGiven s (length start.all) new after
+entered_given s start old new before after name set limit nested opens nest fronts outer given =
     let n : ℕ = length start.all in
     let all : List Opening = old.all ++ opened name ∷ [] in
-    let rest : AreCounted s n all (reverse old.open_places) (before.lexer ∷ reverse before.outer) =
-    counted_same s n old.all all (length old.all) (reverse old.open_places) (before.lexer ∷ reverse before.outer) nested.nested
-    (λ i less. slice_front old.all (opened name) i less) given.counted in
+    let names : List (List ℕ) = (entered name before.nest).names in
+    let front : Reader = at_front set limit (number_of name before.nest.names) in
+    let rest : AreTracked s n names all (reverse old.open_places) (before.lexer ∷ reverse before.outer) =
+    tracked_same s n before.nest.names names old.all all (length old.all) (reverse old.open_places) (before.lexer ∷ reverse before.outer)
+    (λ i x e. names_stay name before.nest.names i x e) nested.nested (λ i less. slice_front old.all (opened name) i less) given.tracked in
     let readers : reverse after.outer ≡ before.lexer ∷ reverse before.outer = ap reverse outer ∙ reverse_last before.outer before.lexer in
-    let counted : AreCounted s n all (length old.all ∷ reverse old.open_places) (after.lexer ∷ reverse after.outer) =
-    subst (λ (rs : List Reader). AreCounted s n all (length old.all ∷ reverse old.open_places) (after.lexer ∷ rs)) (sym readers)
-    (nested.more, (subst (λ (r : Reader). IsCounted s (get_or all (length old.all) (opened [])) r.window) (sym fronts) (counted_new s old.all name set limit number), rest)) in
+    let tracked : AreTracked s n names all (length old.all ∷ reverse old.open_places) (front ∷ before.lexer ∷ reverse before.outer) =
+    (tracked_new s n old.all name before.nest set limit nested.more, rest) in
     subst (λ (o : Openings). AllGiven s n o after) (sym opens) (record {
-      each = each_more s n old.all name given.each;
-      counted = subst (λ (ps : List ℕ). AreCounted s n all ps (after.lexer ∷ reverse after.outer)) (sym (reverse_last old.open_places (length old.all))) counted;
+      each = each_more (IsFrontOf s) n old.all name refl given.each;
+      tracked = subst (λ (x : Nest). AreTracked s n x.names all (reverse (old.open_places ++ length old.all ∷ [])) (after.lexer ∷ reverse after.outer)) (sym nest)
+          (subst (λ (ps : List ℕ). AreTracked s n names all ps (after.lexer ∷ reverse after.outer)) (sym (reverse_last old.open_places (length old.all)))
+          (subst (λ (r : Reader). AreTracked s n names all (length old.all ∷ reverse old.open_places) (r ∷ reverse after.outer)) (sym fronts)
+          (subst (λ (rs : List Reader). AreTracked s n names all (length old.all ∷ reverse old.open_places) (front ∷ rs)) (sym readers) tracked)));
+    })
+
+-- the main source
+pub main_given : (s : Sources) (old new : Openings) (files : Open) (name : List ℕ) (nest : Nest) (set : CharSet) (limit : ℕ) → new ≡ with_opened name old
+    → files.nest ≡ entered name nest → files.lexer ≡ at_front set limit (number_of name nest.names) → files.outer ≡ [] → AllGiven s (length old.all) new files
+main_given s old new files name nest set limit opens enters fronts outer =
+    let n : ℕ = length old.all in
+    let all : List Opening = old.all ++ opened name ∷ [] in
+    let front : Reader = at_front set limit (number_of name nest.names) in
+    subst (λ (o : Openings). AllGiven s n o files) (sym opens) (record {
+      each = each_more (IsFrontOf s) n old.all name refl (λ i le lt. absurd (omega (arith, le, lt)));
+      tracked = subst (λ (x : Nest). AreTracked s n x.names all (reverse (old.open_places ++ length old.all ∷ [])) (files.lexer ∷ reverse files.outer)) (sym enters)
+          (subst (λ (ps : List ℕ). AreTracked s n (entered name nest).names all ps (files.lexer ∷ reverse files.outer)) (sym (reverse_last old.open_places (length old.all)))
+          (subst (λ (r : Reader). AreTracked s n (entered name nest).names all (length old.all ∷ reverse old.open_places) (r ∷ reverse files.outer)) (sym fronts)
+          (subst (λ (rs : List Reader). AreTracked s n (entered name nest).names all (length old.all ∷ reverse old.open_places) (front ∷ reverse rs)) (sym outer)
+          (tracked_new s n old.all name nest set limit (omega arith), tt))));
     })
 
 -- one opening more, which was closed at once
 closed_given : (s : Sources) (start old : Openings) (files : Open) (name : List ℕ) → IsNested start old files → AllGiven s (length start.all) old files
     → AllGiven s (length start.all) (with_closed name old) files
 closed_given s start old files name nested given = record {
-  each = each_more s (length start.all) old.all name given.each;
-  counted = counted_same s (length start.all) old.all (old.all ++ opened name ∷ []) (length old.all) (reverse old.open_places) (files.lexer ∷ reverse files.outer) nested.nested
-      (λ i less. slice_front old.all (opened name) i less) given.counted;
+  each = each_more (IsFrontOf s) (length start.all) old.all name refl given.each;
+  tracked = tracked_same s (length start.all) files.nest.names files.nest.names old.all (old.all ++ opened name ∷ []) (length old.all) (reverse old.open_places) (files.lexer ∷ reverse files.outer)
+      (λ i x e. e) nested.nested (λ i less. slice_front old.all (opened name) i less) given.tracked;
 }
 
 -- where the reader failed, or a name was one too many
@@ -155,3 +222,23 @@ pub failed_given : (s : Sources) (known names : List (List ℕ)) (start old new 
 failed_given s known names start old new files n (inl same) g = subst (λ (o : Openings). AllGiven s (length start.all) o files) (sym same) g
 failed_given s known names start old new files n (inr c) g =
     subst (λ (o : Openings). AllGiven s (length start.all) o files) (sym c.is_closed) (closed_given s start old files c.name n g)
+
+pub failed_fit : (s : Sources) (known names : List (List ℕ)) (n : ℕ) (old new : Openings) → (new ≡ old) ⊎ ClosedAgain s known names old new → Each Fits n old.all → Each Fits n new.all
+failed_fit s known names n old new (inl same) fit = subst (λ (o : Openings). Each Fits n o.all) (sym same) fit
+failed_fit s known names n old new (inr c) fit = subst (λ (o : Openings). Each Fits n o.all) (sym c.is_closed) (fit_more n old.all c.name fit)
+
+-- The innermost file was left.
+pub left_given : (s : Sources) (start old new : Openings) (before after : Open) → IsNested start old before → Closes old new → before.outer ≡ after.outer ++ after.lexer ∷ []
+    → after.nest.names ≡ before.nest.names → AllGiven s (length start.all) old before → AllGiven s (length start.all) new after
+left_given s start old new before after nested closes outer names given =
+    let n : ℕ = length start.all in
+    let places : reverse old.open_places ≡ closes.place ∷ reverse new.open_places = ap reverse closes.innermost ∙ reverse_last new.open_places closes.place in
+    let readers : reverse before.outer ≡ after.lexer ∷ reverse after.outer = ap reverse outer ∙ reverse_last after.outer after.lexer in
+    let was : AreTracked s n before.nest.names old.all (closes.place ∷ reverse new.open_places) (before.lexer ∷ reverse before.outer) =
+    subst (λ (ps : List ℕ). AreTracked s n before.nest.names old.all ps (before.lexer ∷ reverse before.outer)) places given.tracked in
+    record {
+      each = subst (λ (all : List Opening). Each (IsFrontOf s) n all) (sym closes.same) given.each;
+      tracked = subst (λ (x : List (List ℕ)). AreTracked s n x new.all (reverse new.open_places) (after.lexer ∷ reverse after.outer)) (sym names)
+          (subst (λ (all : List Opening). AreTracked s n before.nest.names all (reverse new.open_places) (after.lexer ∷ reverse after.outer)) (sym closes.same)
+          (subst (λ (rs : List Reader). AreTracked s n before.nest.names old.all (reverse new.open_places) rs) readers was.1));
+    }

@@ -1,12 +1,13 @@
 -- The places of the openings that are open, and what stands at them.
-use Rattle.std.proofs.Common.{◌≡◌, ℕ, suc, zero, ◌-◌, ◌<◌, List, [], ◌∷◌, ◌++◌, length, map, reverse, get_or, Some, None, unwrap_or, refl, sym, ap, ◌∙◌, arith, length-append}
+use Rattle.std.proofs.Common.{◌≡◌, ℕ, suc, zero, ◌-◌, ◌<◌, List, [], ◌∷◌, ◌++◌, length, drop, map, reverse, get_or, Some, None, unwrap_or, refl, sym, ap, ◌∙◌, arith, length-append}
 use Rattle.std.specs.Prelude.{slice_get}
 use Rattle.std.proofs.Math.Seq.{get_or-append_seam}
 use Rattle.std.proofs.lemmas.Grind.{reverse_onto}
 use Rattle.std.proofs.lemmas.List.{reverse-append, reverse-reverse}
-use Rattle.inf_token.specs.Files.{Opening, Sources, opened}
+use Rattle.inf_token.specs.Files.{Opening, Openings, Sources, opened}
 use Rattle.inf_lexer.specs.Readers.{Reader}
-use Rattle.inf_sources.specs.Open.{AreNested, cursor_of, cursors_at, rest_of}
+use Rattle.inf_sources.specs.Cursors.{Cursor}
+use Rattle.inf_sources.specs.Open.{AreNested, IsNested, Open, cursor_of, cursors_at, files_of, nesting, rest_of}
 
 -- the last of some numbers
 last_place : (outer : List ℕ) (place : ℕ) → get_or (outer ++ place ∷ []) (length (outer ++ place ∷ []) - 1) 0 ≡ place
@@ -74,6 +75,21 @@ waiting_length s all bound [] [] h = refl
 waiting_length s all bound (p ∷ places) [] h = refl
 waiting_length s all bound [] (r ∷ readers) h = absurd h
 waiting_length s all bound (p ∷ places) (r ∷ readers) h = ap suc (waiting_length s all p places readers h.1)
+
+-- the numbers of open files
+waiting_files : (s : Sources) (all : List Opening) (bound : ℕ) (places : List ℕ) (readers : List Reader) → AreNested bound places readers
+    → map (λ (c : Cursor). c.file) (cursors_at s all places readers) ≡ files_of readers
+waiting_files s all bound [] [] h = refl
+waiting_files s all bound (p ∷ places) [] h = refl
+waiting_files s all bound [] (r ∷ readers) h = absurd h
+waiting_files s all bound (p ∷ places) (r ∷ readers) h = ap (λ (files : List ℕ). r.file ∷ files) (waiting_files s all p places readers h.1)
+
+pub files_are : (s : Sources) (start now : Openings) (files : Open) → IsNested start now files
+    → map (λ (c : Cursor). c.file) ((nesting s start now files).cursor ∷ (nesting s start now files).waiting) ≡ files_of (files.lexer ∷ reverse files.outer)
+files_are s start now files n =
+    let at = innermost_of (length now.all) (reverse now.open_places) files.lexer (reverse files.outer) n.nested in
+    ap (λ (ps : List ℕ). files.lexer.file ∷ map (λ (c : Cursor). c.file) (cursors_at s now.all (drop 1 ps) (reverse files.outer))) at.is
+    ∙ ap (λ (fs : List ℕ). files.lexer.file ∷ fs) (waiting_files s now.all at.place at.rest (reverse files.outer) at.inner)
 
 -- Names of openings
 

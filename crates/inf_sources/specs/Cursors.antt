@@ -27,6 +27,6 @@ read c = next_token c.set c.limit c.lines c.rest
 abbrev pub behind : Cursor → Read → Cursor
 behind c r = record c { rest = r.rest; lines = r.lines }
 
--- what is still to come, but for what was not given, does not end the next token
-abbrev pub Unfinished : Cursor → List ℕ → Type 0
-Unfinished c unread = StaysUnfinished c.set c.limit c.lines c.rest unread
+-- what is still to come, but for what was not given and so many bytes before it, does not end the next token
+abbrev pub Unfinished : Cursor → ℕ → List ℕ → Type 0
+Unfinished c past unread = StaysUnfinished c.set c.limit c.lines c.rest past unread

@@ -1,3 +1,4 @@
+pub mod Calls
 pub mod Cursors
 pub mod Inclusions
 pub mod Open

@@ -1,5 +1,5 @@
 -- What the code's open files stand for, with a reader that keeps to its sources.
-use Rattle.std.specs.Prelude.{◌≡◌, ℕ, suc, ◌+◌, ◌<◌, ◌≤◌, List, [], ◌∷◌, ◌++◌, length, map, drop, reverse, get_or, unwrap_or, true, false, if◌then◌else◌}
+use Rattle.std.specs.Prelude.{◌≡◌, ℕ, suc, ◌<◌, ◌≤◌, List, [], ◌∷◌, ◌++◌, length, map, drop, reverse, get_or, unwrap_or, Some, slice_get, true, false, if◌then◌else◌}
 use Rattle.inf_characters.specs.declared.characters.CharSet.{CharSet}
 use Rattle.inf_scanner.specs.declared.tokens.Token.{Token}
 use Rattle.inf_token.specs.Files.{Opening, Openings, Sources, opened}
@@ -68,33 +68,46 @@ pub record IsNested (start now : Openings) (files : Open) : Type 0 where
   pub nested : AreNested (length now.all) (reverse now.open_places) (files.lexer ∷ reverse files.outer)
   pub others : drop (suc (length files.outer)) (reverse now.open_places) ≡ reverse start.open_places
 
--- Behind some openings that were there before, each name is that of an opening.
-abbrev pub NamesAreOpened : ℕ → Openings → Open → Type 0
-NamesAreOpened base now files = base + length files.nest.names ≤ length now.all
+-- What was given of an opening is a front of its source,
+abbrev pub IsFrontOf : Sources → Opening → Type 0
+IsFrontOf sources o = unwrap_or (sources o.name) [] ≡ o.given ++ unread_of sources o
 
--- What was given of an opening is a front of its source, of at most as many bytes as a source may have.
+-- of at most as many bytes as a source may have.
+abbrev pub Fits : Opening → Type 0
+Fits o = length o.given ≤ 16777216
+
 pub record IsGiven (sources : Sources) (o : Opening) : Type 0 where
-  pub is_cut : unwrap_or (sources o.name) [] ≡ o.given ++ unread_of sources o
-  pub fits : length o.given ≤ 16777216
+  pub is_cut : IsFrontOf sources o
+  pub fits : Fits o
+
+-- what holds of each opening behind n others
+abbrev pub Each : (Opening → Type 0) → ℕ → List Opening → Type 0
+Each P n all = (i : ℕ) → n ≤ i → i < length all → P (get_or all i (opened []))
 
 -- The lexer of an opening counts the bytes that were given of it, of which it has at most 4,096 in view. Where it read the end,
--- nothing more is to come, and it is known that the source was read to its end.
+-- nothing more is to come, and it is known that the source was read to its end; where it did not, that it was not.
 pub record IsCounted (sources : Sources) (o : Opening) (view : View) : Type 0 where
   pub count : length o.given ≡ view.given
   pub window : length view.left ≤ 4096
   pub ends : view.is_over ≡ true → (unread_of sources o ≡ []) × (o.is_read_out ≡ true)
+  pub goes_on : view.is_over ≡ false → o.is_read_out ≡ false
 
--- of each open file, by the places of their openings: it was opened behind n openings, and its lexer counts
-abbrev pub AreCounted : Sources → ℕ → List Opening → List ℕ → List Reader → Type 0
-AreCounted sources n all places [] = Unit {0}
-AreCounted sources n all [] (r ∷ readers) = ⊥
-AreCounted sources n all (p ∷ places) (r ∷ readers) =
-    (n ≤ p) × (IsCounted sources (get_or all p (opened [])) r.window × AreCounted sources n all places readers)
+-- An open file, by the place of its opening: it was opened behind n openings, under the name of its number, and its lexer counts.
+pub record IsTracked (sources : Sources) (n : ℕ) (names : List (List ℕ)) (all : List Opening) (place : ℕ) (r : Reader) : Type 0 where
+  pub behind : n ≤ place
+  pub named : slice_get names r.file ≡ Some (get_or all place (opened [])).name
+  pub counted : IsCounted sources (get_or all place (opened [])) r.window
+
+-- each open file is so
+abbrev pub AreTracked : Sources → ℕ → List (List ℕ) → List Opening → List ℕ → List Reader → Type 0
+AreTracked sources n names all places [] = Unit {0}
+AreTracked sources n names all [] (r ∷ readers) = ⊥
+AreTracked sources n names all (p ∷ places) (r ∷ readers) = IsTracked sources n names all p r × AreTracked sources n names all places readers
 
 -- All that was opened behind n openings was given so.
 pub record AllGiven (sources : Sources) (n : ℕ) (now : Openings) (files : Open) : Type 0 where
-  pub each : (i : ℕ) → n ≤ i → i < length now.all → IsGiven sources (get_or now.all i (opened []))
-  pub counted : AreCounted sources n now.all (reverse now.open_places) (files.lexer ∷ reverse files.outer)
+  pub each : Each (IsFrontOf sources) n now.all
+  pub tracked : AreTracked sources n files.nest.names now.all (reverse now.open_places) (files.lexer ∷ reverse files.outer)
 
 -- A token was read of the innermost file, with this spelling.
 pub record Reads (token : Token) (spelling : List ℕ) (was now : Nesting) : Type 0 where

@@ -1,14 +1,14 @@
 //! The files that are open, each with its lexer.
-ghost use Rattle.std.specs.Prelude.{◌≡◌, ◌≢◌, ℕ, ◌+◌, ◌-◌, ◌≤◌, ◌<◌, ◌⊎◌, ◌++◌, [], ◌∷◌, true, false, if◌then◌else◌, is_ok, min, IfErr, IfOk, OnOk, OnErr, IsErrOf, IsOk, IsTrue, None, Some, length, map};
+ghost use Rattle.std.specs.Prelude.{◌≡◌, ◌≢◌, ◌+◌, ◌-◌, min, ◌≤◌, ◌<◌, ◌⊎◌, ◌++◌, [], ◌∷◌, true, false, if◌then◌else◌, is_ok, IfErr, IfOk, OnOk, OnErr, IsErrOf, IsOk, IsTrue, None, Some, length, map, slice_get, unwrap_or};
 ghost use Rattle.inf_token.specs.Files.{Openings, Rose, last_count};
-ghost use Rattle.inf_lexer.specs.Entering.{has_one_too_many};
-ghost use Rattle.inf_lexer.specs.Names.{candidates, innermost_name};
+ghost use Rattle.inf_lexer.specs.Names.{can_name, innermost_name};
 ghost use Rattle.inf_lexer.specs.Readers.{Took, at_front};
 ghost use Rattle.inf_lexer.specs.Unread.{IsAtEnd, unread};
+ghost use Rattle.inf_sources.specs.Calls.{AskedTooMany, Honestly, Kept, StaysFit, Went};
 ghost use Rattle.inf_sources.specs.Cursors.{Unfinished};
-ghost use Rattle.inf_sources.specs.Inclusions.{OpenedInVain, answer_of, closed, inclusion, main_opened, nested_by};
+ghost use Rattle.inf_sources.specs.Inclusions.{OpenedInVain, OpensTooMany, answer_of, closed, inclusion, main_opened, nested_by};
 ghost use Rattle.inf_sources.specs.Quoted.{KeepsFew};
-ghost use Rattle.inf_sources.specs.Open.{AllGiven, IsNested, NamesAreOpened, Reads, closed_to, nesting, opened_since};
+ghost use Rattle.inf_sources.specs.Open.{AllGiven, Each, Fits, IsNested, Reads, closed_to, nesting, opened_since};
 
 use crate::faults::IncludeFault;
 use inf_lexer::{EnterFault, LexFault, Lexer, Stack, Token};
@@ -72,20 +72,19 @@ impl OpenFiles {
             ≡ main_opened set limit (F.sources files.old) name.now) }
         ensures nested { IsTrue (F.is_honest files.old) →
             IfOk result (λ o. IsNested (F.openings files.old) (F.openings files.new) o) }
-        ensures names { IsTrue (F.is_honest files.old) →
-            IfOk result (λ o. NamesAreOpened (length (F.openings files.old).all) (F.openings files.new) o) }
+        ensures opened { IfOk result (λ o. min (F.opened files.old + length o.nest.names) last_count ≤ F.opened files.new) }
         ensures given_all { IsTrue (F.is_honest files.old) →
             IfOk result (λ o. AllGiven (F.sources files.old) (length (F.openings files.old).all) (F.openings files.new) o) }
+        ensures fits { IsTrue (F.is_honest files.old) →
+            OnOk result (Each Fits (length (F.openings files.old).all) (F.openings files.new).all) }
         ensures absent { IsTrue (F.is_honest files.old) → IsErrOf result EnterFault.Absent → F.sources files.old name.now ≡ None }
         ensures unopened { IsTrue (F.is_honest files.old) → OnErr result (F.openings files.new ≡ F.openings files.old) }
         ensures empty { IsErrOf result EnterFault.BadName → length name.now ≡ 0 }
         ensures never { IsErrOf result EnterFault.TooDeep → ⊥ }
         ensures cause { IsErrOf result EnterFault.Device → Rose (F.faults files.old) (F.faults files.new) }
         ensures depth { F.depth files.new ≡ (if is_ok result then F.depth files.old + 1 else F.depth files.old) }
-        ensures faults { F.faults files.old ≤ F.faults files.new }
         ensures given { F.given files.new ≡ F.given files.old }
-        ensures sources { F.sources files.new ≡ F.sources files.old }
-        ensures honesty { F.is_honest files.new ≡ F.is_honest files.old }
+        ensures kept { Kept F.Files files.old files.new }
     {
         let mut names = Stack::new(alloc, set, limit);
         let lexer = names.enter_main(files, name)?;
@@ -105,7 +104,8 @@ impl OpenFiles {
 
     /// The name of the innermost file.
     pub fn innermost(&self) -> &str
-        ensures { result.now ≡ innermost_name self.now.nest }
+        ensures value { result.now ≡ innermost_name self.now.nest }
+        ensures file { result.now ≡ unwrap_or (slice_get self.now.nest.names self.now.lexer.file) [] }
     {
         self.names.innermost()
     }
@@ -126,38 +126,26 @@ impl OpenFiles {
         requires goes { self.old.lexer.has_failed ≡ false }
 
         // With an honest reader it is the next token of what is still to come, and nothing else changes.
-        ensures token { IsTrue (F.is_honest files.old) → (start : Openings) → IsNested start (F.openings files.old) self.old →
-            IfOk result (λ token. Reads token self.new.lexer.kept.bytes
+        ensures token { Honestly F.Files files.old self.old (λ start. IfOk result (λ token. Reads token self.new.lexer.kept.bytes
             (nesting (F.sources files.old) start (F.openings files.old) self.old)
-            (nesting (F.sources files.old) start (F.openings files.new) self.new)) }
-        ensures nested { IsTrue (F.is_honest files.old) → (start : Openings) → IsNested start (F.openings files.old) self.old →
-            IsNested start (F.openings files.new) self.new }
-        ensures opened { IsTrue (F.is_honest files.old) → (start : Openings) → IsNested start (F.openings files.old) self.old →
-            opened_since start (F.openings files.new) ≡ opened_since start (F.openings files.old) }
+            (nesting (F.sources files.old) start (F.openings files.new) self.new))) }
+        ensures opened { Honestly F.Files files.old self.old (λ start. opened_since start (F.openings files.new) ≡ opened_since start (F.openings files.old)) }
         ensures unfinished { IsTrue (F.is_honest files.old) → (start : Openings) → IsErrOf result LexFault.Read →
-            self.new.lexer.window.given ≤ 16777216 → Unfinished (nesting (F.sources files.old) start (F.openings files.old) self.old).cursor
-            (unread (F.sources files.old) (F.openings files.new)) }
-        ensures names { IsTrue (F.is_honest files.old) → (base : ℕ) → NamesAreOpened base (F.openings files.old) self.old →
-            NamesAreOpened base (F.openings files.new) self.new }
-        ensures given_all { IsTrue (F.is_honest files.old) → (start : Openings) → IsNested start (F.openings files.old) self.old →
-            AllGiven (F.sources files.old) (length start.all) (F.openings files.old) self.old →
-            OnOk result (AllGiven (F.sources files.old) (length start.all) (F.openings files.new) self.new) }
+            Unfinished (nesting (F.sources files.old) start (F.openings files.old) self.old).cursor
+            (self.new.lexer.window.given - 16777216) (unread (F.sources files.old) (F.openings files.new)) }
+        ensures on { IsErrOf result LexFault.Read → self.new.lexer.window.is_over ≡ false }
+        ensures went { Went F.Files files.old files.new self.old self.new }
+        ensures fits { OnOk result (StaysFit F.Files files.old files.new self.old) }
         ensures took { IfOk result (λ token. Took token.kind self.old.lexer.window self.new.lexer.window self.new.lexer.kept) }
         ensures quoted { IfOk result (λ token. KeepsFew self.old.nest.limit token.kind self.new.lexer.kept) }
         ensures goes { OnOk result (self.new.lexer.has_failed ≡ false) }
-        ensures same { (self.new.nest ≡ self.old.nest) × (self.new.outer ≡ self.old.outer) }
+        ensures same { (self.new.nest ≡ self.old.nest) × ((self.new.outer ≡ self.old.outer) × (self.new.lexer.file ≡ self.old.lexer.file)) }
 
         // What it was given: at most 4,096 bytes behind the token.
         ensures window { length self.new.lexer.window.left ≤ 4096 }
         ensures few { OnOk result (self.new.lexer.window.given ≤ 16777216) }
         ensures cause { IsErrOf result LexFault.Read → Rose (F.faults files.old) (F.faults files.new)
             ⊎ (16777216 < self.new.lexer.window.given) }
-        ensures given { min (F.given files.old + (self.new.lexer.window.given - self.old.lexer.window.given)) last_count
-            ≤ F.given files.new }
-        ensures depth { F.depth files.new ≡ F.depth files.old }
-        ensures faults { F.faults files.old ≤ F.faults files.new }
-        ensures sources { F.sources files.new ≡ F.sources files.old }
-        ensures honesty { F.is_honest files.new ≡ F.is_honest files.old }
     {
         let token = self.lexer.next(files)?;
         Ok(token)
@@ -178,27 +166,19 @@ impl OpenFiles {
         requires goes { self.old.lexer.has_failed ≡ false }
 
         // With an honest reader it is the first file that is there.
-        ensures answer { IsTrue (F.is_honest files.old) → (start : Openings) → IsNested start (F.openings files.old) self.old →
-            IfOk result (λ included. included ≡ answer_of (inclusion (F.sources files.old) (map (λ d. d.now) directories.now) text.now
-            (nesting (F.sources files.old) start (F.openings files.old) self.old))) }
-        ensures nesting { IsTrue (F.is_honest files.old) → (start : Openings) → IsNested start (F.openings files.old) self.old →
-            OnOk result (let was = nesting (F.sources files.old) start (F.openings files.old) self.old in
+        ensures answer { Honestly F.Files files.old self.old (λ start. IfOk result (λ included. included ≡ answer_of (inclusion (F.sources files.old) (map (λ d. d.now) directories.now) text.now
+            (nesting (F.sources files.old) start (F.openings files.old) self.old)))) }
+        ensures nesting { Honestly F.Files files.old self.old (λ start. OnOk result (let was = nesting (F.sources files.old) start (F.openings files.old) self.old in
             nesting (F.sources files.old) start (F.openings files.new) self.new
             ≡ nested_by self.old.nest.set self.old.nest.limit (F.sources files.old)
-            (inclusion (F.sources files.old) (map (λ d. d.now) directories.now) text.now was) was) }
-        ensures nested { IsTrue (F.is_honest files.old) → (start : Openings) → IsNested start (F.openings files.old) self.old →
-            IsNested start (F.openings files.new) self.new }
-        ensures in_vain { IsTrue (F.is_honest files.old) → (start : Openings) → IsNested start (F.openings files.old) self.old →
-            IfErr result (λ fault. let was = nesting (F.sources files.old) start (F.openings files.old) self.old in
+            (inclusion (F.sources files.old) (map (λ d. d.now) directories.now) text.now was) was)) }
+        ensures in_vain { Honestly F.Files files.old self.old (λ start. IfErr result (λ fault. let was = nesting (F.sources files.old) start (F.openings files.old) self.old in
             OpenedInVain fault (inclusion (F.sources files.old) (map (λ d. d.now) directories.now) text.now was) was
-            (opened_since start (F.openings files.new))) }
-        ensures names { IsTrue (F.is_honest files.old) → (base : ℕ) → NamesAreOpened base (F.openings files.old) self.old →
-            NamesAreOpened base (F.openings files.new) self.new }
-        ensures given_all { IsTrue (F.is_honest files.old) → (start : Openings) → IsNested start (F.openings files.old) self.old →
-            AllGiven (F.sources files.old) (length start.all) (F.openings files.old) self.old →
-            AllGiven (F.sources files.old) (length start.all) (F.openings files.new) self.new }
+            (opened_since start (F.openings files.new)))) }
+        ensures fits { StaysFit F.Files files.old files.new self.old }
 
         // With any reader.
+        ensures went { Went F.Files files.old files.new self.old self.new }
         ensures entered { IfOk result (λ included. included ≡ Included.Entered →
             ((self.new.lexer.window.given ≡ 0) × (self.new.lexer.window.left ≡ []))
             × ((self.new.outer ≡ self.old.outer ++ self.old.lexer ∷ []) × (length self.old.outer < 15))) }
@@ -207,13 +187,12 @@ impl OpenFiles {
         ensures goes { OnOk result (self.new.lexer.has_failed ≡ false) }
         ensures settings { (self.new.nest.set ≡ self.old.nest.set) × (self.new.nest.limit ≡ self.old.nest.limit) }
         ensures cause { IsErrOf result IncludeFault.Device → Rose (F.faults files.old) (F.faults files.new)
-            ⊎ (has_one_too_many self.old.nest.names
-            (candidates (map (λ d. d.now) directories.now) (innermost_name self.old.nest) text.now) ≡ true) }
-        ensures depth { F.depth files.new + length self.old.outer ≡ F.depth files.old + length self.new.outer }
-        ensures faults { F.faults files.old ≤ F.faults files.new }
+            ⊎ (AskedTooMany F.Files files.old files.new self.old self.new × Honestly F.Files files.old self.old (λ start.
+            let was = nesting (F.sources files.old) start (F.openings files.old) self.old in
+            OpensTooMany (inclusion (F.sources files.old) (map (λ d. d.now) directories.now) text.now was) was
+            (opened_since start (F.openings files.new)))) }
+        ensures named { IsErrOf result IncludeFault.Device → can_name text.now ≡ true }
         ensures given { F.given files.new ≡ F.given files.old }
-        ensures sources { F.sources files.new ≡ F.sources files.old }
-        ensures honesty { F.is_honest files.new ≡ F.is_honest files.old }
     {
         self.outer.reserve(1)?;
         match self.names.enter(files, directories, text) {
@@ -236,23 +215,13 @@ impl OpenFiles {
         requires is_open { length self.old.outer < F.depth files.old }
         ensures left { result ≡ true → (self.old.outer ≡ self.new.outer ++ self.new.lexer ∷ []) × (self.new.lexer.has_failed ≡ false) }
         ensures last { result ≡ false → (self.old.outer ≡ []) × ((self.new ≡ self.old) × (files.new ≡ files.old)) }
-        ensures nesting { IsTrue (F.is_honest files.old) → (start : Openings) → IsNested start (F.openings files.old) self.old →
-            nesting (F.sources files.old) start (F.openings files.new) self.new
-            ≡ closed (nesting (F.sources files.old) start (F.openings files.old) self.old) }
-        ensures nested { IsTrue (F.is_honest files.old) → (start : Openings) → IsNested start (F.openings files.old) self.old →
-            IsNested start (F.openings files.new) self.new }
-        ensures names { IsTrue (F.is_honest files.old) → (base : ℕ) → NamesAreOpened base (F.openings files.old) self.old →
-            NamesAreOpened base (F.openings files.new) self.new }
-        ensures given_all { IsTrue (F.is_honest files.old) → (start : Openings) → IsNested start (F.openings files.old) self.old →
-            AllGiven (F.sources files.old) (length start.all) (F.openings files.old) self.old →
-            AllGiven (F.sources files.old) (length start.all) (F.openings files.new) self.new }
+        ensures nesting { Honestly F.Files files.old self.old (λ start. nesting (F.sources files.old) start (F.openings files.new) self.new
+            ≡ closed (nesting (F.sources files.old) start (F.openings files.old) self.old)) }
+        ensures went { Went F.Files files.old files.new self.old self.new }
+        ensures fits { StaysFit F.Files files.old files.new self.old }
+        ensures untouched { (F.faults files.new ≡ F.faults files.old) × (F.given files.new ≡ F.given files.old) }
         ensures all { IsTrue (F.is_honest files.old) → (F.openings files.new).all ≡ (F.openings files.old).all }
         ensures settings { (self.new.nest.set ≡ self.old.nest.set) × (self.new.nest.limit ≡ self.old.nest.limit) }
-        ensures depth { F.depth files.new + length self.old.outer ≡ F.depth files.old + length self.new.outer }
-        ensures faults { F.faults files.new ≡ F.faults files.old }
-        ensures given { F.given files.new ≡ F.given files.old }
-        ensures sources { F.sources files.new ≡ F.sources files.old }
-        ensures honesty { F.is_honest files.new ≡ F.is_honest files.old }
     {
         let Some(lexer) = self.outer.pop() else {
             return false;
@@ -265,14 +234,11 @@ impl OpenFiles {
     /// Closes all files that are open.
     pub fn close<F: Files>(mut self, files: &mut F)
         requires is_open { length self.outer < F.depth files.old }
-        ensures closed { IsTrue (F.is_honest files.old) → (start : Openings) → IsNested start (F.openings files.old) self →
-            F.openings files.new ≡ closed_to start (F.openings files.old) }
+        ensures closed { Honestly F.Files files.old self (λ start. F.openings files.new ≡ closed_to start (F.openings files.old)) }
+        ensures kept { Kept F.Files files.old files.new }
+        ensures untouched { (F.faults files.new ≡ F.faults files.old) × (F.given files.new ≡ F.given files.old) }
         ensures all { IsTrue (F.is_honest files.old) → (F.openings files.new).all ≡ (F.openings files.old).all }
         ensures depth { F.depth files.new + length self.outer + 1 ≡ F.depth files.old }
-        ensures faults { F.faults files.new ≡ F.faults files.old }
-        ensures given { F.given files.new ≡ F.given files.old }
-        ensures sources { F.sources files.new ≡ F.sources files.old }
-        ensures honesty { F.is_honest files.new ≡ F.is_honest files.old }
     {
         while self.leave(files) {}
         self.names.leave(files);

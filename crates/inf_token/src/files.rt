@@ -62,11 +62,15 @@ pub trait Files {
     /// How many sources are open.
     ghost depth: { Self → ℕ };
 
+    /// How many openings have succeeded: 64 bits, and it stays at the last value.
+    ghost opened: { Self → ℕ };
+
     /// Opens the source of this name, which is then the innermost.
     fn open(&mut self, name: &str) -> Result<(), OpenFault>
         ensures opens { IsTrue (is_honest self.old) →
             Opens (sources self.old) name.now (openings self.old) (openings self.new) result }
         ensures depth { depth self.new ≡ (if is_ok result then depth self.old + 1 else depth self.old) }
+        ensures opened { opened self.new ≡ (if is_ok result then min (opened self.old + 1) last_count else opened self.old) }
         ensures cause { IsErrOf result OpenFault.Device → Rose (faults self.old) (faults self.new) }
         ensures faults { faults self.old ≤ faults self.new }
         ensures given { given self.new ≡ given self.old }
@@ -84,6 +88,7 @@ pub trait Files {
         ensures given { IfOk result (λ n. given self.new ≡ min (given self.old + n) last_count) }
         ensures same { OnErr result (given self.new ≡ given self.old) }
         ensures depth { depth self.new ≡ depth self.old }
+        ensures opened { opened self.new ≡ opened self.old }
         ensures cause { IsErr result → Rose (faults self.old) (faults self.new) }
         ensures faults { faults self.old ≤ faults self.new }
         ensures sources { sources self.new ≡ sources self.old }
@@ -94,6 +99,7 @@ pub trait Files {
         requires { 0 < depth self.old }
         ensures closes { IsTrue (is_honest self.old) → Closes (openings self.old) (openings self.new) }
         ensures depth { depth self.new + 1 ≡ depth self.old }
+        ensures opened { opened self.new ≡ opened self.old }
         ensures faults { faults self.new ≡ faults self.old }
         ensures given { given self.new ≡ given self.old }
         ensures sources { sources self.new ≡ sources self.old }

@@ -122,7 +122,8 @@ fn copy_front(to: &mut [u8], from: &[u8]) -> usize
 }
 
 impl Files for MemoryFiles {
-    ghost use Rattle.std.specs.Prelude.{length, true};
+    ghost use Rattle.std.specs.Prelude.{length, min, true};
+    ghost use Rattle.inf_token.specs.Files.{last_count};
     ghost use Rattle.inf_token.specs.MemoryFiles.{sources_of};
 
     ghost faults = { λ _. 0 };
@@ -136,6 +137,8 @@ impl Files for MemoryFiles {
     ghost openings = { λ f. f.openings };
 
     ghost depth = { λ f. length f.openings.open_places };
+
+    ghost opened = { λ f. min (length f.openings.all) last_count };
 
     fn open(&mut self, name: &str) -> Result<(), OpenFault> {
         if !self.sources.contains_key(name) {

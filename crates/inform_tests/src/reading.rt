@@ -1,6 +1,6 @@
 //! How a source is read: through a window, to its end or to a fatal error, whatever a read gives.
 use crate::compile::{GREETING, NO_ERRORS, greet, read_source};
-use crate::running::{assert_holds, fail_to_read, read};
+use crate::running::{assert_holds, fail_to_read, read, read_by_words};
 use inform_trials::devices::Slow;
 use std::alloc::Global;
 use std::process::Abort;
@@ -93,6 +93,31 @@ fn little_is_read_behind_a_fatal_error(rt: HostRuntime) -> Result<(), Fail> {
     for most in READS {
         read_little(&rt, rt.alloc(), source.as_slice(), lines.as_str(), most)?;
     }
+    Ok(())
+}
+
+/// A routine of a hundred thousand statements.
+fn long_routine(alloc: Global) -> Result<Vec<u8>, Fail> {
+    let mut source = b"[ Main;".as_slice().repeat(alloc, 1)?;
+    source.extend_from_slice(b"new_line;".as_slice().repeat(alloc, 100_000)?.as_slice())?;
+    source.extend_from_slice(b" ];")?;
+    Ok(source)
+}
+
+/// What a statement adds is counted when it ends, so no more than the window is read behind the one that passes the limit.
+#[test]
+fn little_is_read_behind_the_limit_of_code(rt: HostRuntime) -> Result<(), Fail> {
+    let source = long_routine(rt.alloc())?;
+    let mut files = Slow::new(source.as_slice(), usize::MAX);
+    let full = "t.inf(1): Fatal error: MAX_CODE is exceeded\n";
+    read_by_words(
+        &rt,
+        rt.alloc(),
+        &["$MAX_CODE=64", "t.inf"],
+        &mut files,
+        full,
+    )?;
+    assert_holds(&rt, &full, files.count <= 8192);
     Ok(())
 }
 

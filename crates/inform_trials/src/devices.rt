@@ -1,5 +1,6 @@
 //! Devices for tests: a sink that takes little, and a reader that gives little.
-ghost use Rattle.std.specs.Prelude.{None, [], false, length, if◌then◌else◌};
+ghost use Rattle.std.specs.Prelude.{None, [], false, length, min, if◌then◌else◌};
+ghost use Rattle.inf_token.specs.Files.{last_count};
 
 use inf_symbol::memory_sink::MemorySink;
 use inf_symbol::sinks::{Sink, SinkFault};
@@ -61,6 +62,7 @@ pub struct Slow<'a> {
     pub count: usize,
     failures: Failures,
     given: GivenBytes,
+    opened: u64,
 }
 
 impl<'a> Slow<'a> {
@@ -76,6 +78,7 @@ impl<'a> Slow<'a> {
             count: 0,
             failures: Failures::none(),
             given: GivenBytes::none(),
+            opened: 0,
         }
     }
 
@@ -117,12 +120,15 @@ impl Files for Slow<'_> {
 
     ghost depth = { λ f. if f.is_open then 1 else 0 };
 
+    ghost opened = { λ f. f.opened };
+
     fn open(&mut self, _name: &str) -> Result<(), OpenFault> {
         if self.is_open || !self.opens {
             self.failures.add();
             return Err(OpenFault::Device);
         }
         self.is_open = true;
+        self.opened = self.opened.saturating_add(1);
         Ok(())
     }
 
@@ -182,6 +188,8 @@ impl Files for Locked<'_> {
 
     ghost depth = { λ f. length f.files.openings.open_places };
 
+    ghost opened = { λ f. min (length f.files.openings.all) last_count };
+
     fn open(&mut self, name: &str) -> Result<(), OpenFault> {
         if name == self.locked {
             self.failures.add();
@@ -231,6 +239,8 @@ impl Files for Fused {
     ghost openings = { λ _. record { all = []; open_places = [] } };
 
     ghost depth = { λ f. length f.files.openings.open_places };
+
+    ghost opened = { λ f. min (length f.files.openings.all) last_count };
 
     fn open(&mut self, name: &str) -> Result<(), OpenFault> {
         if self.calls == 0 {

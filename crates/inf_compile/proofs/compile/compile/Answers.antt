@@ -31,5 +31,5 @@ returns-clause-opened g c = λ honest.
 
 pub returns-clause-clean : goal.returns-clause-clean
 returns-clause-clean g c =
-    clean_where_delivered _ c.deliver.result c.in_ok-compiled.compiled (g.M.Sink.taken c.translate.new.messages) (g.S.Sink.taken c.args.story.now) (g.S.Sink.taken c.deliver.new.story)
+    clean_where_delivered _ c.deliver.result c.in_ok-compiled.compiled (g.M.Sink.taken c.args.messages.now) (g.M.Sink.taken c.translate.new.messages) (g.S.Sink.taken c.args.story.now) (g.S.Sink.taken c.deliver.new.story)
     c.deliver.ensures.status c.deliver.ensures.story c.in_ok-compiled.ensures.errors c.in_ok-compiled.ensures.clean

@@ -1,6 +1,6 @@
-use Rattle.std.proofs.Common.{◌++◌, ℕ, List, drop, length, refl, sym, ap, ◌∙◌, arith, length-drop}
+use Rattle.std.proofs.Common.{◌++◌, Bool, IsTrue, subst, ℕ, List, drop, length, refl, sym, ap, ◌∙◌, arith, length-drop}
 use Rattle.inf_lexer.specs.Unread.{behind_view}
-use Rattle.inf_lexer.proofs.Hearing.{ends_on, ends_taken, heard_on, heard_source, heard_taken}
+use Rattle.inf_lexer.proofs.Hearing.{ends_on, ends_taken, heard_on, heard_source, heard_taken, still_taken}
 use Rattle.inf_lexer.proofs.Unfinished.{stays_unfinished}
 use Rattle.inf_lexer.proofs.Scanned.{find_end, none_left, some_left}
 use Rattle.inf_scanner.specs.Scanning.{Found, begun, find, found_after, is_on, is_open, is_quoted, sight}
@@ -26,6 +26,8 @@ windows-preserved g c =
           ∙ ap (λ (l : List ℕ). find c.args.set c.args.limit c.windows.state (sight c.windows.seen) (l ++ rest)) c.left-in-windows.ensures);
       end = λ honest ends. ends_taken (files.sources c.args.files.now) (files.openings c.refill.new.files) c.refill.new.self c.pass.new.self c.pass.ensures.over
           (ends_on (files.is_honest c.args.files.now) (files.is_honest c.windows.files) (files.sources c.args.files.now) (files.sources c.windows.files) (files.openings c.args.files.now) (files.openings c.windows.files) (files.openings c.refill.new.files) c.args.window.now c.windows.window c.refill.new.self inv.end inv.honesty inv.sources filled.end honest ends);
+      still = λ honest still. still_taken (files.openings c.refill.new.files) c.refill.new.self c.pass.new.self c.pass.ensures.over
+          (filled.still (subst (λ (b : Bool). IsTrue b) (sym inv.honesty) honest) (inv.still honest still));
       opens = sym (ap is_open c.in-On.is) ∙ took.opens inv.opens;
       room = omega (arith, ap (λ (l : List ℕ). length l) c.pass.ensures.left, length-drop c.in_ok-taken.taken c.refill.new.self.left, ap (λ (l : List ℕ). length l) c.left-in-windows.ensures, inv.room, filled.taken, c.pass.ensures.given, took.few, took.within);
       window = omega (arith, ap (λ (l : List ℕ). length l) c.pass.ensures.left, length-drop c.in_ok-taken.taken c.refill.new.self.left, filled.window);
@@ -33,6 +35,7 @@ windows-preserved g c =
       more = omega (arith, c.pass.ensures.given, inv.more, filled.more);
       given = omega (arith, c.pass.ensures.given, inv.more, filled.more, inv.given, filled.given);
       depth = filled.depth ∙ inv.depth;
+      opened = filled.opened ∙ inv.opened;
       faults = omega (arith, filled.faults, inv.faults);
       sources = filled.sources ∙ inv.sources;
       honesty = filled.honesty ∙ inv.honesty;
@@ -117,10 +120,10 @@ returns-in_err-taken-clause-memory g c = λ memory honest.
     ∙ c.in_err-taken.ensures.memory refl (behind_view sources openings c.refill.new.self)
 
 pub returns-in_err-refill-clause-unfinished : goal.returns-in_err-refill-clause-unfinished
-returns-in_err-refill-clause-unfinished g c = λ read few honest.
+returns-in_err-refill-clause-unfinished g c = λ read honest.
     let files = g.F.Files in
     let inv = c.windows.invariant in
     let filled = c.in_err-refill.ensures in
     stays_unfinished (files.is_honest c.args.files.now) (files.is_honest c.windows.files) (files.sources c.args.files.now) (files.sources c.windows.files) (files.openings c.args.files.now)
     (files.openings c.windows.files) (files.openings c.refill.new.files) c.args.window.now c.windows.window c.refill.new.self c.args.set c.args.limit c.args.seen.now.lines
-    c.windows.state (sight c.windows.seen) inv.heard inv.honesty inv.sources filled.reads inv.opens (filled.refused refl) (filled.unread refl few) honest
+    c.windows.state (sight c.windows.seen) inv.heard inv.honesty inv.sources filled.reads inv.opens (filled.refused refl) inv.few (filled.unread refl) honest

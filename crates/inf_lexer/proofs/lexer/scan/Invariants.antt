@@ -1,6 +1,6 @@
 use Rattle.std.proofs.Common.{◌≡◌, ◌+◌, ◌-◌, ◌≤◌, true, length, min, IsTrue}
 use Rattle.inf_token.specs.Files.{last_count}
-use Rattle.inf_lexer.specs.Unread.{Ends, Heard}
+use Rattle.inf_lexer.specs.Unread.{Ends, Heard, StillGives}
 use Rattle.inf_scanner.specs.Scanning.{Found, begun, find, goes_on, sight}
 use Rattle.inf_scanner.specs.declared.scanner.State.TheVariants as state
 use Rattle.inf_lexer.proofs.lexer.scan.Given as goal
@@ -14,6 +14,7 @@ invariant-windows g l =
       heard : Heard Found (files.is_honest l.fn.files) sources (files.openings l.fn.files) (files.openings l.files) l.fn.window l.window
           (find l.set l.limit l.state (sight l.seen)) (find l.set l.limit state.Gap (begun l.fn.seen.lines));
       end : IsTrue (files.is_honest l.fn.files) → Ends sources (files.openings l.fn.files) l.fn.window → Ends sources (files.openings l.files) l.window;
+      still : IsTrue (files.is_honest l.fn.files) → StillGives (files.openings l.fn.files) l.fn.window → StillGives (files.openings l.files) l.window;
       opens : goes_on l.state ≡ true;
       room : l.seen.lines.line + length l.window.left ≤ l.window.given + 1;
       window : length l.window.left ≤ 4096;
@@ -21,6 +22,7 @@ invariant-windows g l =
       more : l.fn.window.given ≤ l.window.given;
       given : min (files.given l.fn.files + (l.window.given - l.fn.window.given)) last_count ≤ files.given l.files;
       depth : files.depth l.files ≡ files.depth l.fn.files;
+      opened : files.opened l.files ≡ files.opened l.fn.files;
       faults : files.faults l.fn.files ≤ files.faults l.files;
       sources : files.sources l.files ≡ files.sources l.fn.files;
       honesty : files.is_honest l.files ≡ files.is_honest l.fn.files;

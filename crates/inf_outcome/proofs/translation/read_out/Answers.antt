@@ -1,14 +1,17 @@
-use Rattle.std.proofs.Common.{[], IfOk, refl, subst, sym}
+use Rattle.std.proofs.Common.{◌≡◌, [], IfOk, refl, subst, sym}
 use Rattle.std.proofs.lemmas.Result.{on_err_weaker}
 use Rattle.inf_opcode.proofs.Growing.{on_err}
-use Rattle.inf_sources.specs.Open.{IsNested, NamesAreOpened, Open, opened_since}
+use Rattle.inf_sources.specs.Open.{Open, opened_since}
+use Rattle.inf_sources.proofs.Calls.{went_as}
 use Rattle.inf_work.specs.Works.{work as work_of}
 use Rattle.inf_session.specs.Choices.{chosen}
-use Rattle.inf_session.specs.Delivered.{Delivers}
+use Rattle.inf_session.specs.Delivered.{Delivers, EndsClean}
+use Rattle.inf_session.specs.declared.compiled.Status.TheVariants as status
 use Rattle.inf_outcome.specs.Comes.{Concludes}
 use Rattle.inf_session.specs.Ending.{finished}
 use Rattle.inf_session.specs.Standing.{state}
-use Rattle.inf_outcome.proofs.Concluding.{concludes, if_ok_more, stops_ending, stops_reading}
+use Rattle.inf_outcome.proofs.Concluding.{concludes, if_ok_always, stops_ending, stops_reading}
+use Rattle.inf_session.proofs.Delivering.{ends_behind, if_ok_more}
 use Rattle.inf_session.proofs.Leadings.{opened_behind}
 use Rattle.inf_outcome.proofs.translation.read_out.Goals as goal
 
@@ -28,7 +31,7 @@ returns-in-Ok-clause-concludes g c = λ honest start nested.
     (λ x. Delivers (finished c.args.serial.now c.read.new.self.open_files.nest.names (work_of c.read.new.self.progress.work)) x mid new)
     (λ x. Concludes s o c.args.serial.now (state s start first c.args.session []) start here c.read.new.self.open_files old new x)
     (λ x d. concludes s o c.args.serial.now (state s start first c.args.session) (state s start here c.read.new.self) start here c.read.new.self.open_files old mid new read.0 x read.1
-    (λ told. c.in-Ok.ensures.ended) (λ told. refl) (c.in-Ok.ensures.nested honest start nested) (λ told. refl) (λ told. d))
+    (λ told. c.in-Ok.ensures.ended) (λ told. refl) (c.in-Ok.ensures.went.nested honest start nested) (λ told. refl) (λ told. d))
     c.finish.ensures.ok)
 
 pub returns-in-Ok-clause-stops : goal.returns-in-Ok-clause-stops
@@ -51,16 +54,8 @@ returns-in-Err-clause-stops g c = λ honest start nested.
     stops_reading s (chosen c.args.session.setup) c.args.serial.now (state s start (files.openings c.args.files.now) c.args.session)
     (g.M.Sink.taken c.args.messages.now) (g.M.Sink.taken c.read.new.messages) cut.0 cut.1
 
-pub returns-in-Ok-clause-names : goal.returns-in-Ok-clause-names
-returns-in-Ok-clause-names g c = λ honest base h.
-    subst (λ (x : Open). NamesAreOpened base (g.F.Files.openings c.read.new.files) x) (sym c.finish.ensures.files) (c.read.ensures.names honest base h)
-
 pub returns-in-Err-clause-heard : goal.returns-in-Err-clause-heard
 returns-in-Err-clause-heard g c = λ honest start nested. c.in-Err.ensures.unread honest start nested
-
-pub returns-in-Ok-clause-nested : goal.returns-in-Ok-clause-nested
-returns-in-Ok-clause-nested g c = λ honest start nested.
-    subst (λ (x : Open). IsNested start (g.F.Files.openings c.read.new.files) x) (sym c.finish.ensures.files) (c.read.ensures.nested honest start nested)
 
 pub returns-in-Ok-clause-opened : goal.returns-in-Ok-clause-opened
 returns-in-Ok-clause-opened g c = λ honest start nested.
@@ -73,3 +68,19 @@ returns-in-Ok-clause-opened g c = λ honest start nested.
       opened_behind s (chosen c.args.session.setup) read.0 (state s start (files.openings c.args.files.now) c.args.session) (state s start here c.read.new.self)
           (g.M.Sink.taken c.args.messages.now) (g.M.Sink.taken c.read.new.messages) (opened_since start here) read.1 (λ told. refl),
     )
+
+pub returns-in-Ok-clause-went : goal.returns-in-Ok-clause-went
+returns-in-Ok-clause-went g c =
+    went_as g.F.Files c.args.files.now c.read.new.files c.args.session.open_files c.read.new.self.open_files c.finish.result.0 c.finish.ensures.files c.read.ensures.went
+
+pub returns-in-Ok-clause-fits : goal.returns-in-Ok-clause-fits
+returns-in-Ok-clause-fits g c = if_ok_always c.finish.result.1 _ c.in-Ok.ensures.fits
+
+pub returns-in-Ok-clause-clean : goal.returns-in-Ok-clause-clean
+returns-in-Ok-clause-clean g c =
+    let m = g.M.Sink in
+    let old = c.args.messages.now in
+    let mid = c.read.new.messages in
+    let new = c.finish.new.messages in
+    if_ok_more c.finish.result.1 (λ x. x.status ≡ status.Success → EndsClean (m.taken mid) (m.taken new)) (λ x. x.status ≡ status.Success → EndsClean (m.taken old) (m.taken new))
+    (λ x p is. ends_behind m old mid new c.read.ensures.wrote (p is)) c.finish.ensures.clean

@@ -9,6 +9,7 @@ pub open-tells : goal.open-tells
 open-tells g c = record {
   opens = not_honest;
   depth = c.ensures.depth;
+  opened = c.ensures.opened;
   cause = c.ensures.cause;
   faults = c.ensures.faults;
   given = c.ensures.given;
@@ -23,6 +24,7 @@ read-tells g c = record {
   given = c.ensures.given;
   same = c.ensures.same;
   depth = c.ensures.depth;
+  opened = c.ensures.opened;
   cause = c.ensures.cause;
   faults = c.ensures.faults;
   sources = refl;
@@ -33,6 +35,7 @@ pub close-tells : goal.close-tells
 close-tells g c = record {
   closes = not_honest;
   depth = c.ensures.depth;
+  opened = c.ensures.opened;
   faults = c.ensures.faults;
   given = c.ensures.given;
   sources = refl;

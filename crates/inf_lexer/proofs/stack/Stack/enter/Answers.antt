@@ -1,6 +1,6 @@
-use Rattle.std.proofs.Common.{◌≡◌, ◌⊎◌, List, ℕ, true, map, IfOk, sym, subst, ◌∙◌}
+use Rattle.std.proofs.Common.{◌≡◌, ◌⊎◌, List, ℕ, map, IfOk, sym, subst, ◌∙◌}
 use Rattle.inf_token.specs.Files.{Rose}
-use Rattle.inf_lexer.specs.Entering.{Enters, Leaves, has_one_too_many}
+use Rattle.inf_lexer.specs.Entering.{Enters, Leaves, WasTooMany}
 use Rattle.inf_lexer.specs.Names.{candidates, innermost_name, name_in}
 use Rattle.inf_lexer.specs.Readers.{Reader}
 use Rattle.inf_lexer.proofs.Candidates.{fit_is, names_listed}
@@ -33,5 +33,6 @@ returns-clause-cause g c = λ device.
     names_listed c.args.directories.now (innermost_name c.args.self.now) c.args.text.now c.in-Some.file.now
     (sym c.without_sign-is_beside.ensures.sign ∙ c.if-is_beside.false)
     (fit_is _ _ _ c.in-Some.ensures ∙ c.without_sign-is_beside.ensures.name) (sym c.if-is_empty.ensures) in
-    subst (λ (names : List (List ℕ)). Rose (files.faults c.args.files.now) (files.faults c.open_first.new.files) ⊎ (has_one_too_many c.args.self.now.names names ≡ true)) same
+    subst (λ (names : List (List ℕ)). Rose (files.faults c.args.files.now) (files.faults c.open_first.new.files) ⊎ WasTooMany (files.sources c.args.files.now) (files.is_honest c.args.files.now) c.args.self.now.names names
+    (files.openings c.args.files.now) (files.openings c.open_first.new.files) (files.opened c.args.files.now) (files.opened c.open_first.new.files)) same
     (c.open_first.ensures.cause device)

@@ -1,10 +1,10 @@
-use Rattle.std.proofs.Common.{◌≡◌, ◌⊎◌, inl, inr, List, ℕ, [], ◌∷◌, Bool, true, Bor, Some, map, sym, ap, subst, ◌∙◌}
+use Rattle.std.proofs.Common.{◌≡◌, ◌⊎◌, inl, inr, List, ℕ, [], ◌∷◌, Bool, true, Bor, Some, IsTrue, arith, map, sym, ap, subst, ◌∙◌}
 use Rattle.std.specs.String.{string_bytes}
 use Rattle.inf_token.specs.Files.{Sources, Rose}
-use Rattle.inf_lexer.specs.Entering.{Enters, has_one_too_many}
+use Rattle.inf_lexer.specs.Entering.{ClosedAgain, Enters, WasTooMany, has_one_too_many}
 use Rattle.inf_lexer.specs.Names.{Nest, name_in}
 use Rattle.inf_lexer.specs.Readers.{Reader}
-use Rattle.inf_lexer.proofs.Candidates.{at_place, enters_in, of_each, rose_earlier, too_many_in}
+use Rattle.inf_lexer.proofs.Candidates.{at_place, closed_in, enters_in, of_each, rose_earlier, too_many_in}
 use Rattle.inf_lexer.proofs.stack.Stack.open_first.Goals as goal
 
 pub returns-then-not-is_absent-clause-ok : goal.returns-then-not-is_absent-clause-ok
@@ -36,8 +36,20 @@ returns-then-not-is_absent-clause-cause g c = λ device.
     let new = files.faults c.open_named-answer.new.files in
     let here : _ = at_place (Bor (List ℕ)) f c.args.directories.now c.loop-directory.directory-index _ c.loop-directory-test.true ∙ ap Some (sym c.in_ok-name.ensures) in
     let told = c.open_named-answer.ensures.cause device in
-    elim told as (λ _. Rose faults new ⊎ (has_one_too_many c.args.self.now.names (map f c.args.directories.now) ≡ true)) [
+    let names = map f c.args.directories.now in
+    let start = c.args.files.now in
+    let after = files.openings c.open_named-answer.new.files in
+    elim told as (λ _. Rose faults new ⊎ WasTooMany (files.sources start) (files.is_honest start) c.args.self.now.names names (files.openings start) after
+    (files.opened start) (files.opened c.open_named-answer.new.files)) [
       | inl rose ↦ inl (rose_earlier faults (files.faults c.loop-directory.files) new inv.faults rose)
-      | inr many ↦ inr (too_many_in c.args.self.now.names (map f c.args.directories.now) c.loop-directory.directory-index name here
-          (ap (λ (n : Nest). has_one_too_many n.names (name ∷ [])) (sym inv.same) ∙ many))
+      | inr many ↦ inr (record {
+        is_named = too_many_in c.args.self.now.names names c.loop-directory.directory-index name here
+            (ap (λ (n : Nest). has_one_too_many n.names (name ∷ [])) (sym inv.same) ∙ many.is_named);
+        counted = omega (arith, many.counted, inv.opened);
+        is_closed = λ honest. closed_in (files.sources start) c.args.self.now.names f c.args.directories.now c.loop-directory.directory-index _ name
+            (files.openings start) (files.openings c.loop-directory.files) after c.loop-directory-test.true c.in_ok-name.ensures (inv.openings honest) (inv.later honest)
+            (subst (λ (n : Nest). ClosedAgain (files.sources start) n.names (name ∷ []) (files.openings c.loop-directory.files) after) inv.same
+            (subst (λ (s : Sources). ClosedAgain s c.loop-directory.self.names (name ∷ []) (files.openings c.loop-directory.files) after) inv.sources
+            (many.is_closed (subst (λ (b : Bool). IsTrue b) (sym inv.honesty) honest))));
+      })
     ]

@@ -1,4 +1,5 @@
-use Rattle.std.proofs.Common.{◌≡◌, ◌≤◌, map, drop, IsTrue}
+use Rattle.std.proofs.Common.{◌≡◌, ◌≤◌, map, min, drop, IsTrue}
+use Rattle.inf_token.specs.Files.{last_count}
 use Rattle.inf_lexer.specs.Entering.{first_there}
 use Rattle.inf_lexer.specs.Names.{name_in}
 use Rattle.inf_lexer.proofs.stack.Stack.open_first.Given as goal
@@ -14,6 +15,7 @@ invariant-loop-directory g l =
           → first_there (files.sources l.fn.files) (map (λ d. name_in d.now l.file) (drop l.directory-index l.directories))
           ≡ first_there (files.sources l.fn.files) (map (λ d. name_in d.now l.file) l.directories);
       depth : files.depth l.files ≡ files.depth l.fn.files;
+      opened : min (files.opened l.fn.files) last_count ≤ files.opened l.files;
       faults : files.faults l.fn.files ≤ files.faults l.files;
       given : files.given l.files ≡ files.given l.fn.files;
       sources : files.sources l.files ≡ files.sources l.fn.files;

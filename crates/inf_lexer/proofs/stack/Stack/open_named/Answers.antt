@@ -1,11 +1,11 @@
-use Rattle.std.proofs.Common.{◌≡◌, List, ℕ, ◌++◌, [], ◌∷◌, map, refl, sym, ap, subst, ◌∙◌, arith}
+use Rattle.std.proofs.Common.{◌≡◌, ◌≤◌, inr, Bool, IsTrue, List, ℕ, ◌++◌, [], ◌∷◌, map, refl, sym, ap, subst, ◌∙◌, arith}
 use Rattle.std.specs.Prelude.{IsSome}
 use Rattle.std.specs.String.{string_bytes, string_eq}
 use Rattle.indexmap.specs.IndexSet.{insert_key}
 use Rattle.inf_lexer.specs.Entering.{IsEntered, with_opened}
 use Rattle.inf_lexer.specs.Names.{Nest, number_of, with_name}
 use Rattle.inf_lexer.specs.Readers.{at_front}
-use Rattle.inf_lexer.proofs.Candidates.{there_alone}
+use Rattle.inf_lexer.proofs.Candidates.{closes_opened, there_alone, too_many_alone}
 use Rattle.inf_lexer.proofs.NameLists.{added_to, of_ok}
 use Rattle.inf_lexer.proofs.stack.Stack.open_named.Goals as goal
 
@@ -38,3 +38,26 @@ returns-clause-ok g c =
       is_first = λ h. there_alone sources name (subst (λ (n : List ℕ). IsSome (sources n)) c.as_str-2.ensures.value (c.in-Ok.ensures.opens h).0);
       is_opened = λ h. (c.in-Ok.ensures.opens h).1 ∙ ap (λ (n : List ℕ). with_opened n (files.openings c.args.files.now)) c.as_str-2.ensures.value;
     }
+
+pub returns-then-number-ge-MOST_NAMES-clause-cause :
+    goal.returns-then-number-ge-MOST_NAMES-clause-cause
+returns-then-number-ge-MOST_NAMES-clause-cause g c = λ device.
+    let files = g.F.Files in
+    let sources = files.sources c.args.files.now in
+    let old = files.openings c.args.files.now in
+    let name = string_bytes c.args.name in
+    let known = c.args.self.now.names in
+    let number : c.number_of-number.result ≡ number_of name known =
+    c.number_of-number.ensures ∙ ap (λ (n : List ℕ). number_of n known) c.as_str.ensures.value in
+    inr (record {
+      is_named = too_many_alone known name (omega (arith, number, c.if-number-ge-MOST_NAMES.true));
+      counted = omega (arith, c.in-Ok.ensures.opened, c.close.ensures.opened);
+      is_closed = λ honest. record {
+        name = name;
+        is_first = there_alone sources name (subst (λ (n : List ℕ). IsSome (sources n)) c.as_str-2.ensures.value (c.in-Ok.ensures.opens honest).0);
+        is_too_many = omega (arith, number, c.if-number-ge-MOST_NAMES.true);
+        is_closed = closes_opened name old (files.openings c.open.new.self) (files.openings c.close.new.self)
+            ((c.in-Ok.ensures.opens honest).1 ∙ ap (λ (n : List ℕ). with_opened n old) c.as_str-2.ensures.value)
+            (c.close.ensures.closes (subst (λ (b : Bool). IsTrue b) (sym c.open.ensures.honesty) honest));
+      };
+    })

@@ -5,16 +5,9 @@ use Rattle.inf_session.specs.Session.{State}
 use Rattle.inf_session.specs.Standing.{state}
 use Rattle.inf_session.proofs.Bounds.{bounds_then}
 use Rattle.inf_session.proofs.Opening.{followed_within}
-use Rattle.inf_sources.specs.Open.{NamesAreOpened, Open, opened_since}
+use Rattle.inf_sources.specs.Open.{opened_since}
+use Rattle.inf_sources.proofs.Calls.{went_as}
 use Rattle.inf_session.proofs.session.Session.follow.Goals as goal
-
-pub returns-in_err-rest-clause-names : goal.returns-in_err-rest-clause-names
-returns-in_err-rest-clause-names g c = λ honest base h.
-    subst (λ (x : Open). NamesAreOpened base (g.F.Files.openings c.heed.new.files) x) (sym c.rest.ensures.files) (c.heed.ensures.names honest base h)
-
-pub returns-clause-names : goal.returns-clause-names
-returns-clause-names g c = λ honest base h.
-    subst (λ (x : Open). NamesAreOpened base (g.F.Files.openings c.heed.new.files) x) (sym c.rest.ensures.files) (c.heed.ensures.names honest base h)
 
 pub returns-in_err-rest-clause-opened : goal.returns-in_err-rest-clause-opened
 returns-in_err-rest-clause-opened g c = λ honest start nested.
@@ -34,3 +27,9 @@ returns-in_err-heed-clause-opened g c = λ honest start nested.
 
 pub returns-clause-stays : goal.returns-clause-stays
 returns-clause-stays g c = bounds_then c.args.self.now c.heed.new.self c.rest.new.self c.in_ok-heed.ensures.stays c.in_ok-rest.ensures.stays
+
+pub returns-in_err-rest-clause-went : goal.returns-in_err-rest-clause-went
+returns-in_err-rest-clause-went g c = went_as g.F.Files c.args.files.now c.heed.new.files c.args.self.now.open_files c.heed.new.self.open_files c.rest.new.self.open_files c.rest.ensures.files c.heed.ensures.went
+
+pub returns-clause-went : goal.returns-clause-went
+returns-clause-went g c = went_as g.F.Files c.args.files.now c.heed.new.files c.args.self.now.open_files c.heed.new.self.open_files c.rest.new.self.open_files c.rest.ensures.files c.heed.ensures.went

@@ -1,44 +1,50 @@
-use Rattle.std.proofs.Common.{◌≤◌, inl, inr, Err, ap, subst, sym, length}
+use Rattle.std.proofs.Common.{◌≡◌, ◌⊎◌, inl, inr, Err, ap, subst, ◌∙◌}
 use Rattle.inf_opcode.proofs.Growing.{on_err}
-use Rattle.inf_sources.specs.Inclusions.{OpenedInVain, inclusion}
+use Rattle.inf_sources.specs.Inclusions.{OpenedInVain, OpensTooMany, inclusion}
 use Rattle.inf_sources.specs.Open.{nesting, opened_since}
 use Rattle.inf_session.specs.Choices.{chosen}
 use Rattle.inf_session.proofs.Opening.{in_vain, tried}
-use Rattle.inf_session.specs.Given.{GivesAtLeast, IsUnreadable}
-use Rattle.inf_session.proofs.Standings.{given_entered, many_names, read_always}
+use Rattle.inf_token.specs.Files.{Rose}
+use Rattle.inf_sources.specs.Calls.{IsUnreadable}
+use Rattle.inf_session.specs.Leading.{NotTried}
+use Rattle.inf_session.proofs.Standings.{caused_more, read_caused}
 use Rattle.inf_session.proofs.session.Session.include.Goals as goal
 
-pub returns-in-Ok-Entered-clause-given : goal.returns-in-Ok-Entered-clause-given
-returns-in-Ok-Entered-clause-given g c = λ base h.
+pub returns-in-Err-Device-clause-fault : goal.returns-in-Err-Device-clause-fault
+returns-in-Err-Device-clause-fault g c =
     let files = g.F.Files in
-    let e = c.in-Ok-Entered.ensures.entered c.in-Ok-Entered.field-0-is in
-    subst (λ n. GivesAtLeast base c.include.new.self n) (sym c.include.ensures.given)
-    (given_entered base (files.given c.args.files.now) c.args.self.now.open_files c.include.new.self e.0.0 e.1.0 h)
-
-pub returns-in-Err-Device-clause-cause : goal.returns-in-Err-Device-clause-cause
-returns-in-Err-Device-clause-cause g c =
-    let files = g.F.Files in
-    let err = c.in-Err-Device.ensures.err in
-    let cause : IsUnreadable (files.faults c.args.files.now) (files.faults c.include.new.files) c.include.new.self =
+    let before = c.args.self.now.open_files in
+    let unreadable = IsUnreadable files c.args.files.now c.include.new.files before c.include.new.self in
+    let cause : unreadable =
     elim (c.in-Err-Device.ensures.cause (ap (λ f. Err f) c.in-Err-Device.field-0-is)) [
       | inl rose ↦ inl rose
-      | inr many ↦ inr (inr (subst (λ o. 65535 ≤ length o.nest.names) (sym err) (many_names _ _ many)))
+      | inr many ↦ inr (inr many.0)
     ] in
-    read_always c.unread.result (λ name. IsUnreadable (files.faults c.args.files.now) (files.faults c.include.new.files) c.include.new.self) (λ name. cause)
+    caused_more c.unread.result (λ told. told ≡ c.shown.result.now) (λ name. unreadable) ⊥ ⊥ (λ name told. cause) (λ never. never) c.unread.ensures
 
-pub returns-in_err-enter_file-in-Ok-Entered-clause-given : goal.returns-in_err-enter_file-in-Ok-Entered-clause-given
-returns-in_err-enter_file-in-Ok-Entered-clause-given g c = λ base h.
+pub returns-in-Err-Device-clause-stops : goal.returns-in-Err-Device-clause-stops
+returns-in-Err-Device-clause-stops g c = λ honest start nested.
     let files = g.F.Files in
-    let e = c.in-Ok-Entered.ensures.entered c.in-Ok-Entered.field-0-is in
-    subst (λ n. GivesAtLeast base c.include.new.self n) (sym c.include.ensures.given)
-    (given_entered base (files.given c.args.files.now) c.args.self.now.open_files c.include.new.self e.0.0 e.1.0 h)
-
-pub returns-in_err-enter_file-in-Ok-Entered-2-clause-given : goal.returns-in_err-enter_file-in-Ok-Entered-2-clause-given
-returns-in_err-enter_file-in-Ok-Entered-2-clause-given g c = λ base h.
-    let files = g.F.Files in
-    let e = c.in-Ok-Entered.ensures.entered c.in-Ok-Entered.field-0-is in
-    subst (λ n. GivesAtLeast base c.include.new.self n) (sym c.include.ensures.given)
-    (given_entered base (files.given c.args.files.now) c.args.self.now.open_files c.include.new.self e.0.0 e.1.0 h)
+    let s = files.sources c.args.files.now in
+    let directories = (chosen c.args.self.now.setup).directories in
+    let text = c.args.text.now in
+    let was = nesting s start (files.openings c.args.files.now) c.args.self.now.open_files in
+    let opened = opened_since start (files.openings c.include.new.files) in
+    let failed = Rose (files.faults c.args.files.now) (files.faults c.include.new.files) in
+    let device = ap (λ f. Err f) c.in-Err-Device.field-0-is in
+    let cause : failed ⊎ OpensTooMany (inclusion s directories text was) was opened =
+    elim (c.in-Err-Device.ensures.cause device) [
+      | inl rose ↦ inl rose
+      | inr many ↦ inr (many.1 honest start nested)
+    ] in
+    read_caused c.unread.result (λ told. told ≡ c.shown.result.now) (λ name. (name ≡ text) × NotTried failed s directories text was opened) ⊥
+    (λ name is. (
+      is ∙ c.shown.ensures (c.in-Err-Device.ensures.named device),
+      record {
+        cause = cause;
+        openings_are = subst (λ f. OpenedInVain f (inclusion s directories text was) was opened) c.in-Err-Device.field-0-is (c.in-Err-Device.ensures.in_vain honest start nested);
+      },
+    )) c.unread.ensures
 
 pub returns-in_err-enter_file-in-Ok-Entered-clause-opened : goal.returns-in_err-enter_file-in-Ok-Entered-clause-opened
 returns-in_err-enter_file-in-Ok-Entered-clause-opened g c = λ honest start nested.

@@ -3,10 +3,9 @@ use Rattle.inf_conditionals.specs.Ends.{file_told}
 use Rattle.inf_token.specs.Files.{Opening}
 use Rattle.inf_sources.specs.Open.{nesting}
 use Rattle.inf_work.specs.Works.{work as work_of}
-use Rattle.inf_session.specs.Given.{GivesAtLeast}
 use Rattle.inf_session.specs.Standing.{state}
 use Rattle.inf_session.proofs.Bounds.{left_same}
-use Rattle.inf_session.proofs.Standings.{given_left, left_is, none_waits, one_waits, stays}
+use Rattle.inf_session.proofs.Standings.{left_is, none_waits, one_waits, stays}
 use Rattle.inf_session.proofs.session.Session.leave.Goals as goal
 
 pub returns-clause-left : goal.returns-clause-left
@@ -19,12 +18,6 @@ returns-clause-left g c = λ honest start nested told.
     c.in_ok-end_file.ensures.left (c.in_ok-end_file.ensures.told ∙ ap (λ n. file_told n.names was.conditionals was.progress.work.report) c.names.ensures)
     c.leave_file.ensures (c.leave.ensures.nesting honest start nested)
     (one_waits s start old was.open_files c.leave.new.self.outer c.leave.new.self.lexer nested (c.leave.ensures.left c.if-not-leave.false).0)
-
-pub returns-clause-given : goal.returns-clause-given
-returns-clause-given g c = λ base h.
-    let files = g.F.Files in
-    subst (λ n. GivesAtLeast base c.leave.new.self n) (sym c.leave.ensures.given)
-    (given_left base (files.given c.args.files.now) c.args.self.now.open_files c.leave.new.self (c.leave.ensures.left c.if-not-leave.false).0 h)
 
 pub returns-then-not-leave-clause-left : goal.returns-then-not-leave-clause-left
 returns-then-not-leave-clause-left g c = λ honest start nested told.

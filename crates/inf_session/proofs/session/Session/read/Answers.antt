@@ -1,15 +1,18 @@
-use Rattle.std.proofs.Common.{rules, ◌+◌, IfErr, IsTrue, length, ap, refl, sym, subst, ◌∙◌, arith}
+use Rattle.std.proofs.Common.{rules, ℕ, List, ◌+◌, IfErr, IsTrue, length, ap, refl, sym, subst, ◌∙◌, arith}
 use Rattle.inf_opcode.proofs.Growing.{on_err}
-use Rattle.inf_token.specs.Files.{Sources}
-use Rattle.inf_sources.specs.Open.{AllGiven, opened_since}
+use Rattle.inf_token.specs.Files.{Rose, Sources}
+use Rattle.inf_lexer.proofs.Candidates.{rose_earlier}
+use Rattle.inf_sources.specs.Open.{opened_since}
+use Rattle.inf_sources.specs.Calls.{IsUnreadable}
+use Rattle.inf_sources.proofs.Calls.{fit_none, fit_then, unreadable_then, went_none, went_then}
 use Rattle.inf_session.specs.Choices.{Choices, chosen}
-use Rattle.inf_session.specs.Faults.{IfRead}
-use Rattle.inf_lexer.specs.Unread.{unread as unread_now}
+use Rattle.inf_session.specs.Faults.{Caused, IfRead}
 use Rattle.inf_session.specs.Leading.{CutsShort, GivenUp, OpensAll, Writes}
 use Rattle.inf_session.specs.Session.{run}
 use Rattle.inf_session.specs.Standing.{state}
+use Rattle.inf_session.proofs.Delivering.{appends_none, appends_then}
 use Rattle.inf_session.proofs.Leadings.{cuts_on, given_up_on, opened_on, run_sum, writes_none, writes_on}
-use Rattle.inf_session.proofs.Standings.{if_read_more}
+use Rattle.inf_session.proofs.Standings.{if_caused_more, if_read_more}
 use Rattle.inf_session.proofs.session.Session.read.Goals as goal
 
 pub loop-self-init : goal.loop-self-init
@@ -18,19 +21,13 @@ loop-self-init g c =
     let s = files.sources c.args.files.now in
     record {
       led = λ honest start nested. (0, writes_none s (chosen c.args.self.now.setup) (state s start (files.openings c.args.files.now) c.args.self.now) (g.M.Sink.taken c.args.messages.now));
-      nested = λ honest start nested. nested;
+      went = went_none files c.args.files.now c.args.self.now.open_files;
       is_open = c.requires.is_open;
       goes = c.requires.goes;
       set = c.requires.set;
       setup = refl;
-      given_all = λ honest start nested h. h;
-      names = λ honest base h. h;
-      given = λ base h. h;
-      depth = refl;
-      faults = omega arith;
-      failures = omega arith;
-      sources = refl;
-      honesty = refl;
+      fits = fit_none files c.args.files.now c.args.self.now.open_files;
+      wrote = appends_none g.M.Sink c.args.messages.now;
     }
 
 pub loop-self-preserved : goal.loop-self-preserved
@@ -45,40 +42,28 @@ loop-self-preserved g c =
     record {
       led = λ honest start nested.
           let so_far = inv.led honest start nested in
-          let still = subst (λ b. IsTrue b) (sym inv.honesty) honest in
+          let still = subst (λ b. IsTrue b) (sym inv.went.honesty) honest in
           let first = files.openings c.args.files.now in
           let here = files.openings c.loop-self.files in
           let then_at = files.openings c.step.new.files in
-          let ran = took.part still start (inv.nested honest start nested) in
+          let ran = took.part still start (inv.went.nested honest start nested) in
           let more = ran.0 in
           let turned : Writes (run s o more) (state s start here c.loop-self.self) (state s start then_at c.step.new.self) (g.M.Sink.taken c.loop-self.messages) (g.M.Sink.taken c.step.new.messages) =
           subst (λ (x : Choices). Writes (run s x more) (state s start here c.loop-self.self) (state s start then_at c.step.new.self) (g.M.Sink.taken c.loop-self.messages) (g.M.Sink.taken c.step.new.messages)) (ap chosen inv.setup)
-          (subst (λ (x : Sources). Writes (run x p more) (state x start here c.loop-self.self) (state x start then_at c.step.new.self) (g.M.Sink.taken c.loop-self.messages) (g.M.Sink.taken c.step.new.messages)) inv.sources
+          (subst (λ (x : Sources). Writes (run x p more) (state x start here c.loop-self.self) (state x start then_at c.step.new.self) (g.M.Sink.taken c.loop-self.messages) (g.M.Sink.taken c.step.new.messages)) inv.went.sources
           ran.1.1) in (
             so_far.0 + more,
             writes_on (run s o so_far.0) (run s o (so_far.0 + more)) (run s o more) (state s start first c.args.self.now) (state s start here c.loop-self.self) (state s start then_at c.step.new.self)
                 (g.M.Sink.taken c.args.messages.now) (g.M.Sink.taken c.loop-self.messages) (g.M.Sink.taken c.step.new.messages)
                 (λ told. run_sum s o so_far.0 more (state s start first c.args.self.now told)) so_far.1 turned,
           );
-      nested = λ honest start nested. took.nested (subst (λ b. IsTrue b) (sym inv.honesty) honest) start (inv.nested honest start nested);
+      went = went_then files c.args.files.now c.loop-self.files c.step.new.files c.args.self.now.open_files c.loop-self.self.open_files c.step.new.self.open_files inv.went c.step.ensures.went;
       is_open = c.step.ensures.is_open;
       goes = took.goes;
       set = c.step.ensures.set;
       setup = c.step.ensures.setup ∙ inv.setup;
-      given_all = λ honest start nested h.
-          let still = subst (λ b. IsTrue b) (sym inv.honesty) honest in
-          let here = files.openings c.loop-self.files in
-          let then_at = files.openings c.step.new.files in
-          subst (λ (x : Sources). AllGiven x (length start.all) then_at c.step.new.self.open_files) inv.sources
-          (took.given_all still start (inv.nested honest start nested)
-          (subst (λ (x : Sources). AllGiven x (length start.all) here c.loop-self.self.open_files) (sym inv.sources) (inv.given_all honest start nested h)));
-      names = λ honest base h. took.names (subst (λ b. IsTrue b) (sym inv.honesty) honest) base (inv.names honest base h);
-      given = λ base h. took.given base (inv.given base h);
-      depth = omega (arith, took.depth, inv.depth);
-      faults = omega (arith, took.faults, inv.faults);
-      failures = omega (arith, took.failures, inv.failures);
-      sources = took.sources ∙ inv.sources;
-      honesty = took.honesty ∙ inv.honesty;
+      fits = fit_then files c.args.files.now c.loop-self.files c.step.new.files c.args.self.now.open_files c.loop-self.self.open_files inv.went inv.fits took.fits;
+      wrote = appends_then g.M.Sink c.args.messages.now c.loop-self.messages c.step.new.messages inv.wrote c.step.ensures.wrote;
     }
 
 pub returns-in_err-step-clause-cut : goal.returns-in_err-step-clause-cut
@@ -89,14 +74,14 @@ returns-in_err-step-clause-cut g c = λ honest start nested.
     let o = chosen c.args.self.now.setup in
     let p = chosen c.loop-self.self.setup in
     let so_far = inv.led honest start nested in
-    let still = subst (λ b. IsTrue b) (sym inv.honesty) honest in
+    let still = subst (λ b. IsTrue b) (sym inv.went.honesty) honest in
     let first = files.openings c.args.files.now in
     let here = files.openings c.loop-self.files in
-    let ran = c.in_err-step.ensures.cut still start (inv.nested honest start nested) in
+    let ran = c.in_err-step.ensures.cut still start (inv.went.nested honest start nested) in
     let more = ran.0 in
     let cut : CutsShort (run s o more) (state s start here c.loop-self.self) (g.M.Sink.taken c.loop-self.messages) (g.M.Sink.taken c.step.new.messages) =
     subst (λ (x : Choices). CutsShort (run s x more) (state s start here c.loop-self.self) (g.M.Sink.taken c.loop-self.messages) (g.M.Sink.taken c.step.new.messages)) (ap chosen inv.setup)
-    (subst (λ (x : Sources). CutsShort (run x p more) (state x start here c.loop-self.self) (g.M.Sink.taken c.loop-self.messages) (g.M.Sink.taken c.step.new.messages)) inv.sources
+    (subst (λ (x : Sources). CutsShort (run x p more) (state x start here c.loop-self.self) (g.M.Sink.taken c.loop-self.messages) (g.M.Sink.taken c.step.new.messages)) inv.went.sources
     ran.1) in
     on_err c.from_residual.result (
       so_far.0 + more,
@@ -104,11 +89,6 @@ returns-in_err-step-clause-cut g c = λ honest start nested.
           (g.M.Sink.taken c.args.messages.now) (g.M.Sink.taken c.loop-self.messages) (g.M.Sink.taken c.step.new.messages)
           (λ told. run_sum s o so_far.0 more (state s start first c.args.self.now told)) so_far.1 cut,
     )
-
-pub returns-in_err-step-clause-names : goal.returns-in_err-step-clause-names
-returns-in_err-step-clause-names g c = λ honest base h.
-    let inv = c.loop-self.invariant in
-    c.step.ensures.names (subst (λ b. IsTrue b) (sym inv.honesty) honest) base (inv.names honest base h)
 
 pub returns-in_err-step-clause-unread : goal.returns-in_err-step-clause-unread
 returns-in_err-step-clause-unread g c = λ honest start nested.
@@ -120,19 +100,42 @@ returns-in_err-step-clause-unread g c = λ honest start nested.
     let t = files.sources c.loop-self.files in
     let was = state s start (files.openings c.args.files.now) c.args.self.now in
     let here = files.openings c.loop-self.files in
-    let then_at = files.openings c.step.new.files in
+    let now = files.openings c.step.new.files in
+    let after = c.step.new.self.open_files in
     let old = g.M.Sink.taken c.args.messages.now in
     let between = g.M.Sink.taken c.loop-self.messages in
     let new = g.M.Sink.taken c.step.new.messages in
-    let given = c.step.new.self.open_files.lexer.window.given in
+    let later = Rose (files.faults c.loop-self.files) (files.faults c.step.new.files) in
+    let failed = Rose (files.faults c.args.files.now) (files.faults c.step.new.files) in
     let so_far = inv.led honest start nested in
-    let still = subst (λ b. IsTrue b) (sym inv.honesty) honest in
-    let nested_on = inv.nested honest start nested in
-    let last : IfErr c.from_residual.result (λ fault. IfRead fault (λ name. GivenUp t p (state t start here c.loop-self.self) between new given (unread_now t then_at))) = search rules in
-    if_read_more c.from_residual.result (GivenUp t p (state t start here c.loop-self.self) between new given (unread_now t then_at)) (GivenUp s o was old new given (unread_now s then_at))
-    (λ w. given_up_on s o so_far.0 was (state s start here c.loop-self.self) old between new given (unread_now s then_at) so_far.1
-    (subst (λ (x : Choices). GivenUp s x (state s start here c.loop-self.self) between new given (unread_now s then_at)) (ap chosen inv.setup)
-    (subst (λ (x : Sources). GivenUp x p (state x start here c.loop-self.self) between new given (unread_now x then_at)) inv.sources w))) last
+    let still = subst (λ b. IsTrue b) (sym inv.went.honesty) honest in
+    let Last = λ (name : List ℕ). GivenUp later t p (state t start here c.loop-self.self) between new start now after name in
+    let given : IfErr c.step.result (λ fault. IfRead fault Last) = c.step.ensures.unread still start (inv.went.nested honest start nested) in
+    let last : IfErr c.from_residual.result (λ fault. IfRead fault Last) = search rules in
+    if_read_more c.from_residual.result Last (λ name. GivenUp failed s o was old new start now after name)
+    (λ name w. given_up_on later failed s o so_far.0 was (state s start here c.loop-self.self) old between new start now after name
+    (λ rose. rose_earlier (files.faults c.args.files.now) (files.faults c.loop-self.files) (files.faults c.step.new.files) inv.went.faults rose) so_far.1
+    (subst (λ (x : Choices). GivenUp later s x (state s start here c.loop-self.self) between new start now after name) (ap chosen inv.setup)
+    (subst (λ (x : Sources). GivenUp later x p (state x start here c.loop-self.self) between new start now after name) inv.went.sources w))) last
+
+pub returns-in_err-step-clause-fault : goal.returns-in_err-step-clause-fault
+returns-in_err-step-clause-fault g c =
+    let f = g.F.Files in
+    let m = g.M.Sink in
+    let a = c.args.files.now in
+    let b = c.loop-self.files in
+    let d = c.step.new.files in
+    let x = c.args.self.now.open_files in
+    let y = c.loop-self.self.open_files in
+    let z = c.step.new.self.open_files in
+    let inv = c.loop-self.invariant in
+    let later = Rose (m.failures c.loop-self.messages) (m.failures c.step.new.messages) in
+    let rose = Rose (m.failures c.args.messages.now) (m.failures c.step.new.messages) in
+    let told : IfErr c.step.result (λ fault. Caused fault (λ name. IsUnreadable f b d y z) later) = c.step.ensures.fault in
+    let caused : IfErr c.from_residual.result (λ fault. Caused fault (λ name. IsUnreadable f b d y z) later) = search rules in
+    if_caused_more c.from_residual.result (λ name. IsUnreadable f b d y z) (λ name. IsUnreadable f a d x z) later rose
+    (λ name why. unreadable_then f a b d x y z inv.went why)
+    (λ r. rose_earlier (m.failures c.args.messages.now) (m.failures c.loop-self.messages) (m.failures c.step.new.messages) inv.wrote.failures r) caused
 
 pub returns-in_err-step-clause-opened : goal.returns-in_err-step-clause-opened
 returns-in_err-step-clause-opened g c = λ honest start nested.
@@ -142,21 +145,19 @@ returns-in_err-step-clause-opened g c = λ honest start nested.
     let o = chosen c.args.self.now.setup in
     let p = chosen c.loop-self.self.setup in
     let so_far = inv.led honest start nested in
-    let still = subst (λ b. IsTrue b) (sym inv.honesty) honest in
+    let still = subst (λ b. IsTrue b) (sym inv.went.honesty) honest in
     let here = files.openings c.loop-self.files in
     let mid = state s start here c.loop-self.self in
     let opened = opened_since start (files.openings c.step.new.files) in
-    let ran = c.in_err-step.ensures.opened still start (inv.nested honest start nested) in
+    let ran = c.in_err-step.ensures.opened still start (inv.went.nested honest start nested) in
     let all : OpensAll (run s o ran.0) mid opened =
     subst (λ (x : Choices). OpensAll (run s x ran.0) mid opened) (ap chosen inv.setup)
-    (subst (λ (x : Sources). OpensAll (run x p ran.0) (state x start here c.loop-self.self) opened) inv.sources ran.1) in
+    (subst (λ (x : Sources). OpensAll (run x p ran.0) (state x start here c.loop-self.self) opened) inv.went.sources ran.1) in
     on_err c.from_residual.result (
       so_far.0 + ran.0,
       opened_on s o so_far.0 ran.0 (state s start (files.openings c.args.files.now) c.args.self.now) mid
           (g.M.Sink.taken c.args.messages.now) (g.M.Sink.taken c.loop-self.messages) opened so_far.1 all,
     )
 
-pub returns-in_err-step-clause-nested : goal.returns-in_err-step-clause-nested
-returns-in_err-step-clause-nested g c = λ honest start nested.
-    let inv = c.loop-self.invariant in
-    c.step.ensures.nested (subst (λ b. IsTrue b) (sym inv.honesty) honest) start (inv.nested honest start nested)
+pub returns-in_err-step-clause-wrote : goal.returns-in_err-step-clause-wrote
+returns-in_err-step-clause-wrote g c = appends_then g.M.Sink c.args.messages.now c.loop-self.messages c.step.new.messages c.loop-self.invariant.wrote c.step.ensures.wrote

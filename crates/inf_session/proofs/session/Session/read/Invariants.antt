@@ -1,8 +1,7 @@
 use Rattle.std.proofs.Common.{◌≡◌, ℕ, ◌+◌, ◌<◌, ◌≤◌, false, IsTrue, length, cond, suc}
-use Rattle.inf_token.specs.Files.{Openings}
-use Rattle.inf_sources.specs.Open.{AllGiven, IsNested, NamesAreOpened}
+use Rattle.inf_sources.specs.Calls.{Honestly, StaysFit, Went}
 use Rattle.inf_session.specs.Choices.{chosen}
-use Rattle.inf_session.specs.Given.{GivesAtLeast}
+use Rattle.inf_session.specs.Delivered.{Appends}
 use Rattle.inf_session.specs.Leading.{Writes}
 use Rattle.inf_session.specs.Session.{run}
 use Rattle.inf_session.specs.Standing.{IsSet, ended, state}
@@ -15,25 +14,16 @@ invariant-loop-self g l =
     let files = g.F.Files in
     let sources = files.sources l.fn.files in
     record {
-      led : IsTrue (files.is_honest l.fn.files) → (start : Openings) → IsNested start (files.openings l.fn.files) l.fn.self.open_files →
+      led : Honestly files l.fn.files l.fn.self.open_files (λ start.
           (turns : ℕ) × Writes (run sources (chosen l.fn.self.setup) turns) (state sources start (files.openings l.fn.files) l.fn.self)
-          (state sources start (files.openings l.files) l.self) (g.M.Sink.taken l.fn.messages) (g.M.Sink.taken l.messages);
-      nested : IsTrue (files.is_honest l.fn.files) → (start : Openings) → IsNested start (files.openings l.fn.files) l.fn.self.open_files →
-          IsNested start (files.openings l.files) l.self.open_files;
+          (state sources start (files.openings l.files) l.self) (g.M.Sink.taken l.fn.messages) (g.M.Sink.taken l.messages));
+      went : Went files l.fn.files l.files l.fn.self.open_files l.self.open_files;
       is_open : length l.self.open_files.outer < files.depth l.files;
       goes : l.self.open_files.lexer.has_failed ≡ false;
       set : IsSet l.self;
       setup : l.self.setup ≡ l.fn.self.setup;
-      given_all : IsTrue (files.is_honest l.fn.files) → (start : Openings) → IsNested start (files.openings l.fn.files) l.fn.self.open_files →
-          AllGiven sources (length start.all) (files.openings l.fn.files) l.fn.self.open_files → AllGiven sources (length start.all) (files.openings l.files) l.self.open_files;
-      names : IsTrue (files.is_honest l.fn.files) → (base : ℕ) → NamesAreOpened base (files.openings l.fn.files) l.fn.self.open_files →
-          NamesAreOpened base (files.openings l.files) l.self.open_files;
-      given : (base : ℕ) → GivesAtLeast base l.fn.self.open_files (files.given l.fn.files) → GivesAtLeast base l.self.open_files (files.given l.files);
-      depth : files.depth l.files + length l.fn.self.open_files.outer ≡ files.depth l.fn.files + length l.self.open_files.outer;
-      faults : files.faults l.fn.files ≤ files.faults l.files;
-      failures : g.M.Sink.failures l.fn.messages ≤ g.M.Sink.failures l.messages;
-      sources : files.sources l.files ≡ files.sources l.fn.files;
-      honesty : files.is_honest l.files ≡ files.is_honest l.fn.files;
+      fits : StaysFit files l.fn.files l.files l.fn.self.open_files;
+      wrote : Appends g.M.Sink l.fn.messages l.messages;
     }
 
 abbrev pub decreases-loop-self : goal.decreases-loop-self

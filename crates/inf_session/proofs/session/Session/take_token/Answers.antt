@@ -1,12 +1,15 @@
-use Rattle.std.proofs.Common.{◌≡◌, true, Err, ℕ, List, ◌≤◌, inl, inr, ap, length, subst, sym, ◌∙◌}
-use Rattle.inf_lexer.specs.Unread.{unread as unread_now}
-use Rattle.inf_sources.specs.Cursors.{Unfinished}
-use Rattle.inf_sources.specs.Open.{nesting}
+use Rattle.std.proofs.Common.{◌≡◌, true, Err, ℕ, List, [], ◌∷◌, ◌≤◌, reverse, unwrap_or, inl, inr, ap, length, subst, sym, ◌∙◌}
+use Rattle.std.specs.Prelude.{slice_get}
+use Rattle.inf_token.specs.Files.{Rose}
+use Rattle.inf_lexer.specs.Readers.{Reader}
+use Rattle.inf_sources.specs.Open.{files_of, nesting}
+use Rattle.inf_sources.proofs.Places.{files_are}
+use Rattle.inf_session.specs.Leading.{StopsInToken}
 use Rattle.inf_sources.specs.Quoted.{is_quoted_kind}
 use Rattle.inf_output.specs.Limits.{bounds}
 use Rattle.inf_reader.proofs.Limits.{judged_taken_same}
 use Rattle.inf_session.proofs.Bounds.{quoted_within}
-use Rattle.inf_session.proofs.Standings.{read_always}
+use Rattle.inf_session.proofs.Standings.{read_caused}
 use Rattle.inf_reader.specs.Reading.{Stand, is_mode_ended}
 use Rattle.inf_reader.specs.Standing.{standing}
 use Rattle.inf_lexer.specs.Names.{Nest}
@@ -32,13 +35,30 @@ returns-clause-moves g c =
       | inr less ↦ inr (room_less c.args.self.now.open_files.lexer c.next.new.self.lexer less c.in-Ok.ensures.few)
     ]
 
-pub returns-in-Err-Read-clause-unfinished : goal.returns-in-Err-Read-clause-unfinished
-returns-in-Err-Read-clause-unfinished g c = λ honest start.
+pub returns-in-Err-Read-clause-stops : goal.returns-in-Err-Read-clause-stops
+returns-in-Err-Read-clause-stops g c = λ honest start nested.
     let files = g.F.Files in
     let s = files.sources c.args.files.now in
-    let few = c.next.new.self.lexer.window.given ≤ 16777216 in
-    read_always c.unread.result (λ name. few → Unfinished (nesting s start (files.openings c.args.files.now) c.args.self.now.open_files).cursor (unread_now s (files.openings c.next.new.files)))
-    (λ name is. c.in-Err-Read.ensures.unfinished honest start (ap (λ f. Err f) c.in-Err-Read.field-0-is) is)
+    let old = files.openings c.args.files.now in
+    let now = files.openings c.next.new.files in
+    let before = c.args.self.now.open_files in
+    let after = c.next.new.self in
+    let was = state s start old c.args.self.now in
+    let failed = Rose (files.faults c.args.files.now) (files.faults c.next.new.files) in
+    let next = c.in-Err-Read.ensures in
+    let read = ap (λ f. Err f) c.in-Err-Read.field-0-is in
+    let same = c.next.ensures.same in
+    read_caused c.unread.result (λ told. told ≡ c.innermost.result.now) (λ name. (told : List ℕ) → StopsInToken failed s (was told) start now after name) ⊥
+    (λ name is told. record {
+      cause = next.cause read;
+      not_ended = next.unfinished honest start read;
+      goes_on = next.on read;
+      openings = c.next.ensures.opened honest start nested;
+      names = ap (λ (n : Nest). n.names) same.0;
+      numbers = ap (λ (n : ℕ). n ∷ files_of (reverse after.outer)) same.1.1 ∙ ap (λ (rs : List Reader). before.lexer.file ∷ files_of (reverse rs)) same.1.0 ∙ sym (files_are s start old before nested);
+      name_is = is ∙ c.innermost.ensures.file ∙ ap (λ (n : Nest). unwrap_or (slice_get n.names after.lexer.file) []) same.0
+          ∙ ap (λ (k : ℕ). unwrap_or (slice_get before.nest.names k) []) same.1.1;
+    }) c.unread.ensures
 
 pub returns-clause-limits : goal.returns-clause-limits
 returns-clause-limits g c =
@@ -78,3 +98,6 @@ returns-clause-stepped g c = λ honest start nested told.
     let longest = c.quoted_behind-self.ensures ∙ ap (λ site. quoted_behind site c.in_ok-judged.judged spelled before.quoted) site in
     step_is before now (record { now = c.take.new.self; judged = c.in_ok-judged.judged }) c.tell.new.self (standing c.take_judged.new.self) c.quoted_behind-self.result spelled
     reads.goes_on is behind_it c.in_ok-tell.ensures.silent taken longest
+
+pub returns-clause-fits : goal.returns-clause-fits
+returns-clause-fits g c = c.in-Ok.ensures.fits

@@ -1,14 +1,18 @@
-use Rattle.std.proofs.Common.{◌≡◌, ◌≤◌, List, false, length, ◌++◌, [], ◌∷◌, Err, Some, None, map, sym, ap, subst, ◌∙◌}
+use Rattle.std.proofs.Common.{◌≡◌, ◌≤◌, ◌⊎◌, IsTrue, inl, inr, List, false, length, ◌++◌, [], ◌∷◌, Err, Some, None, map, sym, ap, subst, ◌∙◌}
+use Rattle.inf_token.specs.Files.{Openings, Rose}
 use Rattle.inf_lexer.specs.Entering.{Leaves}
 use Rattle.inf_lexer.specs.Names.{Nest, can_name, candidates, innermost_name, number_of}
 use Rattle.inf_lexer.specs.Readers.{Reader}
 use Rattle.inf_lexer.specs.declared.enter_faults.EnterFault.TheVariants as fault
-use Rattle.inf_sources.specs.Inclusions.{OpenedInVain, answer_of, inclusion, nested_by}
+use Rattle.inf_sources.specs.Calls.{AskedTooMany, Honestly, Went}
+use Rattle.inf_sources.specs.Inclusions.{OpenedInVain, OpensTooMany, answer_of, inclusion, nested_by}
 use Rattle.inf_sources.specs.declared.faults.IncludeFault.TheVariants as vain
-use Rattle.inf_sources.specs.Open.{AllGiven, IsNested, Open, nesting, opened_since}
+use Rattle.inf_sources.specs.Open.{Each, Fits, IsNested, Open, nesting, opened_since}
 use Rattle.inf_sources.specs.declared.open_files.Included.TheVariants as included
-use Rattle.inf_sources.proofs.Answering.{is_true, deep_is, entered_fits, entered_is, entered_nested_of, first_is, opened_in_vain}
-use Rattle.inf_sources.proofs.Fronts.{entered_given, failed_given}
+use Rattle.inf_sources.proofs.Answering.{is_true, deep_is, entered_fits, entered_is, entered_nested_of, first_is, opened_in_vain, opens_too_many}
+use Rattle.inf_sources.proofs.Calls.{asked_too_many, went_by, went_in}
+use Rattle.inf_sources.proofs.Counting.{entered_counts}
+use Rattle.inf_sources.proofs.Fronts.{entered_given, failed_fit, failed_given, fit_more}
 use Rattle.inf_sources.proofs.Openings.{failed_nested}
 use Rattle.inf_sources.proofs.open_files.OpenFiles.include.Goals as goal
 
@@ -56,17 +60,23 @@ returns-in-Ok-clause-nesting g c = λ honest start nested.
     ∙ ap (λ i. nested_by before.nest.set before.nest.limit s i (nesting s start old before))
     (sym (first_is s directories text start old before (Some e.name) n c.self.invariant.0 fit flat (e.is_first honest)))) nested
 
-pub returns-in-Ok-clause-nested : goal.returns-in-Ok-clause-nested
-returns-in-Ok-clause-nested g c = λ honest start nested.
+pub returns-in-Ok-clause-went : goal.returns-in-Ok-clause-went
+returns-in-Ok-clause-went g c =
     let files = g.F.Files in
+    let enter = c.in-Ok.ensures in
+    let e = enter.ok in
     let old = files.openings c.args.files.now in
     let new = files.openings c.enter.new.files in
     let before : Open = record { nest = c.self.inside.names; lexer = c.self.inside.lexer; outer = c.self.inside.outer.items } in
-    let e = c.in-Ok.ensures.ok in
-    let outer = c.push_reserved.ensures.items ∙ ap (λ r. c.reserve.new.self.items ++ r ∷ []) c.replace-waits.ensures.value ∙ ap (λ rs. rs ++ c.self.inside.lexer ∷ []) c.in_ok-reserve.ensures.items in
     let after : Open = record { nest = c.enter.new.self; lexer = c.replace-waits.new.dest; outer = c.push_reserved.new.self.items } in
-    subst (λ (o : Open). IsNested start old o → IsNested start new after) c.self.view_is
-    (λ n. entered_nested_of start old new before e.name c.enter.new.self c.replace-waits.new.dest c.push_reserved.new.self.items n (e.is_opened honest) outer) nested
+    let outer = c.push_reserved.ensures.items ∙ ap (λ r. c.reserve.new.self.items ++ r ∷ []) c.replace-waits.ensures.value ∙ ap (λ rs. rs ++ c.self.inside.lexer ∷ []) c.in_ok-reserve.ensures.items in
+    let front = ap (λ (r : Reader). r.window.given) (c.replace-waits.ensures.after ∙ e.is_entered.1) in
+    subst (λ (o : Open). Went files c.args.files.now c.enter.new.files o after) c.self.view_is
+    (went_in files c.args.files.now c.enter.new.files before after enter.sources enter.honesty enter.faults enter.depth enter.given enter.opened outer front
+    (entered_counts e.name before.nest after.nest e.is_entered.0)
+    (λ honest start n. entered_nested_of start old new before e.name c.enter.new.self c.replace-waits.new.dest c.push_reserved.new.self.items n (e.is_opened honest) outer)
+    (λ honest start n all. entered_given (files.sources c.args.files.now) start old new before after e.name before.nest.set before.nest.limit n (e.is_opened honest) e.is_entered.0
+    (c.replace-waits.ensures.after ∙ e.is_entered.1) outer all))
 
 pub returns-in-Err-Absent-clause-answer : goal.returns-in-Err-Absent-clause-answer
 returns-in-Err-Absent-clause-answer g c = λ honest start nested.
@@ -132,22 +142,35 @@ returns-in-Err-TooDeep-clause-nesting g c = λ honest start nested.
     ∙ ap (λ x. nesting s start old (record { nest = c.self.inside.names; lexer = c.self.inside.lexer; outer = x })) c.in_ok-reserve.ensures.items
     ∙ ap (λ i. nested_by before.nest.set before.nest.limit s i (nesting s start old before)) (sym (deep_is s directories text start old before n c.self.invariant.0 fit full))) nested
 
-pub returns-in-Ok-clause-given_all : goal.returns-in-Ok-clause-given_all
-returns-in-Ok-clause-given_all g c = λ honest start nested given.
+pub returns-in-Ok-clause-fits : goal.returns-in-Ok-clause-fits
+returns-in-Ok-clause-fits g c = λ honest start nested given fit.
     let files = g.F.Files in
-    let s = files.sources c.args.files.now in
     let old = files.openings c.args.files.now in
-    let new = files.openings c.enter.new.files in
-    let before : Open = record { nest = c.self.inside.names; lexer = c.self.inside.lexer; outer = c.self.inside.outer.items } in
-    let after : Open = record { nest = c.enter.new.self; lexer = c.replace-waits.new.dest; outer = c.push_reserved.new.self.items } in
     let e = c.in-Ok.ensures.ok in
-    let outer = c.push_reserved.ensures.items ∙ ap (λ r. c.reserve.new.self.items ++ r ∷ []) c.replace-waits.ensures.value ∙ ap (λ rs. rs ++ c.self.inside.lexer ∷ []) c.in_ok-reserve.ensures.items in
-    subst (λ (o : Open). IsNested start old o → AllGiven s (length start.all) old o → AllGiven s (length start.all) new after) c.self.view_is
-    (λ n all. entered_given s start old new before after e.name c.self.inside.names.set c.self.inside.names.limit (number_of e.name c.self.inside.names.names) n (e.is_opened honest)
-    (c.replace-waits.ensures.after ∙ e.is_entered.1) outer all) nested given
+    subst (λ (o : Openings). Each Fits (length start.all) o.all) (sym (e.is_opened honest)) (fit_more (length start.all) old.all e.name fit)
 
-pub returns-in-Err-Device-clause-given_all : goal.returns-in-Err-Device-clause-given_all
-returns-in-Err-Device-clause-given_all g c = λ honest start nested given.
+pub returns-in-Err-Device-clause-went : goal.returns-in-Err-Device-clause-went
+returns-in-Err-Device-clause-went g c =
+    let files = g.F.Files in
+    let enter = c.in-Err-Device.ensures in
+    let s = files.sources c.args.files.now in
+    let old = files.openings c.args.files.now in
+    let new = files.openings c.enter.new.files in
+    let before : Open = record { nest = c.self.inside.names; lexer = c.self.inside.lexer; outer = c.self.inside.outer.items } in
+    let after : Open = record { nest = c.enter.new.self; lexer = c.self.inside.lexer; outer = c.reserve.new.self.items } in
+    let names = candidates (map (λ d. d.now) c.args.directories.now) (innermost_name before.nest) c.args.text.now in
+    let left : IsTrue (files.is_honest c.args.files.now) → Leaves s before.nest.names names old new (Err fault.Device) = λ honest.
+    subst (λ f. Leaves s before.nest.names names old new (Err f)) c.in-Err-Device.field-0-is (enter.leaves honest) in
+    let same : after ≡ before =
+    ap (λ (n : Nest). record { nest = n; lexer = c.self.inside.lexer; outer = c.reserve.new.self.items }) enter.err
+    ∙ ap (λ (rs : List Reader). record { nest = c.self.inside.names; lexer = c.self.inside.lexer; outer = rs }) c.in_ok-reserve.ensures.items in
+    subst (λ (o : Open). Went files c.args.files.now c.enter.new.files o after) c.self.view_is
+    (went_by files c.args.files.now c.enter.new.files before after enter.sources enter.honesty enter.faults enter.depth enter.given enter.opened same
+    (λ honest start n. failed_nested s before.nest.names names start old new before n (left honest))
+    (λ honest start n all. failed_given s before.nest.names names start old new before n (left honest) all))
+
+pub returns-in-Err-Device-clause-fits : goal.returns-in-Err-Device-clause-fits
+returns-in-Err-Device-clause-fits g c = λ honest start nested given fit.
     let files = g.F.Files in
     let s = files.sources c.args.files.now in
     let old = files.openings c.args.files.now in
@@ -156,30 +179,7 @@ returns-in-Err-Device-clause-given_all g c = λ honest start nested given.
     let names = candidates (map (λ d. d.now) c.args.directories.now) (innermost_name before.nest) c.args.text.now in
     let left : Leaves s before.nest.names names old new (Err fault.Device) =
     subst (λ f. Leaves s before.nest.names names old new (Err f)) c.in-Err-Device.field-0-is (c.in-Err-Device.ensures.leaves honest) in
-    subst (λ (o : Open). IsNested start old o → AllGiven s (length start.all) old o
-    → AllGiven s (length start.all) new (record { nest = c.enter.new.self; lexer = c.self.inside.lexer; outer = c.reserve.new.self.items })) c.self.view_is
-    (λ n all. subst (λ (nest : Nest). AllGiven s (length start.all) new (record { nest = nest; lexer = c.self.inside.lexer; outer = c.reserve.new.self.items }))
-    (sym c.in-Err-Device.ensures.err)
-    (subst (λ (outer : List Reader). AllGiven s (length start.all) new (record { nest = c.self.inside.names; lexer = c.self.inside.lexer; outer = outer }))
-    (sym c.in_ok-reserve.ensures.items)
-    (failed_given s before.nest.names names start old new before n left all))) nested given
-
-pub returns-in-Err-Device-clause-nested : goal.returns-in-Err-Device-clause-nested
-returns-in-Err-Device-clause-nested g c = λ honest start nested.
-    let files = g.F.Files in
-    let s = files.sources c.args.files.now in
-    let old = files.openings c.args.files.now in
-    let new = files.openings c.enter.new.files in
-    let before : Open = record { nest = c.self.inside.names; lexer = c.self.inside.lexer; outer = c.self.inside.outer.items } in
-    let names = candidates (map (λ d. d.now) c.args.directories.now) (innermost_name before.nest) c.args.text.now in
-    let left : Leaves s before.nest.names names old new (Err fault.Device) =
-    subst (λ f. Leaves s before.nest.names names old new (Err f)) c.in-Err-Device.field-0-is (c.in-Err-Device.ensures.leaves honest) in
-    subst (λ (o : Open). IsNested start old o → IsNested start new (record { nest = c.enter.new.self; lexer = c.self.inside.lexer; outer = c.reserve.new.self.items })) c.self.view_is
-    (λ n. subst (λ (nest : Nest). IsNested start new (record { nest = nest; lexer = c.self.inside.lexer; outer = c.reserve.new.self.items }))
-    (sym c.in-Err-Device.ensures.err)
-    (subst (λ (outer : List Reader). IsNested start new (record { nest = c.self.inside.names; lexer = c.self.inside.lexer; outer = outer }))
-    (sym c.in_ok-reserve.ensures.items)
-    (failed_nested s before.nest.names names start old new before n left))) nested
+    failed_fit s before.nest.names names (length start.all) old new left fit
 
 pub returns-in-Err-Device-clause-in_vain : goal.returns-in-Err-Device-clause-in_vain
 returns-in-Err-Device-clause-in_vain g c = λ honest start nested.
@@ -197,3 +197,33 @@ returns-in-Err-Device-clause-in_vain g c = λ honest start nested.
     subst (λ f. Leaves s before.nest.names names old new (Err f)) c.in-Err-Device.field-0-is (c.in-Err-Device.ensures.leaves honest) in
     subst (λ (o : Open). IsNested start old o → OpenedInVain vain.Device (inclusion s directories text (nesting s start old o)) (nesting s start old o) (opened_since start new)) c.self.view_is
     (λ n. opened_in_vain s directories text start old new before n c.self.invariant.0 fit flat left) nested
+
+pub returns-in-Err-Device-clause-cause : goal.returns-in-Err-Device-clause-cause
+returns-in-Err-Device-clause-cause g c = λ device.
+    let files = g.F.Files in
+    let s = files.sources c.args.files.now in
+    let old = files.openings c.args.files.now in
+    let new = files.openings c.enter.new.files in
+    let before : Open = record { nest = c.self.inside.names; lexer = c.self.inside.lexer; outer = c.self.inside.outer.items } in
+    let after : Open = record { nest = c.enter.new.self; lexer = c.self.inside.lexer; outer = c.reserve.new.self.items } in
+    let directories = map (λ d. d.now) c.args.directories.now in
+    let text = c.args.text.now in
+    let fit : can_name text ≡ false → ⊥ = λ h. let never = (c.in-Err-Device.ensures.bad_name h).0 in cc in
+    let flat : 16 ≤ length before.nest.open_files → ⊥ = λ h. let never = (c.in-Err-Device.ensures.too_deep (is_true (can_name text) fit) h).0 in cc in
+    elim (c.in-Err-Device.ensures.cause (ap (λ f. Err f) c.in-Err-Device.field-0-is)) as (λ _. Rose (files.faults c.args.files.now) (files.faults c.enter.new.files)
+    ⊎ (AskedTooMany files c.args.files.now c.enter.new.files c.args.self.now after × Honestly files c.args.files.now c.args.self.now (λ start.
+    OpensTooMany (inclusion s directories text (nesting s start old c.args.self.now)) (nesting s start old c.args.self.now) (opened_since start new)))) [
+      | inl rose ↦ inl rose
+      | inr many ↦ inr (
+        subst (λ (o : Open). AskedTooMany files c.args.files.now c.enter.new.files o after) c.self.view_is
+            (asked_too_many files c.args.files.now c.enter.new.files before after (candidates directories (innermost_name before.nest) text) c.in-Err-Device.ensures.err many.is_named many.counted),
+        subst (λ (o : Open). Honestly files c.args.files.now o (λ start.
+            OpensTooMany (inclusion s directories text (nesting s start old o)) (nesting s start old o) (opened_since start new))) c.self.view_is
+            (λ honest start n. opens_too_many s directories text start old new before n c.self.invariant.0 fit flat (many.is_closed honest)),
+      )
+    ]
+
+pub returns-in-Err-Device-clause-named : goal.returns-in-Err-Device-clause-named
+returns-in-Err-Device-clause-named g c = λ device.
+    let text = c.args.text.now in
+    is_true (can_name text) (λ h. let never = (c.in-Err-Device.ensures.bad_name h).0 in cc)

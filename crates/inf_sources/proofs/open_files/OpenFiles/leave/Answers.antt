@@ -1,8 +1,12 @@
-use Rattle.std.proofs.Common.{◌≡◌, arith, ap, subst, sym, ◌∙◌}
+use Rattle.std.proofs.Common.{◌≡◌, List, length, arith, ap, subst, sym, ◌∙◌}
+use Rattle.inf_token.specs.Files.{Opening}
 use Rattle.inf_sources.specs.Inclusions.{closed}
-use Rattle.inf_sources.specs.Open.{AllWait, IsNested, Open, nesting}
+use Rattle.inf_lexer.specs.Names.{Nest}
+use Rattle.inf_sources.specs.Calls.{Went}
+use Rattle.inf_sources.proofs.Calls.{went_out}
+use Rattle.inf_sources.specs.Open.{AllWait, Each, Fits, IsNested, Open, nesting}
 use Rattle.inf_sources.proofs.Entered.{left_fits, left_none, waits_last}
-use Rattle.inf_sources.proofs.Nestings.{left_nested, left_nesting}
+use Rattle.inf_sources.proofs.Nestings.{left_nesting}
 use Rattle.inf_sources.proofs.open_files.OpenFiles.leave.Goals as goal
 
 pub returns-in_default-clause-nesting : goal.returns-in_default-clause-nesting
@@ -37,12 +41,16 @@ returns-clause-nesting g c = λ honest start nested.
     subst (λ (o : Open). IsNested start old o → nesting s start new after ≡ closed (nesting s start old o)) c.self.view_is
     (λ n. left_nesting s start old new before after n (c.leave.ensures.closes honest) c.in-Some.ensures.items c.leave.ensures.left) nested
 
-pub returns-clause-nested : goal.returns-clause-nested
-returns-clause-nested g c = λ honest start nested.
+pub returns-clause-went : goal.returns-clause-went
+returns-clause-went g c =
     let files = g.F.Files in
-    let old = files.openings c.args.files.now in
-    let new = files.openings c.leave.new.files in
+    let leave = c.leave.ensures in
     let before : Open = record { nest = c.self.inside.names; lexer = c.self.inside.lexer; outer = c.self.inside.outer.items } in
     let after : Open = record { nest = c.leave.new.self; lexer = c.in-Some.lexer; outer = c.pop.new.self.items } in
-    subst (λ (o : Open). IsNested start old o → IsNested start new after) c.self.view_is
-    (λ n. left_nested start old new before after n (c.leave.ensures.closes honest) c.in-Some.ensures.items) nested
+    subst (λ (o : Open). Went files c.args.files.now c.leave.new.files o after) c.self.view_is
+    (went_out files c.args.files.now c.leave.new.files before after leave.sources leave.honesty leave.faults leave.depth leave.given leave.opened c.in-Some.ensures.items
+    (ap (λ (n : Nest). n.names) leave.left) leave.closes)
+
+pub returns-clause-fits : goal.returns-clause-fits
+returns-clause-fits g c = λ honest start nested given fit.
+    subst (λ (all : List Opening). Each Fits (length start.all) all) (sym (c.leave.ensures.closes honest).same) fit

@@ -1,8 +1,9 @@
-use Rattle.std.proofs.Common.{length, refl, ap, ◌∙◌, subst}
-use Rattle.inf_sources.specs.Open.{AllGiven, IsNested, Open, Reads, nesting}
-use Rattle.inf_sources.proofs.Fronts.{read_given}
+use Rattle.std.proofs.Common.{refl, ap, ◌∙◌, subst}
+use Rattle.inf_sources.specs.Calls.{StaysFit, Went}
+use Rattle.inf_sources.proofs.Calls.{fit_read, went_read}
+use Rattle.inf_sources.specs.Open.{IsNested, Open, Reads, nesting}
 use Rattle.inf_sources.proofs.Quoted.{heard_few}
-use Rattle.inf_sources.proofs.Nestings.{nested_on, opened_as_before, reads_on}
+use Rattle.inf_sources.proofs.Nestings.{opened_as_before, reads_on}
 use Rattle.inf_sources.proofs.open_files.OpenFiles.next.Goals as goal
 
 pub returns-clause-token : goal.returns-clause-token
@@ -18,16 +19,23 @@ returns-clause-token g c = λ honest start nested.
     (λ n. reads_on s start old new before after c.in_ok-token.token along.bytes n along.gave refl refl (c.in_ok-token.ensures.token honest) c.in_ok-token.ensures.file c.next.ensures.same)
     nested
 
-pub returns-clause-nested : goal.returns-clause-nested
-returns-clause-nested g c = λ honest start nested.
+pub returns-clause-went : goal.returns-clause-went
+returns-clause-went g c =
     let files = g.F.Files in
-    let old = files.openings c.args.files.now in
-    let new = files.openings c.next.new.files in
-    let before : Open = record { nest = c.self.inside.names; lexer = c.self.inside.lexer; outer = c.self.inside.outer.items } in
-    let after : Open = record { nest = c.self.inside.names; lexer = c.next.new.self; outer = c.self.inside.outer.items } in
-    let along = c.next.ensures.gave honest in
-    subst (λ (o : Open). IsNested start old o → IsNested start new after) c.self.view_is
-    (λ n. nested_on start old new before after n along.gave.places along.gave.count refl) nested
+    let inside = c.self.inside in
+    let next = c.next.ensures in
+    subst (λ (o : Open). Went files c.args.files.now c.next.new.files o (record { nest = inside.names; lexer = c.next.new.self; outer = inside.outer.items })) c.self.view_is
+    (went_read files c.args.files.now c.next.new.files inside.names inside.lexer c.next.new.self inside.outer.items next.sources next.honesty next.faults next.depth next.given next.opened
+    next.gave next.same.2 next.window next.end next.still)
+
+pub returns-in_err-token-clause-went : goal.returns-in_err-token-clause-went
+returns-in_err-token-clause-went g c =
+    let files = g.F.Files in
+    let inside = c.self.inside in
+    let next = c.next.ensures in
+    subst (λ (o : Open). Went files c.args.files.now c.next.new.files o (record { nest = inside.names; lexer = c.next.new.self; outer = inside.outer.items })) c.self.view_is
+    (went_read files c.args.files.now c.next.new.files inside.names inside.lexer c.next.new.self inside.outer.items next.sources next.honesty next.faults next.depth next.given next.opened
+    next.gave next.same.2 next.window next.end next.still)
 
 pub returns-clause-opened : goal.returns-clause-opened
 returns-clause-opened g c = λ honest start nested.
@@ -41,17 +49,13 @@ returns-in_err-token-clause-opened g c = λ honest start nested.
     let along = c.next.ensures.gave honest in
     opened_as_before (files.sources c.args.files.now) start (files.openings c.args.files.now) (files.openings c.next.new.files) along.bytes along.gave
 
-pub returns-clause-given_all : goal.returns-clause-given_all
-returns-clause-given_all g c = λ honest start nested given.
+pub returns-clause-fits : goal.returns-clause-fits
+returns-clause-fits g c =
     let files = g.F.Files in
-    let s = files.sources c.args.files.now in
-    let old = files.openings c.args.files.now in
-    let new = files.openings c.next.new.files in
-    let before : Open = record { nest = c.self.inside.names; lexer = c.self.inside.lexer; outer = c.self.inside.outer.items } in
-    let after : Open = record { nest = c.self.inside.names; lexer = c.next.new.self; outer = c.self.inside.outer.items } in
-    subst (λ (o : Open). IsNested start old o → AllGiven s (length start.all) old o → AllGiven s (length start.all) new after) c.self.view_is
-    (λ n all. read_given s start old new before after n refl (c.next.ensures.gave honest) c.in_ok-token.ensures.few c.next.ensures.window (c.next.ensures.end honest) all)
-    nested given
+    let inside = c.self.inside in
+    let next = c.next.ensures in
+    subst (λ (o : Open). StaysFit files c.args.files.now c.next.new.files o) c.self.view_is
+    (fit_read files c.args.files.now c.next.new.files inside.names inside.lexer c.next.new.self inside.outer.items next.gave next.same.2 c.in_ok-token.ensures.few next.window next.end next.still)
 
 pub returns-clause-quoted : goal.returns-clause-quoted
 returns-clause-quoted g c =
