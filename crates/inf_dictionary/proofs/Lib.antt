@@ -1,3 +1,4 @@
 pub mod Ranks
 pub mod Wholes
 pub mod Halves
+pub mod Known

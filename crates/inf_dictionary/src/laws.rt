@@ -1,10 +1,18 @@
-//! What an interpreter may rely on when it looks for a word (Z-Machine Standard 1.1, section 13.2).
-ghost use Rattle.std.specs.Prelude.{◌≡◌, ◌<◌, ℕ, [], None, Some, length, slice_index_or};
+//! What an author may rely on, and an interpreter when it looks for a word (Z-Machine Standard 1.1, section 13.2).
+ghost use Rattle.std.specs.Prelude.{◌≡◌, ◌<◌, ℕ, List, [], None, Some, length, slice_index_or};
 ghost use Rattle.inf_dictionary.specs.Lookup.{found_by_halves, text_written};
 ghost use Rattle.inf_dictionary.specs.Texts.{AreRising, Text, rank_of, texts_of};
-ghost use Rattle.inf_dictionary.specs.Words.{dictionary_bytes, word_of};
+ghost use Rattle.inf_dictionary.specs.Uses.{UseOf, said_of, with_uses};
+ghost use Rattle.inf_dictionary.specs.Words.{Words, dictionary_bytes, word_of};
 
 use crate::dictionary::Dictionary;
+
+/// What is known of a word behind some uses is what those of its text say of it together, in their order, whatever uses of other words
+/// stand among them.
+pub fn word_of_all_uses()
+    ensures { (uses : List UseOf) (text : Text) (words : Words)
+        → word_of text (with_uses uses words).list ≡ said_of text uses (word_of text words.list) }
+{}
 
 /// The texts of a dictionary rise, so that no text stands in it twice.
 pub fn texts_rise(dictionary: &Dictionary)

@@ -10,6 +10,6 @@ mod places;
 mod uses;
 
 pub use dictionary::{AddFault, Dictionary};
-pub use laws::{texts_rise, word_at_its_place, word_is_found};
+pub use laws::{texts_rise, word_at_its_place, word_is_found, word_of_all_uses};
 pub use places::Places;
 pub use uses::{Word, WordUse};
