@@ -3,11 +3,9 @@ use Rattle.std.specs.Prelude.{◌≡◌, ℕ}
 use Rattle.inf_code.specs.declared.code.CodeLimits.{CodeLimits}
 use Rattle.inf_world.specs.declared.kinds.Limits.{Limits}
 use Rattle.inf_tables.specs.declared.tables.Tables.{Tables}
-use Rattle.inf_tables.specs.Tables.{references}
 use Rattle.inf_output.specs.Output.{Out, Code}
 
--- in tables: words, bytes of arrays, objects and properties, verbs and bytes of their lines, actions; and how many references there are, of which
--- nothing adds more yet
+-- in tables: words, bytes of arrays, objects and properties, verbs and bytes of their lines, actions
 pub record TableBounds : Type 0 where
   pub words : ℕ
   pub arrays : ℕ
@@ -15,7 +13,6 @@ pub record TableBounds : Type 0 where
   pub verbs : ℕ
   pub lines : ℕ
   pub actions : ℕ
-  pub references : ℕ
 
 abbrev pub table_bounds : Tables → TableBounds
 table_bounds t = record {
@@ -25,7 +22,6 @@ table_bounds t = record {
   verbs = t.verbs.limit;
   lines = t.verbs.space;
   actions = t.actions.limit;
-  references = references t;
 }
 
 -- of code, of strings and in tables

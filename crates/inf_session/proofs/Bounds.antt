@@ -1,5 +1,5 @@
 -- What the settings bound stays under them.
-use Rattle.std.specs.Prelude.{nat_lt, is_none, max, ◌||◌}
+use Rattle.std.specs.Prelude.{nat_lt, is_none, max, min, ◌||◌}
 use Rattle.std.proofs.Common.{◌≡◌, ℕ, ◌≤◌, Bool, true, false, cond, List, [], ◌∷◌, length, Option, Some, None, refl, sym, ap, subst, ◌∙◌, arith}
 use Rattle.std.proofs.lemmas.Bool.{ltb-false}
 use Rattle.inf_sources.specs.Quoted.{is_quoted_kind}
@@ -17,7 +17,6 @@ use Rattle.inf_unit.specs.Messages.{FileNames, none_reported, with_full}
 use Rattle.inf_unit.specs.Tokens.{Spelled}
 use Rattle.inf_work.specs.Actions.{Work, left, left_to, limits_of}
 use Rattle.inf_output.specs.Limits.{TableBounds, bounds, table_bounds}
-use Rattle.inf_tables.specs.Tables.{more, references, references_with}
 use Rattle.inf_work.specs.Limits.{SameLimits}
 use Rattle.inf_work.specs.Works.{work as work_of}
 use Rattle.inf_work.proofs.Limits.{same_then}
@@ -155,30 +154,23 @@ at_most n least most few room = omega (arith, few, room)
 
 pub within : (s : Session) (names code strings refs : ℕ) (tables : TableCounts) → IsBounded s → is_fatal s ≡ false → names ≤ s.progress.work.output.names.limit
     → code ≤ s.progress.work.output.code.limits.code → strings ≤ s.progress.work.output.strings.limit
-    → (4 ≤ s.progress.work.output.code.limits.refs → refs ≤ s.progress.work.output.code.limits.refs)
+    → refs ≤ number_of References (chosen s.setup).settings
     → FitBounds tables (table_bounds s.progress.work.output.tables)
     → AreWithin (s.quoted ∷ 0 ∷ names ∷ 0 ∷ tables.words ∷ tables.objects ∷ tables.verbs ∷ tables.actions ∷ tables.lines ∷ tables.properties ∷ tables.arrays ∷ 0
       ∷ code ∷ strings ∷ refs ∷ []) all_settings (chosen s.setup).settings
 within s names code strings refs tables bounded going few_names few_code few_strings few_refs few =
     let settings = (chosen s.setup).settings in
     let most_code = ap (λ (l : CodeLimits × ℕ × TableBounds). l.0.code) bounded.1.0 in
-    let most_refs = ap (λ (l : CodeLimits × ℕ × TableBounds). l.0.refs) bounded.1.0 in
     let most_strings = ap (λ (l : CodeLimits × ℕ × TableBounds). l.1.0) bounded.1.0 in
     let most = subst (λ b. FitBounds tables b) (ap (λ (l : CodeLimits × ℕ × TableBounds). l.1.1) bounded.1.0) few in
     let has = bounded.1.1.1 going in
-    let room = subst (λ n. 4 ≤ n) (sym most_refs) has.1.1 in
     let named = subst (λ n. names ≤ n) bounded.0 few_names in
     let coded = subst (λ n. code ≤ n) most_code few_code in
     let stringed = subst (λ n. strings ≤ n) most_strings few_strings in
-    let referred = subst (λ n. refs ≤ n) most_refs (few_refs room) in
     let objects = at_most tables.objects 4 (number_of Objects settings) most.objects has.0 in
     let properties = at_most tables.properties 30 (number_of PropertyTables settings) most.properties has.1.0 in
-    (bounded.1.1.0, (omega arith, (named, (omega arith, (most.words, (objects, (most.verbs, (most.actions, (most.lines, (properties, (most.arrays, (omega arith, (coded, (stringed, (referred, tt)))))))))))))))
+    (bounded.1.1.0, (omega arith, (named, (omega arith, (most.words, (objects, (most.verbs, (most.actions, (most.lines, (properties, (most.arrays, (omega arith, (coded, (stringed, (few_refs, tt)))))))))))))))
 
--- no references were added in tables, and those of the code are few
-pub refs_within : (s : Session) (refs : ℕ) → IsBounded s → (4 ≤ s.progress.work.output.code.limits.refs → refs ≤ s.progress.work.output.code.limits.refs)
-    → 4 ≤ s.progress.work.output.code.limits.refs → references_with refs s.progress.work.output.tables ≤ s.progress.work.output.code.limits.refs
-unfolding more
-refs_within s refs bounded few room =
-    let none : references s.progress.work.output.tables ≡ 0 = ap (λ (l : CodeLimits × ℕ × TableBounds). l.1.1.references) bounded.1.0 in
-    omega (arith, few room, none)
+-- the lesser of two numbers is at most the second
+pub min_few : (a b n : ℕ) → n ≡ min a b → n ≤ b
+min_few a b n is = omega (arith, is)

@@ -3,11 +3,6 @@
 -- end of an included file was read, reading goes on in the file that includes it.
 -- Designer's Manual, fourth edition, sections 38 and 39.
 use Rattle.std.specs.Prelude.{◌≡◌, ℕ, List, [], ◌∷◌, ◌++◌, length, nat_lt, is_none, Option, Some, None, Bool, true, false, ◌&&◌, ◌||◌, if◌then◌else◌, zero, suc}
-use Rattle.inf_code.specs.Code.{code_count, reference_count}
-use Rattle.inf_arrays.specs.Arrays.{all_of, arrays_size}
-use Rattle.inf_verbs.specs.Verbs.{verbs_size}
-use Rattle.inf_world.specs.World.{bytes_now, object_count}
-use Rattle.inf_tables.specs.Tables.{references_with}
 use Rattle.inf_scanner.specs.declared.tokens.BadToken.TheVariants as bad
 use Rattle.inf_scanner.specs.declared.tokens.Place.{Place}
 use Rattle.inf_scanner.specs.declared.tokens.TokenKind.{TokenKind}
@@ -209,16 +204,6 @@ part sources o zero s = s
 part sources o (suc n) s =
     if has_ended s then s else
     if is_parted (turn sources o s) then turn sources o s else part sources o n (turn sources o s)
-
--- How much there is so far of what each setting bounds, in the order of the settings: the longest quoted token, the names, the words, objects, verbs and
--- actions, the bytes of grammar, properties, arrays, code and strings, and the references. Nothing is told of expressions, labels and low strings.
-abbrev pub held : State → List ℕ
-held s =
-    s.quoted ∷ 0 ∷ length s.work.output.names.names ∷ 0
-    ∷ length s.work.output.tables.dictionary.list ∷ object_count s.work.output.tables.world ∷ length s.work.output.tables.verbs.list
-    ∷ length s.work.output.tables.actions.routines ∷ verbs_size s.work.output.tables.verbs.list ∷ bytes_now s.work.output.tables.world
-    ∷ arrays_size (all_of s.work.output.tables.arrays) ∷ 0
-    ∷ code_count s.work.output.code ∷ length s.work.output.strings.bytes ∷ references_with (reference_count s.work.output.code) s.work.output.tables ∷ []
 
 -- at most n turns
 abbrev pub run : Sources → Choices → ℕ → State → State

@@ -1,5 +1,5 @@
 -- What the code's session stands for, with a reader that keeps to its sources.
-use Rattle.std.specs.Prelude.{◌≡◌, ℕ, ◌≤◌, List, Bool, false, ◌&&◌, ◌||◌, if◌then◌else◌, length, [], ◌∷◌}
+use Rattle.std.specs.Prelude.{◌≡◌, ℕ, ◌≤◌, List, Bool, false, ◌&&◌, ◌||◌, if◌then◌else◌, length, min, [], ◌∷◌}
 use Rattle.inf_code.specs.Code.{code_count, reference_count}
 use Rattle.inf_arrays.specs.Arrays.{all_of, arrays_size}
 use Rattle.inf_verbs.specs.Verbs.{verbs_size}
@@ -89,12 +89,14 @@ parted s = ended s || ((site_of (reading s.progress.reader)).is_between && may_p
 abbrev pub came_to : Bool → Session → Step
 came_to had_ended s = if is_fatal s then step.Fatal else if had_ended then step.End else step.More
 
--- how much there is of what each setting bounds
-abbrev pub held_by : Session → List ℕ
-held_by s =
-    s.quoted ∷ 0 ∷ length s.progress.work.output.names.names ∷ 0
-    ∷ length s.progress.work.output.tables.dictionary.list ∷ object_count s.progress.work.output.tables.world ∷ length s.progress.work.output.tables.verbs.list
-    ∷ length s.progress.work.output.tables.actions.routines ∷ verbs_size s.progress.work.output.tables.verbs.list
-    ∷ bytes_now s.progress.work.output.tables.world ∷ arrays_size (all_of s.progress.work.output.tables.arrays) ∷ 0
-    ∷ code_count s.progress.work.output.code ∷ length s.progress.work.output.strings.bytes
-    ∷ references_with (reference_count s.progress.work.output.code) s.progress.work.output.tables ∷ []
+-- How much there is so far of what each setting bounds, in the order of the settings: the longest quoted token, the names, the words, objects, verbs and
+-- actions, the bytes of grammar, properties, arrays, code and strings, and the references, at most as many as there may be. Nothing is told of expressions,
+-- labels and low strings.
+abbrev pub held : Session → List ℕ
+held s =
+    let output = s.progress.work.output in
+    let tables = output.tables in
+    s.quoted ∷ 0 ∷ length output.names.names ∷ 0
+    ∷ length tables.dictionary.list ∷ object_count tables.world ∷ length tables.verbs.list ∷ length tables.actions.routines ∷ verbs_size tables.verbs.list
+    ∷ bytes_now tables.world ∷ arrays_size (all_of tables.arrays) ∷ 0
+    ∷ code_count output.code ∷ length output.strings.bytes ∷ min (references_with (reference_count output.code) tables) (number_of References (chosen s.setup).settings) ∷ []

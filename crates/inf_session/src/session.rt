@@ -16,7 +16,7 @@ ghost use Rattle.inf_work.specs.Works.{work as work_of};
 ghost use Rattle.inf_session.specs.Leading.{CutsShort, GivenUp, NotTried, OpensAll, OpensWithin, StopsFor, StopsAtInclusion, StopsInToken, Writes};
 ghost use Rattle.inf_conditionals.specs.Open.{no_conditions};
 ghost use Rattle.inf_session.specs.Session.{begun_with, followed, heeded, included, left, part, quoted_behind, quoted_bytes, rested, run, stepped, turn};
-ghost use Rattle.inf_session.specs.Standing.{AreWithin, IsBounded, IsSet, SameBounds, came_to, ended, held_by, is_fatal, parted, resting, state};
+ghost use Rattle.inf_session.specs.Standing.{AreWithin, IsBounded, IsSet, SameBounds, came_to, ended, held, is_fatal, parted, resting, state};
 ghost use Rattle.inf_unit.specs.Tokens.{spelled};
 ghost use Rattle.inf_session.specs.Weights.{GoesOn, room, weight};
 
@@ -29,6 +29,7 @@ use inf_lexer::{LexFault, Place};
 use inf_reader::mode::Mode;
 use inf_reader::progress::Progress;
 use inf_report::messages::Message;
+use inf_settings::setting::Setting;
 use inf_scanner::{BadToken, TokenKind};
 use inf_sources::IncludeFault;
 use inf_sources::open_files::{Included, OpenFiles};
@@ -257,10 +258,10 @@ impl<'a> Session<'a> {
     }
 
     /// How much there is so far of what each setting bounds, in the order of the settings: the bytes of the longest quoted token, the names, the words,
-    /// objects, verbs and actions, the bytes of grammar, properties, arrays, code and strings, and the references. Expressions, labels and low strings are
-    /// not told. None is above its setting unless a fatal message came.
+    /// objects, verbs and actions, the bytes of grammar, properties, arrays, code and strings, and the references, at most as many as there may be. Expressions,
+    /// labels and low strings are not told. None is above its setting unless a fatal message came.
     pub fn held(&self) -> [usize; 15]
-        ensures counts { result ≡ held_by self.now }
+        ensures counts { result ≡ held self.now }
         ensures within { IsBounded self.now → is_fatal self.now ≡ false → AreWithin result all_settings (chosen self.now.setup).settings }
     {
         let output = &self.progress.work.output;
@@ -277,7 +278,8 @@ impl<'a> Session<'a> {
         held[10] = tables.arrays.size();
         held[12] = output.code.count();
         held[13] = output.strings.len();
-        held[14] = tables.references_with(output.code.references());
+        let references = tables.references_with(output.code.references());
+        held[14] = references.min(self.setup.settings.of(Setting::References) as usize);
         held
     }
 

@@ -3,7 +3,7 @@ use Rattle.std.specs.Prelude.{List, [], ◌∷◌}
 use Rattle.inf_machine.specs.Grammar.{Row}
 use Rattle.inf_syntax.specs.declared.actions.Action.{Action}
 use Rattle.inf_syntax.specs.Rows.{row}
-use Rattle.inf_syntax.specs.Parts.{!and, !assign, !bit_and, !bit_not, !bit_or, !byte_entry, !comma, !count, !divide, !end_attribute, !end_class, !end_directive, !end_embedded, !end_entry, !end_header, !end_line, !end_locals, !end_property, !end_routine, !end_text, !end_value, !equal, !greater, !greater_or_equal, !has, !has_not, !in, !less, !less_or_equal, !minus, !name, !negate, !not, !not_in, !of_class, !or, !outer, !part, !plus, !provides, !remainder, !routine, !times, !unequal, !word_entry, 'additive', 'alias', 'arrow', 'assign', 'bit_and', 'bit_not', 'bit_or', 'class', 'close_bracket', 'comma', 'constant', 'divide', 'end', 'equal', 'error', 'fatalerror', 'first', 'greater', 'greater_or_equal', 'has', 'hash', 'hasnt', 'iffalse', 'iftrue', 'in', 'include', 'last', 'less', 'less_or_equal', 'logical_and', 'logical_not', 'logical_or', 'long_arrow', 'message', 'meta', 'minus', 'not_equal', 'notin', 'ofclass', 'open_bracket', 'or', 'plus', 'provides', 'remainder', 'replace', 'reverse', 'semicolon', 'string', 'stub', 'system_file', 'table', 'times', 'warning', 'with', BARENAME, BODYNAME, NAME, NOTADDITIVE, NOTALIAS, NUMBER, TEXT, WORD, after_prim, after_unary, array_entry, array_operator, array_tail, assign, assign_tail, assign_tail_1, attribute, attribute_1, bare_prim, bit, body, directive, directive_1, directive_11, directive_13, directive_15, directive_2, directive_3, directive_6, directive_7, directive_8, directive_9, entry, expression_tail, file, inc, initial, initial_1, line, line_1, line_2, line_3, line_4, logic, logic_operator, logic_tail, neg, negated, object_1, object_2, object_3, object_4, other_assign, other_prim, part, part_1, part_2, piece, prefixed, prim, properties, properties_1, property, property_1, property_2, step_prefix, sum, sum_operator, sum_tail, term, term_operator, term_tail, test, test_tail, test_tail_1, tested, tested_1, top_item, value, value_1, value_2, value_3, whole_directive, whole_directive_2, whole_directive_3, whole_directive_6}
+use Rattle.inf_syntax.specs.Parts.{!and, !assign, !bit_and, !bit_not, !bit_or, !byte_entry, !comma, !count, !divide, !end_attribute, !end_class, !end_directive, !end_embedded, !end_entry, !end_header, !end_line, !end_locals, !end_property, !end_routine, !end_text, !end_value, !equal, !greater, !greater_or_equal, !has, !has_not, !in, !less, !less_or_equal, !minus, !name, !negate, !not, !not_in, !of_class, !or, !outer, !part, !plus, !provides, !remainder, !routine, !times, !unequal, !word_entry, 'additive', 'alias', 'arrow', 'assign', 'attribute', 'bit_and', 'bit_not', 'bit_or', 'class', 'close_bracket', 'comma', 'constant', 'default', 'divide', 'end', 'equal', 'error', 'fatalerror', 'first', 'global', 'greater', 'greater_or_equal', 'has', 'hash', 'hasnt', 'iffalse', 'iftrue', 'in', 'include', 'last', 'less', 'less_or_equal', 'logical_and', 'logical_not', 'logical_or', 'long_arrow', 'message', 'meta', 'minus', 'not_equal', 'notin', 'ofclass', 'open_bracket', 'or', 'plus', 'property', 'provides', 'remainder', 'replace', 'reverse', 'semicolon', 'string', 'stub', 'system_file', 'table', 'times', 'warning', 'with', BARENAME, BODYNAME, NAME, NOTADDITIVE, NOTALIAS, NUMBER, TEXT, WORD, after_prim, after_unary, array_entry, array_operator, array_tail, assign, assign_tail, assign_tail_1, attribute, attribute_1, bare_prim, bit, body, directive, directive_1, directive_11, directive_13, directive_15, directive_2, directive_3, directive_6, directive_7, directive_8, directive_9, entry, expression_tail, file, inc, initial, initial_1, line, line_1, line_2, line_3, line_4, logic, logic_operator, logic_tail, neg, negated, object_1, object_2, object_3, object_4, other_assign, other_prim, part, part_1, part_2, piece, prefixed, prim, properties, properties_1, property, property_1, property_2, step_prefix, sum, sum_operator, sum_tail, term, term_operator, term_tail, test, test_tail, test_tail_1, tested, tested_1, top_item, value, value_1, value_2, value_3, whole_directive, whole_directive_1, whole_directive_2, whole_directive_3, whole_directive_4, whole_directive_5, whole_directive_6}
 
 abbrev pub rules_1 : List (List (Row Action))
 rules_1 =
@@ -86,7 +86,9 @@ rules_1 =
         ∷ row []
         ∷ [])
     -- whole_directive
-    ∷ (row (whole_directive_2 ∷ NAME ∷ whole_directive_3 ∷ [])
+    ∷ (row ('attribute' ∷ NAME ∷ whole_directive_1 ∷ [])
+        ∷ row (whole_directive_2 ∷ NAME ∷ whole_directive_3 ∷ [])
+        ∷ row ('property' ∷ whole_directive_4 ∷ whole_directive_5 ∷ [])
         ∷ row ('iftrue' ∷ !outer ∷ logic ∷ [])
         ∷ row ('iffalse' ∷ !outer ∷ logic ∷ [])
         ∷ row ('end' ∷ [])
@@ -102,6 +104,8 @@ rules_1 =
         ∷ [])
     -- whole_directive_2
     ∷ (row ('constant' ∷ [])
+        ∷ row ('default' ∷ [])
+        ∷ row ('global' ∷ [])
         ∷ [])
     -- whole_directive_3
     ∷ (row ('assign' ∷ !outer ∷ assign ∷ [])

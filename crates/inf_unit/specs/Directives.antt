@@ -32,6 +32,14 @@ asked code.End = End
 abbrev pub is_directive : List ℕ → List ℕ → Bool
 is_directive word bytes = str_eq_ignore_ascii_case bytes word
 
+-- one that declares what is in a table, or none of these
+abbrev pub declaration_of : List ℕ → Directive
+declaration_of bytes =
+    if is_directive (codes "default") bytes then directive.Default else
+    if is_directive (codes "attribute") bytes then directive.Attribute else
+    if is_directive (codes "property") bytes then directive.Property else
+    if is_directive (codes "global") bytes then directive.Global else directive.SystemFile
+
 abbrev pub directive_of : List ℕ → Directive
 directive_of bytes =
     if is_directive (codes "include") bytes then directive.Include else
@@ -39,7 +47,7 @@ directive_of bytes =
     if is_directive (codes "end") bytes then directive.End else
     if is_directive (codes "constant") bytes then directive.Constant else
     if is_directive (codes "replace") bytes then directive.Replace else
-    if is_directive (codes "stub") bytes then directive.Stub else directive.SystemFile
+    if is_directive (codes "stub") bytes then directive.Stub else declaration_of bytes
 
 -- the weight of a message, by the word behind `Message`
 abbrev pub weight_of_word : List ℕ → Kind

@@ -1,7 +1,7 @@
 //! The directives that are one unit, and what they ask of the reading.
 ghost use Rattle.std.specs.Prelude.{◌≡◌, map};
 ghost use Rattle.inf_symbol.specs.Spellings.{as_name};
-ghost use Rattle.inf_unit.specs.Directives.{directive_of, weight_of, weight_of_word};
+ghost use Rattle.inf_unit.specs.Directives.{declaration_of, directive_of, weight_of, weight_of_word};
 
 use inf_report::messages::Kind;
 use inf_scanner::Place;
@@ -17,6 +17,10 @@ pub enum Directive {
     Replace,
     Stub,
     SystemFile,
+    Default,
+    Attribute,
+    Property,
+    Global,
 }
 
 /// What a finished directive asks of the reading.
@@ -45,6 +49,23 @@ pub fn directive_of(word: &[u8]) -> Directive
         Directive::Replace
     } else if word.eq_ignore_ascii_case(b"stub") {
         Directive::Stub
+    } else {
+        declaration_of(word)
+    }
+}
+
+/// What a directive is that declares what is in a table, or none of these.
+fn declaration_of(word: &[u8]) -> Directive
+    ensures { result ≡ declaration_of word.now }
+{
+    if word.eq_ignore_ascii_case(b"default") {
+        Directive::Default
+    } else if word.eq_ignore_ascii_case(b"attribute") {
+        Directive::Attribute
+    } else if word.eq_ignore_ascii_case(b"property") {
+        Directive::Property
+    } else if word.eq_ignore_ascii_case(b"global") {
+        Directive::Global
     } else {
         Directive::SystemFile
     }

@@ -1,6 +1,6 @@
 -- No action changes what there may be of names and of code.
 use Rattle.std.proofs.Common.{◌≡◌, ℕ, List, [], ◌∷◌, ◌&&◌, Bool, true, false, cond, Option, Some, None, refl, map}
-use Rattle.std.specs.Prelude.{is_some, length, nat_lt}
+use Rattle.std.specs.Prelude.{codes, is_some, length, nat_le, nat_lt, ◌+◌, ◌-◌, ◌++◌}
 use Rattle.inf_code.specs.Code.{place_behind}
 use Rattle.inf_scanner.specs.declared.tokens.Place.{Place}
 use Rattle.inf_assembler.specs.declared.routines.RoutineKind.TheVariants as routine_kind
@@ -24,9 +24,15 @@ use Rattle.inf_unit.specs.Directives.{directive_of}
 use Rattle.inf_unit.specs.declared.directives.Directive.{Directive}
 use Rattle.inf_unit.specs.declared.directives.Directive.TheVariants as directive
 use Rattle.inf_report.specs.Messages.{ConstantOutOfRange}
+use Rattle.inf_report.specs.declared.messages.Countable.{Countable}
+use Rattle.inf_report.specs.declared.messages.Countable.TheVariants as countable
+use Rattle.inf_area.specs.declared.targets.Value.{Value}
+use Rattle.inf_world.specs.declared.faults.AddFault.{AddFault}
+use Rattle.inf_world.specs.World.{attribute_fault, property_fault}
+use Rattle.std.specs.Str.{str_eq_ignore_ascii_case}
 use Rattle.inf_unit.specs.Messages.{Blame, FileNames}
 use Rattle.inf_unit.specs.Tokens.{Spelled}
-use Rattle.inf_unit.specs.Units.{acted as unit_acted, first_place, last_place, long_at, name_order, names_in, taken as unit_taken}
+use Rattle.inf_unit.specs.Units.{acted as unit_acted, bytes_at, first_place, last_place, long_at, name_order, names_in, taken as unit_taken}
 use Rattle.inf_unit.proofs.Cases.{of_both}
 use Rattle.inf_statements.specs.Constructs.{Laying, begun as construct_begun, between, changed, condition_label, ended, entered, looped_over, next_case, stepped}
 use Rattle.inf_statements.specs.Limits.{LayingKeeps}
@@ -38,7 +44,10 @@ use Rattle.inf_statements.specs.declared.constructs.Kind.{Kind}
 use Rattle.inf_statements.specs.declared.constructs.Kind.TheVariants as kind
 use Rattle.inf_statements.specs.declared.constructs.Over.TheVariants as over
 use Rattle.inf_statements.proofs.Keeping.{alone_keep, begun_keeps as begun_construct_keeps, case_keeps, cases_keep, ended_keeps, joined_keeps, leaf_added_keeps, leaves_same, looped_over_keeps, statement_keeps, stepped_keeps, switched_keeps, tested_keeps}
-use Rattle.inf_work.specs.Actions.{Work, begun_at, carried_out, close, close_open, constant, constant_added, constant_finding, constant_meaning, constant_of, constant_with, cut, directive_end, directive_of_names, finding_at, header_end, header_of, header_with, is_deep, is_replaced, name_finding, named, nested, opened_with, opens, operands_of, passed, replace, routine_declared, settled_of, sized, stopped, stub, stub_by, stub_code, stub_locals, stubbed, token_checked, told, took, trees_at, unit_ended}
+use Rattle.inf_work.specs.Actions.{Work, begun_at, close, close_open, constant, constant_added, constant_finding, constant_meaning, constant_of, constant_with, cut, finding_at, header_end, header_of, header_with, is_deep, is_replaced, name_finding, named, nested, opened_with, opens, operands_of, passed, replace, routine_declared, settled_of, sized, stopped, stub, stub_by, stub_code, stub_locals, stubbed, token_checked, told, took, trees_at, unit_ended}
+use Rattle.inf_work.specs.Declarations.{alias_by, is_alias, alias_finding, alias_meaning, alias_told, alias_with, aliased, attribute, attribute_added, attribute_number, attribute_with, global_added, global_variable, global_with, new_attribute, new_attribute_by, new_global, new_property, new_property_by, nothing_of, name_known, property, property_added, property_named, property_number, property_order, property_with, value_of, valued, with_variable}
+use Rattle.inf_work.specs.Directives.{carried_out, default, default_by, directive_end, directive_of_names}
+use Rattle.inf_work.specs.declared.declarations.Declared.{Declared}
 use Rattle.inf_work.specs.Acting.{act, acted}
 use Rattle.inf_work.specs.Findings.{header_fault, name_fault}
 use Rattle.inf_work.specs.Limits.{LimitsStay, SameLimits}
@@ -184,6 +193,90 @@ stub_same : (files : FileNames) (first : Place) (names : List Name) (w : Work) �
 stub_same files first [] w = (refl, refl)
 stub_same files first (name ∷ names) w = stub_by_same (found_in name.bytes w.output.names) files first name w
 
+default_by_same : (f : Found Place) (files : FileNames) (first : Place) (names : List Name) (w : Work) → SameLimits w (default_by f files first names w)
+default_by_same (found.System m) files first names w = (refl, refl)
+default_by_same (found.Declared m place) files first names w = (refl, refl)
+default_by_same found.Used files first names w = constant_same files first names w
+default_by_same found.Unknown files first names w = constant_same files first names w
+
+default_same : (files : FileNames) (first : Place) (names : List Name) (w : Work) → SameLimits w (default files first names w)
+default_same files first [] w = (refl, refl)
+default_same files first (name ∷ names) w = default_by_same (found_in name.bytes w.output.names) files first (name ∷ names) w
+
+-- Declarations
+
+alias_same : (files : FileNames) (first : Place) (name : Name) (at : ℕ) (kind : Countable) (w : Work) → SameLimits w (alias_told files first name at kind w)
+alias_same files first name at kind w =
+    let m = alias_meaning kind (found_in (bytes_at w.unit.tokens (length w.unit.tokens - 1)) w.output.names) in
+    let finding = least_of_both (name_known files name at false w).finding (alias_finding w.unit.tokens m) in
+    declared_keeps name.bytes name.place (aliased kind m finding) w.output
+
+new_attribute_same : (fault : Option AddFault) (o : Out) → SameOutLimits o (new_attribute_by fault o)
+new_attribute_same None o = (refl, refl)
+new_attribute_same (Some fault) o = (refl, refl)
+
+attribute_added_same : (f : Option Finding) (name : Name) (o : Out) → SameOutLimits o (attribute_added f name o)
+attribute_added_same (Some f) name o = declared_keeps name.bytes name.place (meaning_of.Attribute 0) o
+attribute_added_same None name o =
+    let d = declared name.bytes name.place (meaning_of.Attribute (attribute_number o)) o in
+    out_same_then o d (new_attribute d) (declared_keeps name.bytes name.place (meaning_of.Attribute (attribute_number o)) o)
+    (new_attribute_same (attribute_fault d.tables.world) d)
+
+attribute_same : (files : FileNames) (first : Place) (names : List Name) (w : Work) → SameLimits w (attribute files first names w)
+attribute_same files first [] w = (refl, refl)
+attribute_same files first (name ∷ names) w =
+    of_both (SameLimits w) (is_alias names w.unit.gathering.leaves) (alias_told files first name (name_order w.unit.tokens) countable.Attributes w)
+    (attribute_with files first name w)
+    (λ _. alias_same files first name (name_order w.unit.tokens) countable.Attributes w)
+    (λ _. attribute_added_same (name_known files name (name_order w.unit.tokens) (nat_le 48 w.output.tables.world.attributes) w).finding name w.output)
+
+settled_same : (w : Work) → SameOutLimits w.output (settled_of w).out
+settled_same w = leaves_same w.set w.locals w.unit.tokens w.unit.gathering.leaves (record { out = w.output; operands = [] })
+
+new_property_same : (fault : Option AddFault) (is_additive : Bool) (v : Value) (o : Out) → SameOutLimits o (new_property_by fault is_additive v o)
+new_property_same None is_additive v o = (refl, refl)
+new_property_same (Some fault) is_additive v o = (refl, refl)
+
+property_added_same : (f : Option Finding) (name : Name) (is_additive : Bool) (w : Work) → SameOutLimits w.output (property_added f name is_additive w)
+property_added_same (Some f) name is_additive w = declared_keeps name.bytes name.place (nothing_of countable.Properties) w.output
+property_added_same None name is_additive w =
+    let o = (settled_of w).out in
+    let d = declared name.bytes name.place (meaning_of.Property (property_number o) is_additive) o in
+    out_same_then w.output o (new_property is_additive (value_of w) d) (settled_same w)
+    (out_same_then o d (new_property is_additive (value_of w) d) (declared_keeps name.bytes name.place (meaning_of.Property (property_number o) is_additive) o)
+    (new_property_same (property_fault d.tables.world) is_additive (value_of w) d))
+
+property_named_same : (files : FileNames) (first : Place) (is_additive : Bool) (names : List Name) (w : Work) → SameLimits w (property_named files first is_additive names w)
+property_named_same files first is_additive [] w = (refl, refl)
+property_named_same files first is_additive (name ∷ names) w =
+    let at = property_order w.unit.tokens is_additive in
+    of_both (SameLimits w) (is_alias names w.unit.gathering.leaves) (alias_told files first name at countable.Properties w) (property_with files first is_additive name w)
+    (λ _. alias_same files first name at countable.Properties w)
+    (λ _. property_added_same (valued files name at (nat_le 60 (length w.output.tables.world.declared)) w).finding name is_additive w)
+
+property_same : (files : FileNames) (first : Place) (names : List Name) (w : Work) → SameLimits w (property files first names w)
+property_same files first [] w = (refl, refl)
+property_same files first (word ∷ names) w =
+    of_both (SameLimits w) (str_eq_ignore_ascii_case word.bytes (codes "additive")) (property_named files first true names w) (property_named files first false (word ∷ names) w)
+    (λ _. property_named_same files first true names w) (λ _. property_named_same files first false (word ∷ names) w)
+
+new_global_same : (v : Value) (o : Out) → SameOutLimits o (new_global v o)
+new_global_same v o = of_both (SameOutLimits o) (nat_le 235 (length o.tables.globals)) o (with_variable v o) (λ _. (refl, refl)) (λ _. (refl, refl))
+
+global_added_same : (f : Option Finding) (name : Name) (w : Work) → SameOutLimits w.output (global_added f name w)
+global_added_same (Some f) name w = declared_keeps name.bytes name.place (nothing_of countable.Globals) w.output
+global_added_same None name w =
+    let o = (settled_of w).out in
+    let d = declared name.bytes name.place (meaning_of.Variable (16 + length o.tables.globals)) o in
+    out_same_then w.output o (new_global (value_of w) d) (settled_same w)
+    (out_same_then o d (new_global (value_of w) d) (declared_keeps name.bytes name.place (meaning_of.Variable (16 + length o.tables.globals)) o)
+    (new_global_same (value_of w) d))
+
+global_same : (files : FileNames) (first : Place) (names : List Name) (w : Work) → SameLimits w (global_variable files first names w)
+global_same files first [] w = (refl, refl)
+global_same files first (name ∷ names) w =
+    global_added_same (valued files name (name_order w.unit.tokens) (nat_le 235 (length w.output.tables.globals)) w).finding name w
+
 carried_same : (d : Directive) (files : FileNames) (first : Place) (names : List Name) (w : Work) → SameLimits w (carried_out d files first names w)
 carried_same directive.Include files first names w = (refl, refl)
 carried_same directive.Message files first names w = (refl, refl)
@@ -191,6 +284,10 @@ carried_same directive.End files first names w = (refl, refl)
 carried_same directive.Constant files first names w = constant_same files first names w
 carried_same directive.Replace files first names w = replace_same files first names w
 carried_same directive.Stub files first names w = stub_same files first names w
+carried_same directive.Default files first names w = default_same files first names w
+carried_same directive.Attribute files first names w = attribute_same files first names w
+carried_same directive.Property files first names w = property_same files first names w
+carried_same directive.Global files first names w = global_same files first names w
 carried_same directive.SystemFile files first names w = (refl, refl)
 
 names_same : (files : FileNames) (first : Place) (names : List Name) (w : Work) → SameLimits w (directive_of_names files first names w)

@@ -8,7 +8,8 @@ use Rattle.inf_unit.specs.Units.{acted as unit_acted}
 use Rattle.inf_statements.specs.declared.constructs.Case.TheVariants as case
 use Rattle.inf_statements.specs.declared.constructs.Kind.TheVariants as kind
 use Rattle.inf_statements.specs.declared.constructs.Over.TheVariants as over
-use Rattle.inf_work.specs.Actions.{Work, close, directive_end, header_end, is_deep, nested, sized}
+use Rattle.inf_work.specs.Actions.{Work, close, header_end, is_deep, nested, sized}
+use Rattle.inf_work.specs.Directives.{directive_end}
 use Rattle.inf_work.specs.Parts.{construct_ended, construct_joined, construct_opened, part_ended, statement_at}
 use Rattle.inf_work.specs.declared.parts.Part.TheVariants as part
 

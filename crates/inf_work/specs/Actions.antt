@@ -362,24 +362,6 @@ abbrev pub stub : FileNames → Place → List Name → Work → Work
 stub files first [] w = passed true w
 stub files first (name ∷ names) w = stub_by (found_in name.bytes w.output.names) files first name w
 
-abbrev pub carried_out : Directive → FileNames → Place → List Name → Work → Work
-carried_out directive.Include files first names w = passed true (record w { asked = Include (quoted_in w.unit.tokens) first })
-carried_out directive.Message files first names w =
-    passed true (record w { report = with_words (location files first) (weight_of names) (words_of w.set w.unit) w.report })
-carried_out directive.End files first names w = passed true (record w { asked = End })
-carried_out directive.Constant files first names w = constant files first names w
-carried_out directive.Replace files first names w = replace files first names w
-carried_out directive.Stub files first names w = stub files first names w
-carried_out directive.SystemFile files first names w = passed true (record w { is_system = true })
-
--- a directive ends, which begins with the name of its word; code begins with it, unless it has begun
-abbrev pub directive_of_names : FileNames → Place → List Name → Work → Work
-directive_of_names files first [] w = passed true w
-directive_of_names files first (word ∷ names) w = begun_at files first (carried_out (directive_of word.bytes) files first names w)
-
-abbrev pub directive_end : FileNames → Place → Work → Work
-directive_end files place w = directive_of_names files (first_place w.unit.tokens place) (names_in w.unit.tokens) w
-
 -- Files
 
 -- a file is entered, which is not marked

@@ -4,7 +4,7 @@ use Rattle.inf_scanner.specs.declared.tokens.Place.{Place}
 use Rattle.inf_expressions.specs.declared.findings.Finding.{Finding}
 use Rattle.inf_names.specs.declared.symbols.DeclareFault.{DeclareFault}
 use Rattle.inf_names.specs.declared.symbols.DeclareFault.TheVariants as declaring
-use Rattle.inf_report.specs.Messages.{ConstantOutOfRange, Declared, End, LabelTwice, Message, MisplacedDefault, NotConstant, NothingToLeave, SystemName, Told, TooMany, TooManyArguments, WrongKind, WrongOpcode}
+use Rattle.inf_report.specs.Messages.{ConstantOutOfRange, Declared, End, LabelTwice, Message, MisplacedDefault, NotConstant, NothingToLeave, SystemName, Told, TooMany, TooManyArguments, UsedBefore, WrongKind, WrongOpcode}
 use Rattle.inf_report.specs.declared.messages.Countable.TheVariants as countable
 use Rattle.inf_symbol.specs.Spellings.{Name}
 use Rattle.inf_symbol.specs.Locals.{Headed, Repeated}
@@ -18,6 +18,7 @@ use Rattle.inf_work.specs.Words.{nowhere}
 abbrev pub message_of : ℕ → Told → List ℕ → Message
 message_of number t bytes =
     if number == 9 then WrongKind t else
+    if number == 11 then UsedBefore bytes else
     if number == 12 then NotConstant else
     if number == 13 then ConstantOutOfRange else
     if number == 15 then WrongOpcode bytes else

@@ -1,6 +1,8 @@
 pub mod Words
 pub mod Findings
 pub mod Actions
+pub mod Declarations
+pub mod Directives
 pub mod Parts
 pub mod Acting
 pub mod Works

@@ -34,7 +34,8 @@ const MOST_STUB_LOCALS: u16 = 4;
 
 impl Work {
     ghost use Rattle.inf_unit.specs.Directives.{Include, asked, weight_of};
-    ghost use Rattle.inf_work.specs.Actions.{carried_out, constant, constant_of, constant_with, directive_end, replace, stub, stubbed, words_of};
+    ghost use Rattle.inf_work.specs.Actions.{constant, constant_of, constant_with, replace, stub, stubbed, words_of};
+    ghost use Rattle.inf_work.specs.Directives.{carried_out, default, directive_end};
     ghost use Rattle.inf_work.specs.Works.{work};
 
     /// A directive ends, before a token at a place.
@@ -70,6 +71,10 @@ impl Work {
             Directive::Constant => return self.constant(files, first, names),
             Directive::Replace => return self.replace(files, first, names),
             Directive::Stub => return self.stub(files, first, names),
+            Directive::Default => return self.default(files, first, names),
+            Directive::Attribute => return self.attribute(files, first, names),
+            Directive::Property => return self.property(files, first, names),
+            Directive::Global => return self.global_variable(files, first, names),
             Directive::SystemFile => self.is_system = true,
         }
         self.pass(true);
@@ -125,6 +130,21 @@ impl Work {
         self.output.open(self.alloc, locals as u8, false)?;
         self.output.close(RoutineKind::Embedded)?;
         self.end_unit(files, first, true)
+    }
+
+    /// Declares the first of these names as a constant, as `Constant` does, unless it is declared.
+    fn default(&mut self, files: &Stack, first: Place, names: &[Name]) -> Result<(), AllocError>
+        ensures { OnOk result (work self.new
+            ≡ default files.now.names first (map as_name names.now) (work self.old)) }
+    {
+        let Some(name) = names.first() else {
+            self.pass(true);
+            return Ok(());
+        };
+        match self.output.names.look(name.bytes()) {
+            Found::System(_) | Found::Declared(..) => self.end_unit(files, first, true),
+            Found::Used | Found::Unknown => self.constant(files, first, names),
+        }
     }
 
     /// Declares the first of these names as a constant, with what its expression is, or 0.
@@ -288,7 +308,7 @@ fn constant_meaning(meaning: Option<Meaning>, found: Option<Finding>) -> Meaning
 }
 
 /// What is wrong with a name that has this order, as a finding. Its number is that of a name that stands already.
-fn name_finding(order: u32, of_name: &Option<Blame<'_>>) -> Option<Finding>
+pub(crate) fn name_finding(order: u32, of_name: &Option<Blame<'_>>) -> Option<Finding>
     ensures { result ≡ name_finding order (option_map blamed of_name.now) }
 {
     match of_name {

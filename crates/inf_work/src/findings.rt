@@ -17,6 +17,13 @@ use inf_unit::messages::{Blame, location};
 use inf_unit::tokens::told;
 use inf_unit::unit_tokens::UnitTokens;
 
+/// The number of the message that a name was declared before, and of the one that it is used before its declaration.
+pub(crate) const DECLARED: u8 = 8;
+pub(crate) const USED_BEFORE: u8 = 11;
+
+/// The number of the message that there are too many of something.
+pub(crate) const TOO_MANY: u8 = 19;
+
 /// Before the first unit nothing was laid.
 pub(crate) const NOWHERE: Place = Place { file: 0, line: 0 };
 
@@ -26,6 +33,7 @@ fn message_of<'t>(number: u8, token: Told<'t>, bytes: &'t [u8]) -> Message<'t>
 {
     match number {
         WRONG_KIND => Message::WrongKind(token),
+        USED_BEFORE => Message::UsedBefore(bytes),
         NOT_CONSTANT => Message::NotConstant,
         OUT_OF_RANGE => Message::ConstantOutOfRange,
         WRONG_OPCODE => Message::WrongOpcode(bytes),

@@ -1,6 +1,7 @@
 //! What the units of a source do: the actions of the grammar gather what a unit has, and at its end it makes code and messages.
 #![tactic(auto)]
 
+pub mod declarations;
 mod directives;
 mod findings;
 pub mod laws;

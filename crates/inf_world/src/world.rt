@@ -112,6 +112,20 @@ impl World {
 
     // Declarations
 
+    /// How many attributes were declared: the number of the next one.
+    pub fn attribute_count(&self) -> usize
+        ensures { result ≡ self.now.attributes }
+    {
+        self.attributes
+    }
+
+    /// How many properties were declared.
+    pub fn property_count(&self) -> usize
+        ensures { result ≡ length self.now.declared }
+    {
+        self.declared.len()
+    }
+
     /// Declares an attribute, and answers its number. Refuses the 49th.
     pub fn declare_attribute(&mut self) -> Result<usize, AddFault>
         ensures ok { OnOk result (self.new ≡ with_attribute self.old) }
