@@ -37,6 +37,14 @@ impl Places {
         Places { texts }
     }
 
+    /// The texts, in rising order.
+    pub fn into_texts(self) -> Vec<[u8; 6]>
+        ensures { result.items ≡ self }
+    {
+        let Places { texts } = self;
+        texts
+    }
+
     /// How many words stand before the one with this text. It is found by halves.
     pub fn rank(&self, text: [u8; 6]) -> usize
         ensures { result ≡ rank_of text self.now }

@@ -18,8 +18,8 @@ pub enum Meaning {
     Number(u16),
     /// A constant that is a string.
     Text(usize),
-    /// A constant that is a dictionary word.
-    Word(usize),
+    /// A constant that is a dictionary word, by its text of nine Z-characters.
+    Word([u8; 6]),
     /// A string for the low part of the memory.
     LowString(usize),
     /// A variable, by its number (Z-Machine Standard 1.1, section 4.2.2).
