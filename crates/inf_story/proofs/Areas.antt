@@ -1,51 +1,70 @@
--- The fixups of all areas, and where the property tables begin.
-use Rattle.std.proofs.Common.{◌≡◌, ℕ, List, ◌∷◌, [], ◌++◌, append-nil, refl, sym, ap, ◌∙◌}
+-- The fixups of all areas.
+use Rattle.std.proofs.Common.{◌≡◌, ℕ, List, ◌∷◌, [], ◌++◌, append-nil, append_assoc, refl, sym, ap, ◌∙◌}
 use Rattle.inf_area.specs.declared.fixups.Fixup.{Fixup}
+use Rattle.inf_area.specs.declared.targets.AreaName.{AreaName}
 use Rattle.inf_area.specs.declared.targets.AreaName.TheVariants as area
-use Rattle.inf_area.specs.declared.targets.Target.TheVariants as target
 use Rattle.inf_cells.specs.declared.cells.Cell.{Cell}
 use Rattle.inf_cells.specs.Cells.{bytes_of, fixups_of}
 use Rattle.inf_cells.proofs.Joining.{bytes_of-known, fixups_of-known}
-use Rattle.inf_code.specs.Code.{code_cells, known}
+use Rattle.inf_code.specs.Code.{known}
+use Rattle.inf_dictionary.specs.Words.{dictionary_bytes}
+use Rattle.inf_link.specs.Areas.{area_of}
 use Rattle.inf_link.specs.FillingLaws.{cells_fixups}
-use Rattle.inf_story.specs.Tables.{abbreviations, areas, class_numbers, dictionary, globals, low_strings, objects, property_defaults, property_tables, table_places}
+use Rattle.inf_story.specs.Tables.{areas, low_strings}
+use Rattle.inf_tables.specs.declared.tables.Tables.{Tables}
 use Rattle.inf_text.specs.Packing.{packed, longest, character_zs}
 
--- only objects and code have fixups
-abbrev front : ℕ → List Cell → List Fixup → List Fixup
-front main finished end = fixups_of area.Objects 0 objects ++ (fixups_of area.Code 0 (code_cells (target.Place area.Code main) finished) ++ end)
+-- lists that are put behind others, one after the other
+abbrev put : List Fixup → List (List Fixup) → List Fixup
+put done [] = done
+put done (xs ∷ lists) = put (done ++ xs) lists
 
-all : (main : ℕ) (finished : List Cell) (strings : List ℕ) → front main finished (fixups_of area.Strings 0 (known strings) ++ []) ≡ cells_fixups (areas main finished strings)
-unfolding low_strings abbreviations property_defaults property_tables class_numbers globals dictionary packed longest character_zs
-all main finished strings = refl
+abbrev all : List (List Fixup) → List Fixup
+all [] = []
+all (xs ∷ lists) = xs ++ all lists
 
-none : fixups_of area.Abbreviations 0 abbreviations ≡ []
-unfolding abbreviations
-none = refl
+put_all : (done : List Fixup) (lists : List (List Fixup)) → put done lists ≡ done ++ all lists
+put_all done [] = sym (append-nil done)
+put_all done (xs ∷ lists) = put_all (done ++ xs) lists ∙ append_assoc done xs (all lists)
 
-pub all_fixups : (main : ℕ) (finished : List Cell) (strings : List ℕ)
-    → (([] ++ fixups_of area.Abbreviations 0 abbreviations) ++ fixups_of area.Objects 0 objects) ++ fixups_of area.Code 0 (code_cells (target.Place area.Code main) finished) ≡ cells_fixups (areas main finished strings)
-all_fixups main finished strings =
-    let code = fixups_of area.Code 0 (code_cells (target.Place area.Code main) finished) in
-    ap (λ xs. (([] ++ xs) ++ fixups_of area.Objects 0 objects) ++ code) none
-    ∙ ap (λ xs. fixups_of area.Objects 0 objects ++ xs) (sym (append-nil code) ∙ ap (λ xs. code ++ (xs ++ [])) (sym (fixups_of-known area.Strings 0 strings)))
-    ∙ all main finished strings
+-- those of the areas that are written with theirs
+abbrev written : (AreaName → List Fixup) → List (List Fixup)
+written fixups =
+    fixups area.Abbreviations ∷ fixups area.PropertyDefaults ∷ fixups area.Objects ∷ fixups area.PropertyTables ∷ fixups area.ClassNumbers
+    ∷ fixups area.IndividualTables ∷ fixups area.Globals ∷ fixups area.Arrays ∷ fixups area.Grammar ∷ fixups area.Actions
+    ∷ fixups area.ParsingRoutines ∷ fixups area.Code ∷ []
+
+-- with those of the areas that are known bytes
+abbrev whole : (AreaName → List Fixup) → List Fixup → List Fixup → List Fixup → List Fixup
+whole fixups low words strings =
+    low ++ all (fixups area.Abbreviations ∷ fixups area.PropertyDefaults ∷ fixups area.Objects ∷ fixups area.PropertyTables ∷ fixups area.ClassNumbers
+    ∷ fixups area.IndividualTables ∷ fixups area.Globals ∷ fixups area.Arrays ∷ fixups area.Grammar ∷ fixups area.Actions
+    ∷ fixups area.ParsingRoutines ∷ words ∷ fixups area.Code ∷ strings ∷ [])
+
+all_written : (fixups : AreaName → List Fixup) → put [] (written fixups) ≡ whole fixups [] [] []
+all_written fixups = put_all [] (written fixups)
+
+none_low : [] ≡ fixups_of area.LowStrings 0 low_strings
+unfolding low_strings packed longest character_zs
+none_low = refl
+
+abbrev fixups_in : ℕ → List Cell → List ℕ → Tables → AreaName → List Fixup
+fixups_in main finished strings tables name = fixups_of name 0 (area_of name (areas main finished strings tables))
+
+pub all_fixups : (main : ℕ) (finished : List Cell) (strings : List ℕ) (tables : Tables)
+    → put [] (written (fixups_in main finished strings tables)) ≡ cells_fixups (areas main finished strings tables)
+all_fixups main finished strings tables =
+    let fixups = fixups_in main finished strings tables in
+    let words = dictionary_bytes tables.dictionary.list in
+    all_written fixups
+    ∙ ap (λ low. whole fixups low [] []) none_low
+    ∙ ap (λ none. whole fixups (fixups area.LowStrings) none []) (sym (fixups_of-known area.Dictionary 0 words))
+    ∙ ap (λ none. whole fixups (fixups area.LowStrings) (fixups area.Dictionary) none) (sym (fixups_of-known area.Strings 0 strings))
 
 -- bytes as cells
 pub known_bytes : (bytes : List ℕ) → bytes_of (known bytes) ≡ bytes
 known_bytes bytes = bytes_of-known bytes
 
-pub spaces_are : known (0x80 ∷ 0x00 ∷ []) ≡ low_strings
+pub spaces_are : 0x80 ∷ 0x00 ∷ [] ≡ bytes_of low_strings
 unfolding low_strings packed longest character_zs
 spaces_are = refl
-
-pub tables_are : known (0x02 ∷ 0x11 ∷ 0x11 ∷ 0x9B ∷ 0x18 ∷ 0x00
-    ∷ 0x03 ∷ 0x12 ∷ 0x87 ∷ 0x3D ∷ 0x48 ∷ 0xE4 ∷ 0xA5 ∷ 0x00
-    ∷ 0x03 ∷ 0x12 ∷ 0xF4 ∷ 0x6B ∷ 0x2E ∷ 0xCD ∷ 0x45 ∷ 0x00
-    ∷ 0x03 ∷ 0x13 ∷ 0x19 ∷ 0x5D ∷ 0xD3 ∷ 0xB0 ∷ 0xA5 ∷ 0x00 ∷ []) ≡ property_tables
-unfolding property_tables packed longest character_zs
-tables_are = refl
-
-pub places_are : 0 ∷ 6 ∷ 14 ∷ 22 ∷ [] ≡ table_places
-unfolding table_places packed longest character_zs
-places_are = refl

@@ -1,4 +1,5 @@
 pub mod NameSteps
 pub mod Areas
+pub mod Plain
 pub mod Told
 pub mod Linked

@@ -1,3 +1,4 @@
 pub mod Names
 pub mod Tables
 pub mod Stories
+pub mod Plain

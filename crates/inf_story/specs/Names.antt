@@ -9,7 +9,7 @@ use Rattle.inf_names.specs.declared.meanings.Meaning.{Meaning}
 use Rattle.inf_names.specs.declared.meanings.Meaning.TheVariants as meaning
 use Rattle.inf_scanner.specs.declared.tokens.Place.{Place}
 
--- What a name is by what it stands for: a number, or a place in an area. A dictionary word is known by its text and not by a place, and a function of the
+-- What a name is by what it stands for: a number, a place in an area, or a dictionary word, which is known by its text and not by a place. A function of the
 -- language is no number.
 abbrev pub value_of : Meaning → Option Value
 value_of (meaning.Number number) = Some (value.Known number)
@@ -24,7 +24,7 @@ value_of (meaning.Text place) = Some (value.Later (target.Place area.Strings pla
 value_of (meaning.LowString place) = Some (value.Later (target.Place area.LowStrings place))
 value_of (meaning.Array place) = Some (value.Later (target.Place area.Arrays place))
 value_of (meaning.Routine place) = Some (value.Later (target.Place area.Code place))
-value_of (meaning.Word number) = None
+value_of (meaning.Word text) = Some (value.Later (target.Word text))
 value_of (meaning.Function function) = None
 
 -- a name that was not declared stands for nothing

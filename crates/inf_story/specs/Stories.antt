@@ -7,11 +7,12 @@ use Rattle.inf_link.specs.declared.link.LinkFault.{LinkFault}
 use Rattle.inf_link.specs.FillingLaws.{cells_sizes, cells_story}
 use Rattle.inf_link.specs.MemoryMaps.{too_long as too_long_by}
 use Rattle.inf_story.specs.Tables.{areas, looked_up}
+use Rattle.inf_tables.specs.declared.tables.Tables.{Tables}
 
--- The story of the finished routines of a source and its strings: the one at a place of the code is called first, and names are these.
-unfoldable pub story : HeaderFields → ℕ → List Value → List Cell → List ℕ → List ℕ
-story fields main names finished strings = cells_story (areas main finished strings) (looked_up names) fields
+-- The story of the finished routines of a source, its strings and its tables: the routine at a place of the code is called first, and names are these.
+unfoldable pub story : HeaderFields → ℕ → List Value → List Cell → List ℕ → Tables → List ℕ
+story fields main names finished strings tables = cells_story (areas main finished strings tables) (looked_up names tables) fields
 
 -- why there is none, if so
-unfoldable pub too_long : HeaderFields → ℕ → List Cell → List ℕ → Option LinkFault
-too_long fields main finished strings = too_long_by (cells_sizes (areas main finished strings)) fields.scale
+unfoldable pub too_long : HeaderFields → ℕ → List Cell → List ℕ → Tables → Option LinkFault
+too_long fields main finished strings tables = too_long_by (cells_sizes (areas main finished strings tables)) fields.scale

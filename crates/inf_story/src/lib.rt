@@ -2,10 +2,12 @@
 //! (Z-Machine Standard 1.1, sections 1 and 11).
 #![tactic(auto)]
 
+mod laws;
 mod names;
 mod stories;
 mod tables;
 
 pub use inf_link::{LinkFault, Story};
+pub use laws::tables_are_plain;
 pub use names::values_of;
 pub use stories::story;

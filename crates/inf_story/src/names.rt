@@ -9,7 +9,7 @@ use inf_names::symbols::Symbols;
 use inf_scanner::Place;
 use std::alloc::{AllocError, Global};
 
-/// What a name is in a story, by what it stands for: a number, or a place in an area. Nothing for what is no number by itself.
+/// What a name is in a story, by what it stands for: a number, a place in an area, or a word of the dictionary. Nothing for what is no number by itself.
 fn value_of(meaning: Meaning) -> Option<Value>
     ensures { result ≡ value_of meaning }
 {
@@ -25,7 +25,8 @@ fn value_of(meaning: Meaning) -> Option<Value>
         Meaning::LowString(place) => Some(Value::Later(Target::Place(AreaName::LowStrings, place))),
         Meaning::Array(place) => Some(Value::Later(Target::Place(AreaName::Arrays, place))),
         Meaning::Routine(place) => Some(Value::Later(Target::Place(AreaName::Code, place))),
-        Meaning::Word(_) | Meaning::Function(_) => None,
+        Meaning::Word(text) => Some(Value::Later(Target::Word(text))),
+        Meaning::Function(_) => None,
     }
 }
 

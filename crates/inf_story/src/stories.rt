@@ -7,10 +7,11 @@ use crate::tables::{areas, targets};
 use inf_area::{PagedArea, Refs, Value};
 use inf_code::code::Code;
 use inf_link::{HeaderFields, Link, LinkFault, Story};
+use inf_tables::Tables;
 use std::alloc::Global;
 
-/// The story of some code and strings, in which the routine at a place of the code is called first, and names are these. Refuses first where code would begin at an address over
-/// 65,534, then where the story would be longer than one of its version may be, and else only where no memory is left.
+/// The story of some code, strings and tables, in which the routine at a place of the code is called first, and names are these. Refuses first where code would begin at an address
+/// over 65,534, then where the story would be longer than one of its version may be, and else only where no memory is left.
 pub fn story(
     alloc: Global,
     fields: HeaderFields,
@@ -18,13 +19,14 @@ pub fn story(
     names: Vec<Value>,
     code: Code,
     strings: PagedArea,
+    tables: Tables,
 ) -> Result<Story, LinkFault>
-    ensures bytes { IfOk result (λ s. s.bytes ≡ story fields main names.items code.finished strings) }
-    ensures fault { let long = too_long fields main code.finished strings in
+    ensures bytes { IfOk result (λ s. s.bytes ≡ story fields main names.items code.finished strings tables) }
+    ensures fault { let long = too_long fields main code.finished strings tables in
         MatchResult result (λ _. long ≡ None) (λ fault. (fault ≡ Memory) ⊎ (long ≡ Some fault)) }
 {
     let mut refs = Refs::new(alloc, usize::MAX);
-    let areas = areas(alloc, main, code, strings, &mut refs)?;
-    let targets = targets(alloc, names)?;
+    let areas = areas(alloc, main, code, strings, &tables, &mut refs)?;
+    let targets = targets(alloc, names, &tables)?;
     Link::new(alloc, areas, refs, targets, fields).link()
 }

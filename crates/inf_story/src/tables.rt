@@ -1,17 +1,26 @@
 //! The areas of a story, one by one.
 ghost use Rattle.std.specs.Prelude.{◌≡◌, ◌++◌, [], IfOk, OnOk};
 ghost use Rattle.inf_area.specs.Fixups.{with_fixups};
+ghost use Rattle.inf_arrays.specs.Arrays.{all_of, arrays_cells};
+ghost use Rattle.inf_arrays.specs.Globals.{globals_cells};
 ghost use Rattle.inf_cells.specs.Cells.{bytes_of, fixups_of};
 ghost use Rattle.inf_code.specs.Code.{code_cells, known};
+ghost use Rattle.inf_dictionary.specs.Words.{dictionary_bytes};
 ghost use Rattle.inf_link.specs.Areas.{by_name};
 ghost use Rattle.inf_link.specs.FillingLaws.{cells_contents, cells_fixups};
 ghost use Rattle.inf_link.specs.Targets.{lookup};
-ghost use Rattle.inf_story.specs.Tables.{abbreviations, areas, class_numbers, dictionary, globals, looked_up, low_strings, object, objects, property_defaults, property_tables};
+ghost use Rattle.inf_story.specs.Tables.{abbreviations, areas, looked_up, low_strings};
+ghost use Rattle.inf_verbs.specs.Routines.{routines_cells};
+ghost use Rattle.inf_verbs.specs.Verbs.{grammar_cells};
+ghost use Rattle.inf_world.specs.Areas.{area_cells, name_of};
 
 use inf_area::{Area, AreaName, PagedArea, Refs, Target, Value};
 use inf_cells::{Cells, append_cells};
 use inf_code::code::Code;
 use inf_link::{Areas, Targets};
+use inf_tables::{
+    Actions, Arrays, Dictionary, Globals, ParsingRoutines, Tables, Verbs, World, WorldArea,
+};
 use std::alloc::{AllocError, Global};
 
 /// The first low string: three spaces.
@@ -20,56 +29,16 @@ const THREE_SPACES: [u8; 2] = [0x80, 0x00];
 /// An abbreviation that is not declared: the address in words of the first low string.
 const NO_ABBREVIATION: Value = Value::Known(32);
 
-/// The tables of the objects `Class`, `Object`, `Routine` and `String`: the length of the short name in words, the name, and no properties.
-const PROPERTY_TABLES: [u8; 30] = [
-    0x02, 0x11, 0x11, 0x9B, 0x18, 0x00, //
-    0x03, 0x12, 0x87, 0x3D, 0x48, 0xE4, 0xA5, 0x00, //
-    0x03, 0x12, 0xF4, 0x6B, 0x2E, 0xCD, 0x45, 0x00, //
-    0x03, 0x13, 0x19, 0x5D, 0xD3, 0xB0, 0xA5, 0x00,
-];
-
-/// Where they begin.
-const TABLE_PLACES: [usize; 4] = [0, 6, 14, 22];
-
-/// The number of the object `String`.
-const LAST_OBJECT: u16 = 4;
-
-/// The separators of words, the size of an entry, and no entries.
-const EMPTY_DICTIONARY: [u8; 7] = [0x03, b'.', b',', b'"', 0x09, 0x00, 0x00];
-
-/// An area of bytes.
-#[tactic(auto, using(crate::proofs::Areas::known_bytes))]
-fn plain(alloc: Global, bytes: &[u8]) -> Result<PagedArea, AllocError>
-    ensures { IfOk result (λ area. area ≡ bytes_of (known bytes.now)) }
-{
-    let mut area = PagedArea::new(alloc);
-    area.append(bytes)?;
-    Ok(area)
-}
-
-/// An area of cells, whose fixups are put behind others.
-fn written(
-    alloc: Global,
-    name: AreaName,
-    cells: &Cells,
-    refs: &mut Refs,
-) -> Result<PagedArea, AllocError>
-    ensures bytes { IfOk result (λ area. area ≡ bytes_of cells.now) }
-    ensures fixups { OnOk result (refs.new ≡ with_fixups (refs.old.list ++ fixups_of name 0 cells.now) refs.old) }
-{
-    let mut area = PagedArea::new(alloc);
-    if append_cells(alloc, name, &mut area, refs, cells.as_slice()).is_err() {
-        return Err(AllocError);
-    }
-    Ok(area)
-}
+// Each area with fixups puts them behind others. Their list has no limit, so a table that is not written is told as want of memory.
 
 /// The first low string.
 #[tactic(auto, using(crate::proofs::Areas::spaces_are))]
 fn low_strings(alloc: Global) -> Result<PagedArea, AllocError>
     ensures { IfOk result (λ area. area ≡ bytes_of low_strings) }
 {
-    plain(alloc, &THREE_SPACES)
+    let mut area = PagedArea::new(alloc);
+    area.append(&THREE_SPACES)?;
+    Ok(area)
 }
 
 /// The abbreviations, none of which is declared.
@@ -81,70 +50,116 @@ fn abbreviations(alloc: Global, refs: &mut Refs) -> Result<PagedArea, AllocError
 {
     let mut cells = Cells::new(alloc);
     cells.values(&[NO_ABBREVIATION; 96])?;
-    written(alloc, AreaName::Abbreviations, &cells, refs)
+    let mut area = PagedArea::new(alloc);
+    if append_cells(
+        alloc,
+        AreaName::Abbreviations,
+        &mut area,
+        refs,
+        cells.as_slice(),
+    )
+    .is_err()
+    {
+        return Err(AllocError);
+    }
+    Ok(area)
 }
 
-/// The default values of properties.
-#[tactic(auto, unfolding(crate::specs::Tables::property_defaults))]
-fn property_defaults(alloc: Global) -> Result<PagedArea, AllocError>
-    ensures { IfOk result (λ area. area ≡ bytes_of property_defaults) }
+/// An area of the world.
+fn world_area(
+    alloc: Global,
+    world: &World,
+    which: WorldArea,
+    refs: &mut Refs,
+) -> Result<PagedArea, AllocError>
+    ensures bytes { IfOk result (λ area. area ≡ bytes_of (area_cells which world.now)) }
+    ensures fixups { OnOk result (refs.new
+        ≡ with_fixups (refs.old.list ++ fixups_of (name_of which) 0 (area_cells which world.now)) refs.old) }
 {
-    plain(alloc, &[0; 126])
-}
-
-/// The first four objects.
-#[tactic(auto, unfolding(crate::specs::Tables::objects))]
-fn objects(alloc: Global, refs: &mut Refs) -> Result<PagedArea, AllocError>
-    ensures bytes { IfOk result (λ area. area ≡ bytes_of objects) }
-    ensures fixups { OnOk result (refs.new ≡ with_fixups (refs.old.list ++ fixups_of AreaName.Objects 0 objects) refs.old) }
-{
-    let mut cells = Cells::new(alloc);
-    put_object(&mut cells, 0)?;
-    put_object(&mut cells, 1)?;
-    put_object(&mut cells, 2)?;
-    put_object(&mut cells, 3)?;
-    written(alloc, AreaName::Objects, &cells, refs)
-}
-
-/// An object with no attributes and no relatives, whose property table is the one of a number.
-fn put_object(cells: &mut Cells, table: usize) -> Result<(), AllocError>
-    ensures { OnOk result (cells.new ≡ cells.old ++ object table) }
-{
-    let none = Value::Known(0);
-    let place = Value::Later(Target::Part(AreaName::PropertyTables, table));
-    cells.values(&[none, none, none, none, none, none, place])
-}
-
-/// The property tables of these objects.
-#[tactic(auto, using(crate::proofs::Areas::tables_are))]
-fn property_tables(alloc: Global) -> Result<PagedArea, AllocError>
-    ensures { IfOk result (λ area. area ≡ bytes_of property_tables) }
-{
-    plain(alloc, &PROPERTY_TABLES)
-}
-
-/// The end of the class numbers.
-#[tactic(auto, unfolding(crate::specs::Tables::class_numbers))]
-fn class_numbers(alloc: Global) -> Result<PagedArea, AllocError>
-    ensures { IfOk result (λ area. area ≡ bytes_of class_numbers) }
-{
-    plain(alloc, &[0, 0])
+    let mut area = PagedArea::new(alloc);
+    if world.write(which, &mut area, refs).is_err() {
+        return Err(AllocError);
+    }
+    Ok(area)
 }
 
 /// The values of the global variables.
-#[tactic(auto, unfolding(crate::specs::Tables::globals))]
-fn globals(alloc: Global) -> Result<PagedArea, AllocError>
-    ensures { IfOk result (λ area. area ≡ bytes_of globals) }
+fn globals(alloc: Global, globals: &Globals, refs: &mut Refs) -> Result<PagedArea, AllocError>
+    ensures bytes { IfOk result (λ area. area ≡ bytes_of (globals_cells globals.now)) }
+    ensures fixups { OnOk result (refs.new
+        ≡ with_fixups (refs.old.list ++ fixups_of AreaName.Globals 0 (globals_cells globals.now)) refs.old) }
 {
-    plain(alloc, &[0; 480])
+    let mut area = PagedArea::new(alloc);
+    if globals.write(&mut area, refs).is_err() {
+        return Err(AllocError);
+    }
+    Ok(area)
+}
+
+/// The arrays.
+fn arrays(alloc: Global, arrays: &Arrays, refs: &mut Refs) -> Result<PagedArea, AllocError>
+    ensures bytes { IfOk result (λ area. area ≡ bytes_of (arrays_cells (all_of arrays.now))) }
+    ensures fixups { OnOk result (refs.new
+        ≡ with_fixups (refs.old.list ++ fixups_of AreaName.Arrays 0 (arrays_cells (all_of arrays.now))) refs.old) }
+{
+    let mut area = PagedArea::new(alloc);
+    if arrays.write(&mut area, refs).is_err() {
+        return Err(AllocError);
+    }
+    Ok(area)
+}
+
+/// The lines of the verbs.
+fn grammar(alloc: Global, verbs: &Verbs, refs: &mut Refs) -> Result<PagedArea, AllocError>
+    ensures bytes { IfOk result (λ area. area ≡ bytes_of (grammar_cells verbs.now.list)) }
+    ensures fixups { OnOk result (refs.new
+        ≡ with_fixups (refs.old.list ++ fixups_of AreaName.Grammar 0 (grammar_cells verbs.now.list)) refs.old) }
+{
+    let mut area = PagedArea::new(alloc);
+    if verbs.write(&mut area, refs).is_err() {
+        return Err(AllocError);
+    }
+    Ok(area)
+}
+
+/// The routines of the actions.
+fn actions(alloc: Global, actions: &Actions, refs: &mut Refs) -> Result<PagedArea, AllocError>
+    ensures bytes { IfOk result (λ area. area ≡ bytes_of (routines_cells actions.now.routines)) }
+    ensures fixups { OnOk result (refs.new
+        ≡ with_fixups (refs.old.list ++ fixups_of AreaName.Actions 0 (routines_cells actions.now.routines)) refs.old) }
+{
+    let mut area = PagedArea::new(alloc);
+    if actions.write(&mut area, refs).is_err() {
+        return Err(AllocError);
+    }
+    Ok(area)
+}
+
+/// The routines that parse.
+fn parsing_routines(
+    alloc: Global,
+    routines: &ParsingRoutines,
+    refs: &mut Refs,
+) -> Result<PagedArea, AllocError>
+    ensures bytes { IfOk result (λ area. area ≡ bytes_of (routines_cells routines.now)) }
+    ensures fixups { OnOk result (refs.new
+        ≡ with_fixups (refs.old.list ++ fixups_of AreaName.ParsingRoutines 0 (routines_cells routines.now)) refs.old) }
+{
+    let mut area = PagedArea::new(alloc);
+    if routines.write(&mut area, refs).is_err() {
+        return Err(AllocError);
+    }
+    Ok(area)
 }
 
 /// The dictionary.
-#[tactic(auto, unfolding(crate::specs::Tables::dictionary))]
-fn dictionary(alloc: Global) -> Result<PagedArea, AllocError>
-    ensures { IfOk result (λ area. area ≡ bytes_of dictionary) }
+#[tactic(auto, using(crate::proofs::Areas::known_bytes))]
+fn dictionary(alloc: Global, words: &Dictionary) -> Result<PagedArea, AllocError>
+    ensures { IfOk result (λ area. area ≡ bytes_of (known (dictionary_bytes words.now.list))) }
 {
-    plain(alloc, &EMPTY_DICTIONARY)
+    let mut area = PagedArea::new(alloc);
+    words.write(alloc, &mut area)?;
+    Ok(area)
 }
 
 /// The code, whose first routine calls the one at a place.
@@ -182,66 +197,64 @@ fn no_areas(alloc: Global) -> Areas<PagedArea>
     }
 }
 
-/// Puts low strings, abbreviations, variables and words into their areas.
-fn put_words(alloc: Global, areas: &mut Areas<PagedArea>, refs: &mut Refs) -> Result<(), AllocError>
-    ensures areas { OnOk result (areas.new ≡ record areas.old {
-      low_strings = bytes_of low_strings;
-      abbreviations = bytes_of abbreviations;
-      globals = bytes_of globals;
-      dictionary = bytes_of dictionary;
-    }) }
-    ensures fixups { OnOk result (refs.new
-        ≡ with_fixups (refs.old.list ++ fixups_of AreaName.Abbreviations 0 abbreviations) refs.old) }
-{
-    areas.low_strings = low_strings(alloc)?;
-    areas.abbreviations = abbreviations(alloc, refs)?;
-    areas.globals = globals(alloc)?;
-    areas.dictionary = dictionary(alloc)?;
-    Ok(())
-}
-
-/// Puts what belongs to objects into their areas.
-fn put_objects(
+/// Puts what belongs to the world into its areas.
+fn put_world(
     alloc: Global,
+    world: &World,
     areas: &mut Areas<PagedArea>,
     refs: &mut Refs,
 ) -> Result<(), AllocError>
     ensures areas { OnOk result (areas.new ≡ record areas.old {
-      property_defaults = bytes_of property_defaults;
-      objects = bytes_of objects;
-      property_tables = bytes_of property_tables;
-      class_numbers = bytes_of class_numbers;
+      property_defaults = bytes_of (area_cells WorldArea.PropertyDefaults world.now);
+      objects = bytes_of (area_cells WorldArea.Objects world.now);
+      property_tables = bytes_of (area_cells WorldArea.PropertyTables world.now);
+      class_numbers = bytes_of (area_cells WorldArea.ClassNumbers world.now);
+      individual_tables = bytes_of (area_cells WorldArea.IndividualTables world.now);
     }) }
-    ensures fixups { OnOk result (refs.new ≡ with_fixups (refs.old.list ++ fixups_of AreaName.Objects 0 objects) refs.old) }
+    ensures fixups { OnOk result (refs.new ≡ with_fixups (((((refs.old.list
+        ++ fixups_of AreaName.PropertyDefaults 0 (area_cells WorldArea.PropertyDefaults world.now))
+        ++ fixups_of AreaName.Objects 0 (area_cells WorldArea.Objects world.now))
+        ++ fixups_of AreaName.PropertyTables 0 (area_cells WorldArea.PropertyTables world.now))
+        ++ fixups_of AreaName.ClassNumbers 0 (area_cells WorldArea.ClassNumbers world.now))
+        ++ fixups_of AreaName.IndividualTables 0 (area_cells WorldArea.IndividualTables world.now)) refs.old) }
 {
-    areas.property_defaults = property_defaults(alloc)?;
-    areas.objects = objects(alloc, refs)?;
-    areas.property_tables = property_tables(alloc)?;
-    areas.class_numbers = class_numbers(alloc)?;
+    areas.property_defaults = world_area(alloc, world, WorldArea::PropertyDefaults, refs)?;
+    areas.objects = world_area(alloc, world, WorldArea::Objects, refs)?;
+    areas.property_tables = world_area(alloc, world, WorldArea::PropertyTables, refs)?;
+    areas.class_numbers = world_area(alloc, world, WorldArea::ClassNumbers, refs)?;
+    areas.individual_tables = world_area(alloc, world, WorldArea::IndividualTables, refs)?;
     Ok(())
 }
 
-/// Puts all tables into their areas.
-fn put_tables(
+/// Puts variables, arrays, the grammar and the dictionary into their areas.
+fn put_lists(
     alloc: Global,
+    tables: &Tables,
     areas: &mut Areas<PagedArea>,
     refs: &mut Refs,
 ) -> Result<(), AllocError>
     ensures areas { OnOk result (areas.new ≡ record areas.old {
-      low_strings = bytes_of low_strings;
-      abbreviations = bytes_of abbreviations;
-      property_defaults = bytes_of property_defaults;
-      objects = bytes_of objects;
-      property_tables = bytes_of property_tables;
-      class_numbers = bytes_of class_numbers;
-      globals = bytes_of globals;
-      dictionary = bytes_of dictionary;
+      globals = bytes_of (globals_cells tables.now.globals);
+      arrays = bytes_of (arrays_cells (all_of tables.now.arrays));
+      grammar = bytes_of (grammar_cells tables.now.verbs.list);
+      actions = bytes_of (routines_cells tables.now.actions.routines);
+      parsing_routines = bytes_of (routines_cells tables.now.parsing);
+      dictionary = bytes_of (known (dictionary_bytes tables.now.dictionary.list));
     }) }
-    ensures fixups { OnOk result (refs.new
-        ≡ with_fixups ((refs.old.list ++ fixups_of AreaName.Abbreviations 0 abbreviations) ++ fixups_of AreaName.Objects 0 objects) refs.old) }
+    ensures fixups { OnOk result (refs.new ≡ with_fixups (((((refs.old.list
+        ++ fixups_of AreaName.Globals 0 (globals_cells tables.now.globals))
+        ++ fixups_of AreaName.Arrays 0 (arrays_cells (all_of tables.now.arrays)))
+        ++ fixups_of AreaName.Grammar 0 (grammar_cells tables.now.verbs.list))
+        ++ fixups_of AreaName.Actions 0 (routines_cells tables.now.actions.routines))
+        ++ fixups_of AreaName.ParsingRoutines 0 (routines_cells tables.now.parsing)) refs.old) }
 {
-    put_words(alloc, areas, refs)?;
-    put_objects(alloc, areas, refs)
+    areas.globals = globals(alloc, &tables.globals, refs)?;
+    areas.arrays = arrays(alloc, &tables.arrays, refs)?;
+    areas.grammar = grammar(alloc, &tables.verbs, refs)?;
+    areas.actions = actions(alloc, &tables.actions, refs)?;
+    areas.parsing_routines = parsing_routines(alloc, &tables.parsing, refs)?;
+    areas.dictionary = dictionary(alloc, &tables.dictionary)?;
+    Ok(())
 }
 
 /// All areas, with the fixups of all: there are none yet.
@@ -251,30 +264,38 @@ pub(crate) fn areas(
     main: usize,
     routines: Code,
     strings: PagedArea,
+    tables: &Tables,
     refs: &mut Refs,
 ) -> Result<Areas<PagedArea>, AllocError>
     requires none { refs.old.list ≡ [] }
-    ensures bytes { IfOk result (λ written. written ≡ cells_contents (areas main routines.finished strings)) }
-    ensures fixups { OnOk result (refs.new.list ≡ cells_fixups (areas main routines.finished strings)) }
+    ensures bytes { IfOk result (λ written. written ≡ cells_contents (areas main routines.finished strings tables.now)) }
+    ensures fixups { OnOk result (refs.new.list ≡ cells_fixups (areas main routines.finished strings tables.now)) }
 {
     let mut areas = no_areas(alloc);
-    put_tables(alloc, &mut areas, refs)?;
+    areas.low_strings = low_strings(alloc)?;
+    areas.abbreviations = abbreviations(alloc, refs)?;
+    put_world(alloc, &tables.world, &mut areas, refs)?;
+    put_lists(alloc, tables, &mut areas, refs)?;
     areas.code = code(routines, main, refs)?;
     areas.strings = strings;
     Ok(areas)
 }
 
 /// What targets are looked up in, with what the names are.
-#[tactic(auto, using(crate::proofs::Areas::places_are))]
-pub(crate) fn targets(alloc: Global, names: Vec<Value>) -> Result<Targets, AllocError>
-    ensures { IfOk result (λ targets. lookup targets ≡ looked_up names.items) }
+pub(crate) fn targets(
+    alloc: Global,
+    names: Vec<Value>,
+    tables: &Tables,
+) -> Result<Targets, AllocError>
+    ensures { IfOk result (λ targets. lookup targets ≡ looked_up names.items tables.now) }
 {
+    let world = &tables.world;
     Ok(Targets {
         names,
-        property_tables: Vec::from_slice(alloc, &TABLE_PLACES)?,
-        individual_tables: Vec::new(alloc),
-        verbs: Vec::new(alloc),
-        words: Vec::new(alloc),
-        last_object: LAST_OBJECT,
+        property_tables: world.table_places()?,
+        individual_tables: world.individual_places()?,
+        verbs: tables.verbs.places()?,
+        words: tables.dictionary.places(alloc)?.into_texts(),
+        last_object: (world.object_count() % 65536) as u16,
     })
 }
