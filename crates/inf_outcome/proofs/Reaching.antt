@@ -14,7 +14,7 @@ use Rattle.inf_sources.specs.declared.open_files.Included.TheVariants as include
 use Rattle.inf_unit.proofs.Cases.{of_both}
 use Rattle.inf_unit.specs.Directives.{Asked, Nothing, Include, End}
 use Rattle.inf_conditionals.specs.Judging.{judged}
-use Rattle.inf_reader.specs.Handing.{site_of}
+use Rattle.inf_reader.specs.Handing.{said_told, site_of}
 use Rattle.inf_reader.specs.Reading.{is_mode_ended}
 use Rattle.inf_session.specs.Choices.{Choices}
 use Rattle.inf_session.specs.Ending.{Ending, missing}
@@ -108,10 +108,11 @@ stepped_takes : (s : State) → (is_mode_ended (stepped s).reading.mode ≡ true
 stepped_takes s =
     let c = s.nesting.cursor in
     let t = token_of c in
+    let b = judged (site_of s.reading) s.work.output.names t s.conditions in
     elim (tokens_take_bytes c.set c.limit c.lines c.rest).one as
     (λ _. (is_mode_ended (stepped s).reading.mode ≡ true) ⊎ (length (stepped s).nesting.cursor.rest < length s.nesting.cursor.rest)) [
-      | inl end ↦ inl (end_ends s.nesting.names t.kind t.bytes t.place s.work.output.names s.conditions (stand_of s) (site_of s.reading)
-          (judged (site_of s.reading) s.work.output.names t s.conditions).now (judged (site_of s.reading) s.work.output.names t s.conditions).judged refl end)
+      | inl end ↦ inl (end_ends s.nesting.names t.kind t.bytes t.place s.work.output.names s.conditions (said_told b.now.said s.nesting.names (stand_of s)) (site_of s.reading)
+          b.now b.judged refl end)
       | inr less ↦ inr less
     ]
 
