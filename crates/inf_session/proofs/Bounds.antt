@@ -157,7 +157,7 @@ pub within : (s : Session) (names code strings refs : ℕ) (tables : TableCounts
     → refs ≤ number_of References (chosen s.setup).settings
     → FitBounds tables (table_bounds s.progress.work.output.tables)
     → AreWithin (s.quoted ∷ 0 ∷ names ∷ 0 ∷ tables.words ∷ tables.objects ∷ tables.verbs ∷ tables.actions ∷ tables.lines ∷ tables.properties ∷ tables.arrays ∷ 0
-      ∷ code ∷ strings ∷ refs ∷ []) all_settings (chosen s.setup).settings
+    ∷ code ∷ strings ∷ refs ∷ []) all_settings (chosen s.setup).settings
 within s names code strings refs tables bounded going few_names few_code few_strings few_refs few =
     let settings = (chosen s.setup).settings in
     let most_code = ap (λ (l : CodeLimits × ℕ × TableBounds). l.0.code) bounded.1.0 in

@@ -196,9 +196,19 @@ fn linked(
         scale,
     };
     let Contents {
-        strings, tables, ..
+        strings,
+        tables,
+        ..
     } = contents;
-    match story(alloc, fields, main, names, code, strings.into_area(), tables) {
+    match story(
+        alloc,
+        fields,
+        main,
+        names,
+        code,
+        strings.into_area(),
+        tables,
+    ) {
         Ok(story) => compiled(story, report),
         Err(LinkFault::ReadableTooLong) => given_up(files, report, &Message::ReadableTooLong),
         Err(LinkFault::StoryTooLong) => {

@@ -3,342 +3,342 @@ use Rattle.std.specs.Prelude.{List, [], ◌∷◌}
 use Rattle.inf_machine.specs.Grammar.{Row}
 use Rattle.inf_syntax.specs.declared.actions.Action.{Action}
 use Rattle.inf_syntax.specs.Rows.{row, row_unless}
-use Rattle.inf_syntax.specs.Parts.{!action, !asm_text, !assign, !begin, !bracket, !bracketed, !branch, !branch_not, !call, !char, !clear, !close, !comma, !count, !decrement_after, !decrement_before, !deeper, !else, !end_for_start, !end_for_step, !end_for_test, !end_if, !end_objectloop, !end_statement, !end_switch, !end_until, !end_while, !for_top, !increment_after, !increment_before, !loop, !member, !member_address, !member_length, !name, !negate, !number, !open_do, !open_for, !open_if, !open_objectloop, !open_switch, !open_while, !outer, !outer_end, !outer_maybe, !outer_sure, !part, !print_text, !print_value, !set, !store, !text, !until, !word, 'arrow', 'assign', 'at', 'bit_not', 'break', 'close_brace', 'close_parenthesis', 'colon', 'comma', 'continue', 'decrement', 'do', 'dot', 'dot_and', 'dot_hash', 'else', 'for', 'give', 'if', 'increment', 'jump', 'minus', 'move', 'new_line', 'objectloop', 'open_brace', 'open_parenthesis', 'print', 'print_ret', 'question', 'quit', 'remove', 'return', 'rfalse', 'rtrue', 'semicolon', 'spaces', 'style', 'switch', 'to', 'until', 'while', BEGINNAME, CHAR, NAME, NUMBER, OPERAND, RESERVED, TEXT, WORD, act_1, act_2, act_3, address_operator, address_tail, after_prim, after_unary, array_operator, array_tail, assembly, assembly_1, assembly_2, assembly_3, assign, assign_tail, bracket_item, bracket_name, bracket_name_1, bracket_name_2, bracketed, branch, branch_1, call, call_1, call_2, do_rest, else_part, end, entry, expression, expression_tail, first_case, for_rest, for_rest_1, for_rest_2, for_rest_3, give_rest, give_rest_1, if_rest, inc, item, item_1, item_2, jump_rest, logic_operator, logic_tail, mark_statement, mark_statement_1, member_operator, move_rest, neg, objectloop_rest, of_expression, operands, operands_1, operands_2, operator, other_assign, other_operator, other_prim, outer_operator, plain_prim, plain_word, post, post_tail, prefixed, prim, print_rest, print_rest_1, return_rest, return_rest_1, ruled, statement, statement_1, statement_2, statement_3, statement_4, statement_5, statement_end, step_operator, step_prefix, step_tail, store_or_branch, store_or_branch_1, style_rest, sum_operator, sum_tail, switch_item, switch_rest, switch_rest_1, switch_rest_2, term_operator, term_tail, test, test_tail, text_more, text_statement, text_statement_1, while_rest}
+use Rattle.inf_syntax.specs.Parts.{ !action, !asm_text, !assign, !begin, !bracket, !bracketed, !branch, !branch_not, !call, !char, !clear, !close, !comma, !count, !decrement_after, !decrement_before, !deeper, !else, !end_for_start, !end_for_step, !end_for_test, !end_if, !end_objectloop, !end_statement, !end_switch, !end_until, !end_while, !for_top, !increment_after, !increment_before, !loop, !member, !member_address, !member_length, !name, !negate, !number, !open_do, !open_for, !open_if, !open_objectloop, !open_switch, !open_while, !outer, !outer_end, !outer_maybe, !outer_sure, !part, !print_text, !print_value, !set, !store, !text, !until, !word, 'arrow', 'assign', 'at', 'bit_not', 'break', 'close_brace', 'close_parenthesis', 'colon', 'comma', 'continue', 'decrement', 'do', 'dot', 'dot_and', 'dot_hash', 'else', 'for', 'give', 'if', 'increment', 'jump', 'minus', 'move', 'new_line', 'objectloop', 'open_brace', 'open_parenthesis', 'print', 'print_ret', 'question', 'quit', 'remove', 'return', 'rfalse', 'rtrue', 'semicolon', 'spaces', 'style', 'switch', 'to', 'until', 'while', BEGINNAME, CHAR, NAME, NUMBER, OPERAND, RESERVED, TEXT, WORD, act_1, act_2, act_3, address_operator, address_tail, after_prim, after_unary, array_operator, array_tail, assembly, assembly_1, assembly_2, assembly_3, assign, assign_tail, bracket_item, bracket_name, bracket_name_1, bracket_name_2, bracketed, branch, branch_1, call, call_1, call_2, do_rest, else_part, end, entry, expression, expression_tail, first_case, for_rest, for_rest_1, for_rest_2, for_rest_3, give_rest, give_rest_1, if_rest, inc, item, item_1, item_2, jump_rest, logic_operator, logic_tail, mark_statement, mark_statement_1, member_operator, move_rest, neg, objectloop_rest, of_expression, operands, operands_1, operands_2, operator, other_assign, other_operator, other_prim, outer_operator, plain_prim, plain_word, post, post_tail, prefixed, prim, print_rest, print_rest_1, return_rest, return_rest_1, ruled, statement, statement_1, statement_2, statement_3, statement_4, statement_5, statement_end, step_operator, step_prefix, step_tail, store_or_branch, store_or_branch_1, style_rest, sum_operator, sum_tail, switch_item, switch_rest, switch_rest_1, switch_rest_2, term_operator, term_tail, test, test_tail, text_more, text_statement, text_statement_1, while_rest}
 
 abbrev pub rules_2 : List (List (Row Action))
 rules_2 =
     -- inc
     (row (step_prefix ∷ [])
-        ∷ row (post ∷ address_tail ∷ step_tail ∷ [])
-        ∷ [])
+    ∷ row (post ∷ address_tail ∷ step_tail ∷ [])
+    ∷ [])
     -- step_prefix
     ∷ (row ('increment' ∷ inc ∷ !increment_before ∷ [])
-        ∷ row ('decrement' ∷ inc ∷ !decrement_before ∷ [])
-        ∷ [])
+    ∷ row ('decrement' ∷ inc ∷ !decrement_before ∷ [])
+    ∷ [])
     -- step_tail
     ∷ (row (step_operator ∷ step_tail ∷ [])
-        ∷ row []
-        ∷ [])
+    ∷ row []
+    ∷ [])
     -- step_operator
     ∷ (row ('increment' ∷ !increment_after ∷ [])
-        ∷ row ('decrement' ∷ !decrement_after ∷ [])
-        ∷ [])
+    ∷ row ('decrement' ∷ !decrement_after ∷ [])
+    ∷ [])
     -- address_tail
     ∷ (row (address_operator ∷ address_tail ∷ [])
-        ∷ row []
-        ∷ [])
+    ∷ row []
+    ∷ [])
     -- address_operator
     ∷ (row ('dot_and' ∷ post ∷ !member_address ∷ [])
-        ∷ row ('dot_hash' ∷ post ∷ !member_length ∷ [])
-        ∷ [])
+    ∷ row ('dot_hash' ∷ post ∷ !member_length ∷ [])
+    ∷ [])
     -- post
     ∷ (row (prim ∷ post_tail ∷ [])
-        ∷ [])
+    ∷ [])
     -- post_tail
     ∷ (row ('dot' ∷ prim ∷ !member ∷ post_tail ∷ [])
-        ∷ row (call ∷ post_tail ∷ [])
-        ∷ row_unless 87 []
-        ∷ [])
+    ∷ row (call ∷ post_tail ∷ [])
+    ∷ row_unless 87 []
+    ∷ [])
     -- call
     ∷ (row ('open_parenthesis' ∷ !count ∷ call_1 ∷ 'close_parenthesis' ∷ !call ∷ [])
-        ∷ [])
+    ∷ [])
     -- call_1
     ∷ (row (assign ∷ !part ∷ call_2 ∷ [])
-        ∷ row []
-        ∷ [])
+    ∷ row []
+    ∷ [])
     -- call_2
     ∷ (row ('comma' ∷ assign ∷ !part ∷ call_2 ∷ [])
-        ∷ row []
-        ∷ [])
+    ∷ row []
+    ∷ [])
     -- prim
     ∷ (row (OPERAND ∷ !name ∷ [])
-        ∷ row (other_prim ∷ [])
-        ∷ [])
+    ∷ row (other_prim ∷ [])
+    ∷ [])
     -- other_prim
     ∷ (row (plain_prim ∷ [])
-        ∷ row (TEXT ∷ !text ∷ [])
-        ∷ row (bracketed ∷ [])
-        ∷ [])
+    ∷ row (TEXT ∷ !text ∷ [])
+    ∷ row (bracketed ∷ [])
+    ∷ [])
     -- bracketed
     ∷ (row ('open_parenthesis' ∷ !bracket ∷ expression ∷ !bracketed ∷ 'close_parenthesis' ∷ [])
-        ∷ [])
+    ∷ [])
     -- plain_prim
     ∷ (row (NUMBER ∷ !number ∷ [])
-        ∷ row (CHAR ∷ !char ∷ [])
-        ∷ row (WORD ∷ !word ∷ [])
-        ∷ [])
+    ∷ row (CHAR ∷ !char ∷ [])
+    ∷ row (WORD ∷ !word ∷ [])
+    ∷ [])
     -- entry
     ∷ (row ('minus' ∷ prim ∷ !negate ∷ [])
-        ∷ row (prim ∷ [])
-        ∷ [])
+    ∷ row (prim ∷ [])
+    ∷ [])
     -- after_prim
     ∷ (row (post_tail ∷ address_tail ∷ step_tail ∷ after_unary ∷ [])
-        ∷ [])
+    ∷ [])
     -- after_unary
     ∷ (row (array_tail ∷ term_tail ∷ sum_tail ∷ test_tail ∷ logic_tail ∷ assign_tail ∷ [])
-        ∷ [])
+    ∷ [])
     -- operator
     ∷ (row (call ∷ post_tail ∷ address_tail ∷ step_tail ∷ after_unary ∷ [])
-        ∷ row (other_operator ∷ [])
-        ∷ [])
+    ∷ row (other_operator ∷ [])
+    ∷ [])
     -- other_operator
     ∷ (row (member_operator ∷ after_unary ∷ [])
-        ∷ row (outer_operator ∷ [])
-        ∷ [])
+    ∷ row (outer_operator ∷ [])
+    ∷ [])
     -- inner_operator
     ∷ (row (call ∷ post_tail ∷ address_tail ∷ step_tail ∷ [])
-        ∷ row (member_operator ∷ [])
-        ∷ [])
+    ∷ row (member_operator ∷ [])
+    ∷ [])
     -- member_operator
     ∷ (row ('dot' ∷ prim ∷ !member ∷ post_tail ∷ address_tail ∷ step_tail ∷ [])
-        ∷ row (address_operator ∷ address_tail ∷ step_tail ∷ [])
-        ∷ row (step_operator ∷ step_tail ∷ [])
-        ∷ [])
+    ∷ row (address_operator ∷ address_tail ∷ step_tail ∷ [])
+    ∷ row (step_operator ∷ step_tail ∷ [])
+    ∷ [])
     -- outer_operator
     ∷ (row (array_operator ∷ after_unary ∷ [])
-        ∷ row (term_operator ∷ term_tail ∷ sum_tail ∷ test_tail ∷ logic_tail ∷ assign_tail ∷ [])
-        ∷ row (sum_operator ∷ sum_tail ∷ test_tail ∷ logic_tail ∷ assign_tail ∷ [])
-        ∷ row (test ∷ logic_tail ∷ assign_tail ∷ [])
-        ∷ row (logic_operator ∷ logic_tail ∷ assign_tail ∷ [])
-        ∷ row ('assign' ∷ assign ∷ !assign ∷ [])
-        ∷ [])
+    ∷ row (term_operator ∷ term_tail ∷ sum_tail ∷ test_tail ∷ logic_tail ∷ assign_tail ∷ [])
+    ∷ row (sum_operator ∷ sum_tail ∷ test_tail ∷ logic_tail ∷ assign_tail ∷ [])
+    ∷ row (test ∷ logic_tail ∷ assign_tail ∷ [])
+    ∷ row (logic_operator ∷ logic_tail ∷ assign_tail ∷ [])
+    ∷ row ('assign' ∷ assign ∷ !assign ∷ [])
+    ∷ [])
     -- statement
     ∷ (row (mark_statement ∷ [])
-        ∷ row (!begin ∷ text_statement ∷ [])
-        ∷ row (!begin ∷ !outer ∷ BEGINNAME ∷ !name ∷ after_prim ∷ statement_end ∷ [])
-        ∷ row (!begin ∷ !outer ∷ statement_1 ∷ after_prim ∷ statement_end ∷ [])
-        ∷ row (!begin ∷ !outer ∷ statement_2 ∷ statement_end ∷ [])
-        ∷ row (!deeper ∷ statement_3 ∷ [])
-        ∷ row (!begin ∷ statement_4 ∷ print_rest ∷ [])
-        ∷ row (!begin ∷ 'return' ∷ return_rest ∷ [])
-        ∷ row (!begin ∷ plain_word ∷ end ∷ [])
-        ∷ row (!begin ∷ 'jump' ∷ jump_rest ∷ [])
-        ∷ row (!begin ∷ 'give' ∷ give_rest ∷ [])
-        ∷ row (!begin ∷ 'move' ∷ move_rest ∷ [])
-        ∷ row (!begin ∷ statement_5 ∷ of_expression ∷ [])
-        ∷ row (!begin ∷ 'style' ∷ style_rest ∷ [])
-        ∷ [])
+    ∷ row (!begin ∷ text_statement ∷ [])
+    ∷ row (!begin ∷ !outer ∷ BEGINNAME ∷ !name ∷ after_prim ∷ statement_end ∷ [])
+    ∷ row (!begin ∷ !outer ∷ statement_1 ∷ after_prim ∷ statement_end ∷ [])
+    ∷ row (!begin ∷ !outer ∷ statement_2 ∷ statement_end ∷ [])
+    ∷ row (!deeper ∷ statement_3 ∷ [])
+    ∷ row (!begin ∷ statement_4 ∷ print_rest ∷ [])
+    ∷ row (!begin ∷ 'return' ∷ return_rest ∷ [])
+    ∷ row (!begin ∷ plain_word ∷ end ∷ [])
+    ∷ row (!begin ∷ 'jump' ∷ jump_rest ∷ [])
+    ∷ row (!begin ∷ 'give' ∷ give_rest ∷ [])
+    ∷ row (!begin ∷ 'move' ∷ move_rest ∷ [])
+    ∷ row (!begin ∷ statement_5 ∷ of_expression ∷ [])
+    ∷ row (!begin ∷ 'style' ∷ style_rest ∷ [])
+    ∷ [])
     -- statement_1
     ∷ (row (plain_prim ∷ [])
-        ∷ row (bracketed ∷ [])
-        ∷ [])
+    ∷ row (bracketed ∷ [])
+    ∷ [])
     -- statement_2
     ∷ (row (prefixed ∷ [])
-        ∷ row ('minus' ∷ neg ∷ !negate ∷ after_unary ∷ [])
-        ∷ [])
+    ∷ row ('minus' ∷ neg ∷ !negate ∷ after_unary ∷ [])
+    ∷ [])
     -- statement_3
     ∷ (row ('if' ∷ if_rest ∷ [])
-        ∷ row ('while' ∷ while_rest ∷ [])
-        ∷ row ('do' ∷ do_rest ∷ [])
-        ∷ row ('for' ∷ for_rest ∷ [])
-        ∷ row ('objectloop' ∷ objectloop_rest ∷ [])
-        ∷ row ('switch' ∷ switch_rest ∷ [])
-        ∷ [])
+    ∷ row ('while' ∷ while_rest ∷ [])
+    ∷ row ('do' ∷ do_rest ∷ [])
+    ∷ row ('for' ∷ for_rest ∷ [])
+    ∷ row ('objectloop' ∷ objectloop_rest ∷ [])
+    ∷ row ('switch' ∷ switch_rest ∷ [])
+    ∷ [])
     -- statement_4
     ∷ (row ('print' ∷ [])
-        ∷ row ('print_ret' ∷ [])
-        ∷ [])
+    ∷ row ('print_ret' ∷ [])
+    ∷ [])
     -- statement_5
     ∷ (row ('remove' ∷ [])
-        ∷ row ('spaces' ∷ [])
-        ∷ [])
+    ∷ row ('spaces' ∷ [])
+    ∷ [])
     -- plain_word
     ∷ (row ('break' ∷ [])
-        ∷ row ('continue' ∷ [])
-        ∷ row ('quit' ∷ [])
-        ∷ row ('rtrue' ∷ [])
-        ∷ row ('rfalse' ∷ [])
-        ∷ row ('new_line' ∷ [])
-        ∷ [])
+    ∷ row ('continue' ∷ [])
+    ∷ row ('quit' ∷ [])
+    ∷ row ('rtrue' ∷ [])
+    ∷ row ('rfalse' ∷ [])
+    ∷ row ('new_line' ∷ [])
+    ∷ [])
     -- end
     ∷ (row (!end_statement ∷ 'semicolon' ∷ [])
-        ∷ [])
+    ∷ [])
     -- statement_end
     ∷ (row (expression_tail ∷ end ∷ [])
-        ∷ [])
+    ∷ [])
     -- mark_statement
     ∷ (row (!begin ∷ end ∷ [])
-        ∷ row ('open_brace' ∷ mark_statement_1 ∷ 'close_brace' ∷ [])
-        ∷ row (!begin ∷ 'dot' ∷ NAME ∷ end ∷ [])
-        ∷ row (!begin ∷ 'at' ∷ NAME ∷ assembly ∷ end ∷ [])
-        ∷ [])
+    ∷ row ('open_brace' ∷ mark_statement_1 ∷ 'close_brace' ∷ [])
+    ∷ row (!begin ∷ 'dot' ∷ NAME ∷ end ∷ [])
+    ∷ row (!begin ∷ 'at' ∷ NAME ∷ assembly ∷ end ∷ [])
+    ∷ [])
     -- mark_statement_1
     ∷ (row (statement ∷ mark_statement_1 ∷ [])
-        ∷ row []
-        ∷ [])
+    ∷ row []
+    ∷ [])
     -- text_statement
     ∷ (row (!outer_maybe ∷ TEXT ∷ text_statement_1 ∷ [])
-        ∷ [])
+    ∷ [])
     -- text_statement_1
     ∷ (row (!print_text ∷ end ∷ [])
-        ∷ row (!outer_sure ∷ !text ∷ text_more ∷ [])
-        ∷ [])
+    ∷ row (!outer_sure ∷ !text ∷ text_more ∷ [])
+    ∷ [])
     -- text_more
     ∷ (row (operator ∷ statement_end ∷ [])
-        ∷ row ('comma' ∷ assign ∷ !comma ∷ statement_end ∷ [])
-        ∷ [])
+    ∷ row ('comma' ∷ assign ∷ !comma ∷ statement_end ∷ [])
+    ∷ [])
     -- if_rest
     ∷ (row (!open_if ∷ 'open_parenthesis' ∷ !begin ∷ !outer ∷ expression ∷ !end_if ∷ 'close_parenthesis' ∷ statement ∷ else_part ∷ [])
-        ∷ [])
+    ∷ [])
     -- else_part
     ∷ (row (!else ∷ 'else' ∷ statement ∷ !close ∷ [])
-        ∷ row_unless 119 (!close ∷ [])
-        ∷ [])
+    ∷ row_unless 119 (!close ∷ [])
+    ∷ [])
     -- while_rest
     ∷ (row (!open_while ∷ 'open_parenthesis' ∷ !begin ∷ !outer ∷ expression ∷ !end_while ∷ 'close_parenthesis' ∷ statement ∷ !close ∷ [])
-        ∷ [])
+    ∷ [])
     -- do_rest
     ∷ (row (!open_do ∷ statement ∷ 'until' ∷ !until ∷ 'open_parenthesis' ∷ !begin ∷ !outer ∷ expression ∷ !end_until ∷ 'close_parenthesis' ∷ 'semicolon' ∷ !close ∷ [])
-        ∷ [])
+    ∷ [])
     -- for_rest
     ∷ (row (!open_for ∷ 'open_parenthesis' ∷ for_rest_1 ∷ !for_top ∷ 'colon' ∷ for_rest_2 ∷ 'colon' ∷ for_rest_3 ∷ 'close_parenthesis' ∷ statement ∷ !close ∷ [])
-        ∷ [])
+    ∷ [])
     -- for_rest_1
     ∷ (row (!begin ∷ !outer ∷ expression ∷ !end_for_start ∷ [])
-        ∷ row []
-        ∷ [])
+    ∷ row []
+    ∷ [])
     -- for_rest_2
     ∷ (row (!begin ∷ !outer ∷ expression ∷ !end_for_test ∷ [])
-        ∷ row []
-        ∷ [])
+    ∷ row []
+    ∷ [])
     -- for_rest_3
     ∷ (row (!begin ∷ !outer ∷ expression ∷ !end_for_step ∷ [])
-        ∷ row []
-        ∷ [])
+    ∷ row []
+    ∷ [])
     -- objectloop_rest
     ∷ (row (!open_objectloop ∷ 'open_parenthesis' ∷ !begin ∷ !outer ∷ expression ∷ !end_objectloop ∷ !loop ∷ 'close_parenthesis' ∷ statement ∷ !close ∷ [])
-        ∷ [])
+    ∷ [])
     -- switch_rest
     ∷ (row (!open_switch ∷ 'open_parenthesis' ∷ !begin ∷ !outer ∷ expression ∷ !end_switch ∷ 'close_parenthesis' ∷ 'open_brace' ∷ switch_rest_1 ∷ 'close_brace' ∷ !close ∷ [])
-        ∷ [])
+    ∷ [])
     -- switch_rest_1
     ∷ (row (first_case ∷ switch_rest_2 ∷ [])
-        ∷ row []
-        ∷ [])
+    ∷ row []
+    ∷ [])
     -- switch_rest_2
     ∷ (row (switch_item ∷ switch_rest_2 ∷ [])
-        ∷ row []
-        ∷ [])
+    ∷ row []
+    ∷ [])
     -- print_rest
     ∷ (row (item ∷ print_rest_1 ∷ end ∷ [])
-        ∷ [])
+    ∷ [])
     -- print_rest_1
     ∷ (row ('comma' ∷ item ∷ print_rest_1 ∷ [])
-        ∷ row []
-        ∷ [])
+    ∷ row []
+    ∷ [])
     -- return_rest
     ∷ (row (return_rest_1 ∷ end ∷ [])
-        ∷ [])
+    ∷ [])
     -- return_rest_1
     ∷ (row (!outer ∷ expression ∷ [])
-        ∷ row []
-        ∷ [])
+    ∷ row []
+    ∷ [])
     -- jump_rest
     ∷ (row (NAME ∷ end ∷ [])
-        ∷ [])
+    ∷ [])
     -- give_rest
     ∷ (row (!outer ∷ post ∷ !outer_end ∷ give_rest_1 ∷ end ∷ [])
-        ∷ [])
+    ∷ [])
     -- give_rest_1
     ∷ (row (!outer ∷ prim ∷ !outer_end ∷ !set ∷ give_rest_1 ∷ [])
-        ∷ row ('bit_not' ∷ !outer ∷ prim ∷ !outer_end ∷ !clear ∷ give_rest_1 ∷ [])
-        ∷ row []
-        ∷ [])
+    ∷ row ('bit_not' ∷ !outer ∷ prim ∷ !outer_end ∷ !clear ∷ give_rest_1 ∷ [])
+    ∷ row []
+    ∷ [])
     -- move_rest
     ∷ (row (!outer ∷ post ∷ !outer_end ∷ 'to' ∷ !outer ∷ post ∷ end ∷ [])
-        ∷ [])
+    ∷ [])
     -- of_expression
     ∷ (row (!outer ∷ expression ∷ end ∷ [])
-        ∷ [])
+    ∷ [])
     -- string_rest
     ∷ (row (!outer ∷ assign ∷ !outer_end ∷ TEXT ∷ end ∷ [])
-        ∷ [])
+    ∷ [])
     -- style_rest
     ∷ (row (NAME ∷ end ∷ [])
-        ∷ [])
+    ∷ [])
     -- act
     ∷ (row (act_1 ∷ act_2 ∷ [])
-        ∷ [])
+    ∷ [])
     -- act_1
     ∷ (row (NAME ∷ !action ∷ [])
-        ∷ row ('open_parenthesis' ∷ !outer ∷ expression ∷ !outer_end ∷ 'close_parenthesis' ∷ [])
-        ∷ [])
+    ∷ row ('open_parenthesis' ∷ !outer ∷ expression ∷ !outer_end ∷ 'close_parenthesis' ∷ [])
+    ∷ [])
     -- act_2
     ∷ (row (!outer ∷ post ∷ !outer_end ∷ act_3 ∷ [])
-        ∷ row []
-        ∷ [])
+    ∷ row []
+    ∷ [])
     -- act_3
     ∷ (row (!outer ∷ post ∷ !outer_end ∷ [])
-        ∷ row []
-        ∷ [])
+    ∷ row []
+    ∷ [])
     -- assembly
     ∷ (row (!outer_maybe ∷ TEXT ∷ assembly_1 ∷ [])
-        ∷ row (!outer ∷ assembly_3 ∷ !outer_end ∷ operands ∷ [])
-        ∷ row (store_or_branch ∷ [])
-        ∷ row []
-        ∷ [])
+    ∷ row (!outer ∷ assembly_3 ∷ !outer_end ∷ operands ∷ [])
+    ∷ row (store_or_branch ∷ [])
+    ∷ row []
+    ∷ [])
     -- assembly_1
     ∷ (row (!asm_text ∷ [])
-        ∷ row (!outer_sure ∷ !text ∷ !outer_end ∷ assembly_2 ∷ [])
-        ∷ [])
+    ∷ row (!outer_sure ∷ !text ∷ !outer_end ∷ assembly_2 ∷ [])
+    ∷ [])
     -- assembly_2
     ∷ (row (!outer ∷ entry ∷ !outer_end ∷ operands ∷ [])
-        ∷ row (store_or_branch ∷ [])
-        ∷ [])
+    ∷ row (store_or_branch ∷ [])
+    ∷ [])
     -- assembly_3
     ∷ (row (OPERAND ∷ !name ∷ [])
-        ∷ row (plain_prim ∷ [])
-        ∷ row (bracketed ∷ [])
-        ∷ row ('minus' ∷ prim ∷ !negate ∷ [])
-        ∷ [])
+    ∷ row (plain_prim ∷ [])
+    ∷ row (bracketed ∷ [])
+    ∷ row ('minus' ∷ prim ∷ !negate ∷ [])
+    ∷ [])
     -- operands
     ∷ (row (operands_1 ∷ operands_2 ∷ [])
-        ∷ [])
+    ∷ [])
     -- operands_1
     ∷ (row (!outer ∷ entry ∷ !outer_end ∷ operands_1 ∷ [])
-        ∷ row []
-        ∷ [])
+    ∷ row []
+    ∷ [])
     -- operands_2
     ∷ (row (store_or_branch ∷ [])
-        ∷ row []
-        ∷ [])
+    ∷ row []
+    ∷ [])
     -- store_or_branch
     ∷ (row ('arrow' ∷ NAME ∷ !store ∷ store_or_branch_1 ∷ [])
-        ∷ row (branch ∷ [])
-        ∷ [])
+    ∷ row (branch ∷ [])
+    ∷ [])
     -- store_or_branch_1
     ∷ (row (branch ∷ [])
-        ∷ row []
-        ∷ [])
+    ∷ row []
+    ∷ [])
     -- branch
     ∷ (row ('question' ∷ branch_1 ∷ [])
-        ∷ [])
+    ∷ [])
     -- branch_1
     ∷ (row (NAME ∷ !branch ∷ [])
-        ∷ row ('bit_not' ∷ NAME ∷ !branch_not ∷ [])
-        ∷ [])
+    ∷ row ('bit_not' ∷ NAME ∷ !branch_not ∷ [])
+    ∷ [])
     -- item
     ∷ (row (!outer_maybe ∷ TEXT ∷ item_1 ∷ [])
-        ∷ row (!outer_maybe ∷ 'open_parenthesis' ∷ !bracket ∷ bracket_item ∷ [])
-        ∷ row (!outer ∷ item_2 ∷ !print_value ∷ [])
-        ∷ [])
+    ∷ row (!outer_maybe ∷ 'open_parenthesis' ∷ !bracket ∷ bracket_item ∷ [])
+    ∷ row (!outer ∷ item_2 ∷ !print_value ∷ [])
+    ∷ [])
     -- item_1
     ∷ (row (!outer_sure ∷ !text ∷ operator ∷ !print_value ∷ [])
-        ∷ row (!print_text ∷ [])
-        ∷ [])
+    ∷ row (!print_text ∷ [])
+    ∷ [])
     -- item_2
     ∷ (row (OPERAND ∷ !name ∷ after_prim ∷ [])
-        ∷ row (plain_prim ∷ after_prim ∷ [])
-        ∷ row (prefixed ∷ [])
-        ∷ row ('minus' ∷ neg ∷ !negate ∷ after_unary ∷ [])
-        ∷ [])
+    ∷ row (plain_prim ∷ after_prim ∷ [])
+    ∷ row (prefixed ∷ [])
+    ∷ row ('minus' ∷ neg ∷ !negate ∷ after_unary ∷ [])
+    ∷ [])
     -- bracket_item
     ∷ (row (!outer_end ∷ RESERVED ∷ !name ∷ 'close_parenthesis' ∷ ruled ∷ [])
-        ∷ row (OPERAND ∷ !name ∷ bracket_name ∷ [])
-        ∷ row (!outer_sure ∷ other_assign ∷ expression_tail ∷ !bracketed ∷ 'close_parenthesis' ∷ after_prim ∷ !print_value ∷ [])
-        ∷ [])
+    ∷ row (OPERAND ∷ !name ∷ bracket_name ∷ [])
+    ∷ row (!outer_sure ∷ other_assign ∷ expression_tail ∷ !bracketed ∷ 'close_parenthesis' ∷ after_prim ∷ !print_value ∷ [])
+    ∷ [])
     -- bracket_name
     ∷ (row ('close_parenthesis' ∷ bracket_name_1 ∷ [])
-        ∷ row (!outer_sure ∷ bracket_name_2 ∷ !bracketed ∷ 'close_parenthesis' ∷ after_prim ∷ !print_value ∷ [])
-        ∷ [])
+    ∷ row (!outer_sure ∷ bracket_name_2 ∷ !bracketed ∷ 'close_parenthesis' ∷ after_prim ∷ !print_value ∷ [])
+    ∷ [])
     ∷ []

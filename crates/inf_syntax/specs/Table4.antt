@@ -3,34 +3,34 @@ use Rattle.std.specs.Prelude.{List, [], ◌∷◌}
 use Rattle.inf_machine.specs.Grammar.{Row}
 use Rattle.inf_syntax.specs.declared.actions.Action.{Action}
 use Rattle.inf_syntax.specs.Rows.{row}
-use Rattle.inf_syntax.specs.Parts.{!comma, !negate, 'comma', 'minus', after_unary, case_end, end, inner_operator, minus_following, neg, outer_following, outer_following_1, outer_operator, prim, range, statement_end, step_prefix, switch_next, switch_next_2, values}
+use Rattle.inf_syntax.specs.Parts.{ !comma, !negate, 'comma', 'minus', after_unary, case_end, end, inner_operator, minus_following, neg, outer_following, outer_following_1, outer_operator, prim, range, statement_end, step_prefix, switch_next, switch_next_2, values}
 
 abbrev pub rules_4 : List (List (Row Action))
 rules_4 =
     -- switch_next_1
     (row (prim ∷ minus_following ∷ [])
-        ∷ row (switch_next_2 ∷ !negate ∷ after_unary ∷ !comma ∷ statement_end ∷ [])
-        ∷ [])
+    ∷ row (switch_next_2 ∷ !negate ∷ after_unary ∷ !comma ∷ statement_end ∷ [])
+    ∷ [])
     -- switch_next_2
     ∷ (row ('minus' ∷ neg ∷ !negate ∷ [])
-        ∷ row (step_prefix ∷ [])
-        ∷ [])
+    ∷ row (step_prefix ∷ [])
+    ∷ [])
     -- minus_following
     ∷ (row (inner_operator ∷ !negate ∷ after_unary ∷ !comma ∷ statement_end ∷ [])
-        ∷ row (!negate ∷ outer_following ∷ [])
-        ∷ [])
+    ∷ row (!negate ∷ outer_following ∷ [])
+    ∷ [])
     -- switch_following
     ∷ (row (inner_operator ∷ after_unary ∷ !comma ∷ statement_end ∷ [])
-        ∷ row (outer_following ∷ [])
-        ∷ [])
+    ∷ row (outer_following ∷ [])
+    ∷ [])
     -- outer_following
     ∷ (row (outer_operator ∷ !comma ∷ statement_end ∷ [])
-        ∷ row (range ∷ !comma ∷ values ∷ [])
-        ∷ row (!comma ∷ outer_following_1 ∷ [])
-        ∷ [])
+    ∷ row (range ∷ !comma ∷ values ∷ [])
+    ∷ row (!comma ∷ outer_following_1 ∷ [])
+    ∷ [])
     -- outer_following_1
     ∷ (row (case_end ∷ [])
-        ∷ row ('comma' ∷ switch_next ∷ [])
-        ∷ row (end ∷ [])
-        ∷ [])
+    ∷ row ('comma' ∷ switch_next ∷ [])
+    ∷ row (end ∷ [])
+    ∷ [])
     ∷ []

@@ -7,6 +7,10 @@ mod tables;
 
 pub use inf_arrays::{ArrayFault, ArrayKind, Arrays, GlobalFault, Globals};
 pub use inf_dictionary::{AddFault as WordFault, Dictionary, Places, Word, WordUse};
-pub use inf_verbs::{ActionFault, Actions, LineFault, LineToken, Noun, ParsingRoutines, VerbFault, Verbs};
-pub use inf_world::{AddFault as WorldFault, Limit, Limits, Misfit, Parent, ShortName, World, WorldArea};
+pub use inf_verbs::{
+    ActionFault, Actions, LineFault, LineToken, Noun, ParsingRoutines, VerbFault, Verbs,
+};
+pub use inf_world::{
+    AddFault as WorldFault, Limit, Limits, Misfit, Parent, ShortName, World, WorldArea,
+};
 pub use tables::Tables;

@@ -33,11 +33,14 @@ pub struct Declared {
 
 /// The most attributes, declared properties and global variables (Z-Machine Standard 1.1, sections 12.3, 12.2 and 6.2).
 const MOST_ATTRIBUTES: usize = 48;
+
 const MOST_PROPERTIES: usize = 60;
+
 const MOST_GLOBALS: usize = 235;
 
 /// The number of the first declared property, and of the first global variable.
 const FIRST_PROPERTY: usize = 4;
+
 const FIRST_GLOBAL: u8 = 16;
 
 /// Why a name that stands already cannot be declared, by what looking for it found.
@@ -179,10 +182,12 @@ fn alias_meaning(kind: Countable, found: Found<Place>) -> Option<Meaning>
         }),
         (
             _,
-            Found::System(Meaning::Property {
-                number,
-                is_additive,
-            }),
+            Found::System(
+                Meaning::Property {
+                    number,
+                    is_additive,
+                },
+            ),
         ) => Some(Meaning::Property {
             number,
             is_additive,
@@ -211,9 +216,7 @@ fn alias_finding(tokens: &UnitTokens, meaning: Option<Meaning>) -> Option<Findin
 {
     match meaning {
         Some(_) => None,
-        None => Some(Finding::wrong_kind(order(
-            tokens.len().saturating_sub(1),
-        ))),
+        None => Some(Finding::wrong_kind(order(tokens.len().saturating_sub(1)))),
     }
 }
 
@@ -278,10 +281,7 @@ impl Work {
         let found = self.output.names.look(name.bytes());
         let of_name = name_fault(files, name, standing_fault(found));
         let leaves = self.unit.gathering.leaves();
-        let is_late = is_late(
-            found,
-            names_itself(&self.unit.tokens, name.bytes(), leaves),
-        );
+        let is_late = is_late(found, names_itself(&self.unit.tokens, name.bytes(), leaves));
         Declared {
             found,
             finding: declared_finding(order, &of_name, is_late, are_many),
@@ -338,7 +338,9 @@ impl Work {
         ensures { let before = work self.old in OnOk result (work self.new ≡ record before { output = new_attribute before.output }) }
     {
         match self.output.tables.world.declare_attribute() {
-            Ok(_) | Err(WorldFault::Limit(_) | WorldFault::Misfit(_) | WorldFault::Full(_)) => Ok(()),
+            Ok(_) | Err(WorldFault::Limit(_) | WorldFault::Misfit(_) | WorldFault::Full(_)) => Ok(
+                (),
+            ),
             Err(WorldFault::Memory) => Err(AllocError),
         }
     }
@@ -446,11 +448,7 @@ impl Work {
             OnOk result (work self.new ≡ record before { output = property_added found (as_name name.now) is_additive before }) }
     {
         if found.is_some() {
-            self.output.declare(
-                name.bytes(),
-                name.place,
-                nothing_of(Countable::Properties),
-            )?;
+            self.output.declare(name.bytes(), name.place, nothing_of(Countable::Properties))?;
             return Ok(());
         }
         let value = self.value()?;
@@ -473,7 +471,9 @@ impl Work {
             .world
             .declare_property(is_additive, value)
         {
-            Ok(_) | Err(WorldFault::Limit(_) | WorldFault::Misfit(_) | WorldFault::Full(_)) => Ok(()),
+            Ok(_) | Err(WorldFault::Limit(_) | WorldFault::Misfit(_) | WorldFault::Full(_)) => Ok(
+                (),
+            ),
             Err(WorldFault::Memory) => Err(AllocError),
         }
     }

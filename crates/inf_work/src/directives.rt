@@ -262,7 +262,13 @@ impl Work {
         }) }
     {
         let leaves = self.unit.gathering.leaves();
-        add_leaf(self.alloc, self.set, &self.unit.tokens, leaves, &mut self.output)
+        add_leaf(
+            self.alloc,
+            self.set,
+            &self.unit.tokens,
+            leaves,
+            &mut self.output,
+        )
     }
 }
 

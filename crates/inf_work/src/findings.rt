@@ -19,6 +19,7 @@ use inf_unit::unit_tokens::UnitTokens;
 
 /// The number of the message that a name was declared before, and of the one that it is used before its declaration.
 pub(crate) const DECLARED: u8 = 8;
+
 pub(crate) const USED_BEFORE: u8 = 11;
 
 /// The number of the message that there are too many of something.
