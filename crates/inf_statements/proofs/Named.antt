@@ -7,9 +7,8 @@ use Rattle.std.specs.Map.{lookup}
 use Rattle.std.specs.Str.{bytes_eq}
 use Rattle.arrayvec.specs.declared.array_vec.ArrayVec.{ArrayVec}
 use Rattle.indexmap.specs.IndexMap.{insert_entry}
-use Rattle.inf_opcode.specs.declared.instructions.Label.{Label}
 use Rattle.inf_statements.specs.Entries.{as_named, known}
-use Rattle.inf_statements.specs.Labels.{Known, NamedLabel, known_at, known_of, put, spelled_as, spelled_at}
+use Rattle.inf_statements.specs.Labels.{Known, NamedLabel, known_at, known_of, missing, missing_at, put}
 use Rattle.inf_statements.specs.declared.labels.Entry.{Entry}
 
 abbrev pub Key : Type 0
@@ -45,22 +44,22 @@ known-copied None = refl
 known-copied (Some e) = refl
 
 -- A label is looked for from one place on, and from the next.
-abbrev pub or_else : Option (List ℕ) → List ℕ → List ℕ
+abbrev pub or_else : Option (List ℕ) → Option (List ℕ) → Option (List ℕ)
 or_else None others = others
-or_else (Some name) others = name
+or_else (Some name) others = Some name
 
-spelled_first : (label : Label) (l : NamedLabel) (others : List ℕ) (t : Bool) → cond t l.known.spelling others ≡ or_else (cond t (Some l.known.spelling) None) others
-spelled_first label l others true = refl
-spelled_first label l others false = refl
+missing_first : (l : NamedLabel) (others : Option (List ℕ)) (t : Bool) → cond t others (Some l.known.spelling) ≡ or_else (cond t None (Some l.known.spelling)) others
+missing_first l others true = refl
+missing_first l others false = refl
 
-spelled_next : (label : Label) (labels : List NamedLabel) (place : ℕ) → place < length labels
-    → spelled_as label (drop place labels) ≡ or_else (spelled_at label (known_at place labels)) (spelled_as label (drop (suc place) labels))
-spelled_next label [] place lt = absurd (omega arith)
-spelled_next label (l ∷ labels) zero lt = spelled_first label l (spelled_as label labels) (l.known.label.number == label.number)
-spelled_next label (l ∷ labels) (suc place) lt = spelled_next label labels place (omega arith)
+missing_next : (labels : List NamedLabel) (place : ℕ) → place < length labels
+    → missing (drop place labels) ≡ or_else (missing_at (known_at place labels)) (missing (drop (suc place) labels))
+missing_next [] place lt = absurd (omega arith)
+missing_next (l ∷ labels) zero lt = missing_first l (missing labels) l.known.is_given
+missing_next (l ∷ labels) (suc place) lt = missing_next labels place (omega arith)
 
-pub spelled_step : (label : Label) (labels : List NamedLabel) (place : ℕ) → place < length labels
-    → spelled_as label (drop place labels) ≡ or_else (spelled_at label (known_at place labels)) (spelled_as label (drop (place + 1) labels))
-spelled_step label labels place lt =
+pub missing_step : (labels : List NamedLabel) (place : ℕ) → place < length labels
+    → missing (drop place labels) ≡ or_else (missing_at (known_at place labels)) (missing (drop (place + 1) labels))
+missing_step labels place lt =
     let next : place + 1 ≡ suc place = omega arith in
-    spelled_next label labels place lt ∙ ap (λ n. or_else (spelled_at label (known_at place labels)) (spelled_as label (drop n labels))) (sym next)
+    missing_next labels place lt ∙ ap (λ n. or_else (missing_at (known_at place labels)) (missing (drop n labels))) (sym next)

@@ -55,10 +55,10 @@ was_given (Some k) = k.is_given
 abbrev pub is_given : List ℕ → List NamedLabel → Bool
 is_given name labels = was_given (known_of (folded name) labels)
 
--- how the name of a label is spelled where it stands first
-abbrev pub spelled_as : Label → List NamedLabel → List ℕ
-spelled_as label [] = []
-spelled_as label (l ∷ labels) = if l.known.label.number == label.number then l.known.spelling else spelled_as label labels
+-- the first label that is used and whose place is not given, as it is spelled where it stands first
+abbrev pub missing : List NamedLabel → Option (List ℕ)
+missing [] = None
+missing (l ∷ labels) = if l.known.is_given then missing labels else Some l.known.spelling
 
 -- what is known of the label at a place among them
 abbrev pub known_at : ℕ → List NamedLabel → Option Known
@@ -66,7 +66,7 @@ known_at n [] = None
 known_at zero (l ∷ labels) = Some l.known
 known_at (suc n) (l ∷ labels) = known_at n labels
 
--- its name, where it is this label
-abbrev pub spelled_at : Label → Option Known → Option (List ℕ)
-spelled_at label None = None
-spelled_at label (Some k) = if k.label.number == label.number then Some k.spelling else None
+-- its name, where its place is not given
+abbrev pub missing_at : Option Known → Option (List ℕ)
+missing_at None = None
+missing_at (Some k) = if k.is_given then None else Some k.spelling

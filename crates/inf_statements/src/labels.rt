@@ -61,7 +61,7 @@ fn spelled(name: &[u8]) -> ArrayVec<u8, MOST_NAME_BYTES>
 }
 
 impl Labels {
-    ghost use Rattle.inf_statements.specs.Labels.{given, is_given, known_at, known_of, label_of, put, spelled_as, spelled_at, wanted};
+    ghost use Rattle.inf_statements.specs.Labels.{given, is_given, known_at, known_of, label_of, missing, missing_at, put, wanted};
     ghost use Rattle.inf_statements.specs.Entries.{known};
 
     /// None. It takes no memory until the first one comes.
@@ -164,27 +164,27 @@ impl Labels {
         self.entries.len()
     }
 
-    /// The name at a place among them, as it is spelled where it stands first, if it is that of a label.
-    fn spelled_at(&self, place: usize, label: Label) -> Option<&[u8]>
-        ensures { option_map (λ name. name.now) result ≡ spelled_at label (known_at place self.now) }
+    /// The name at a place among them, as it is spelled where it stands first, if its place is not given.
+    fn missing_at(&self, place: usize) -> Option<&[u8]>
+        ensures { option_map (λ name. name.now) result ≡ missing_at (known_at place self.now) }
     {
         let entry = self.entry_at(place)?;
-        if entry.label.number == label.number {
-            Some(entry.spelling.as_slice())
-        } else {
+        if entry.is_given {
             None
+        } else {
+            Some(entry.spelling.as_slice())
         }
     }
 
-    /// The name of a label, as it is spelled where it stands first; none, where it has no name.
-    pub fn spelled(&self, label: Label) -> &[u8]
-        ensures { result.now ≡ spelled_as label self.now }
+    /// The first label that is used and whose place is not given, as it is spelled where it stands first.
+    pub fn missing(&self) -> Option<&[u8]>
+        ensures { option_map (λ name. name.now) result ≡ missing self.now }
     {
         for place in 0..self.len() {
-            if let Some(name) = self.spelled_at(place, label) {
-                return name;
+            if let Some(name) = self.missing_at(place) {
+                return Some(name);
             }
         }
-        b""
+        None
     }
 }

@@ -52,7 +52,7 @@ use Rattle.inf_output.specs.Output.{Code, Out, begun, closed, declared, full, op
 use Rattle.inf_work.specs.Findings.{blame_of, header_fault, name_fault}
 use Rattle.inf_work.specs.Words.{nowhere}
 use Rattle.inf_statements.specs.declared.constructs.Construct.{Construct}
-use Rattle.inf_statements.specs.Labels.{NamedLabel, spelled_as}
+use Rattle.inf_statements.specs.Labels.{NamedLabel, missing}
 use Rattle.inf_statements.specs.Operands.{Settled, all_looked, leaf_added, leaves_named, settled, stores_named, word_operand}
 use Rattle.inf_statements.specs.Statements.{tree_in}
 
@@ -240,13 +240,19 @@ abbrev pub with_all_unused : FileNames → Place → List Local → Reported →
 with_all_unused files place [] r = r
 with_all_unused files place (l ∷ locals) r = with_all_unused files place locals (with_unused files place l r)
 
--- what is wrong with the labels or offsets of a routine: a label that is used and not given, or a branch that goes too far
+-- What is wrong with the labels or offsets of a routine: a label that is used and not given, or a branch that goes too far. A label without a name is missing
+-- only where a limit was passed before its place was laid, which is told by itself.
+abbrev pub with_branch_fault : FileNames → Place → Option CloseFault → Reported → Reported
+with_branch_fault files place (Some (close_fault.LabelTwice label)) r = with_error (location files place) (location files place) BranchTooFar r
+with_branch_fault files place (Some close_fault.TooFar) r = with_error (location files place) (location files place) BranchTooFar r
+with_branch_fault files place _ r = r
+
+abbrev pub with_fault_or : Option (List ℕ) → FileNames → Place → Option CloseFault → Reported → Reported
+with_fault_or (Some name) files place fault r = with_error (location files place) (location files place) (LabelMissing name) r
+with_fault_or None files place fault r = with_branch_fault files place fault r
+
 abbrev pub with_routine_fault : FileNames → Place → List NamedLabel → Option CloseFault → Reported → Reported
-with_routine_fault files place labels (Some (close_fault.LabelMissing label)) r =
-    with_error (location files place) (location files place) (LabelMissing (spelled_as label labels)) r
-with_routine_fault files place labels (Some (close_fault.LabelTwice label)) r = with_error (location files place) (location files place) BranchTooFar r
-with_routine_fault files place labels (Some close_fault.TooFar) r = with_error (location files place) (location files place) BranchTooFar r
-with_routine_fault files place labels _ r = r
+with_routine_fault files place labels fault r = with_fault_or (missing labels) files place fault r
 
 -- The end of a routine, at a place: what is wrong with it is told, and its unused locals. Of one that is passed over nothing is.
 abbrev pub close_open : FileNames → Place → Work → Work

@@ -154,7 +154,8 @@ fn is_told(blame: &Option<Blame<'_>>) -> bool
     }
 }
 
-/// Tells, at a place, what is wrong with the labels or offsets of a routine, if anything is.
+/// Tells, at a place, what is wrong with the labels or offsets of a routine, if anything is. A label without a name is missing only where a limit
+/// was passed before its place was laid.
 fn tell_fault(
     fault: Option<CloseFault>,
     labels: &Labels,
@@ -165,14 +166,16 @@ fn tell_fault(
     ensures { OnOk result (report.new ≡ with_routine_fault files.now.names place labels.now fault report.old) }
 {
     let at = location(files, place);
+    if let Some(name) = labels.missing() {
+        return report.error(at, at, &Message::LabelMissing(name));
+    }
     match fault {
-        Some(CloseFault::LabelMissing(label)) => {
-            report.error(at, at, &Message::LabelMissing(labels.spelled(label)))
-        }
         Some(CloseFault::LabelTwice(_) | CloseFault::TooFar) => {
             report.error(at, at, &Message::BranchTooFar)
         }
-        Some(CloseFault::Full(_) | CloseFault::Memory) | None => Ok(()),
+        Some(CloseFault::LabelMissing(_) | CloseFault::Full(_) | CloseFault::Memory) | None => {
+            Ok(())
+        }
     }
 }
 
