@@ -25,8 +25,25 @@ pub fn story(
     ensures fault { let long = too_long fields main code.finished strings tables in
         MatchResult result (λ _. long ≡ None) (λ fault. (fault ≡ Memory) ⊎ (long ≡ Some fault)) }
 {
+    linked(alloc, fields, main, names, code, strings, &tables)
+}
+
+/// The same, of tables that are kept.
+fn linked(
+    alloc: Global,
+    fields: HeaderFields,
+    main: usize,
+    names: Vec<Value>,
+    code: Code,
+    strings: PagedArea,
+    tables: &Tables,
+) -> Result<Story, LinkFault>
+    ensures bytes { IfOk result (λ s. s.bytes ≡ story fields main names.items code.finished strings tables.now) }
+    ensures fault { let long = too_long fields main code.finished strings tables.now in
+        MatchResult result (λ _. long ≡ None) (λ fault. (fault ≡ Memory) ⊎ (long ≡ Some fault)) }
+{
     let mut refs = Refs::new(alloc, usize::MAX);
-    let areas = areas(alloc, main, code, strings, &tables, &mut refs)?;
-    let targets = targets(alloc, names, &tables)?;
+    let areas = areas(alloc, main, code, strings, tables, &mut refs)?;
+    let targets = targets(alloc, names, tables)?;
     Link::new(alloc, areas, refs, targets, fields).link()
 }

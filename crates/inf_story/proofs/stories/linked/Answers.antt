@@ -8,18 +8,18 @@ use Rattle.inf_link.specs.MemoryMaps.{too_long as too_long_by}
 use Rattle.inf_link.specs.Stories.{story as linked}
 use Rattle.inf_link.specs.Targets.{lookup}
 use Rattle.inf_story.proofs.Linked.{is_story, is_too_long, told}
-use Rattle.inf_story.proofs.stories.story.Goals as goal
+use Rattle.inf_story.proofs.stories.linked.Goals as goal
 
 pub returns-clause-bytes : goal.returns-clause-bytes
 returns-clause-bytes c =
     let finished = c.args.code.finished in
     let same = ap (λ l. linked (contents (λ area. area) l.areas) l.refs.list (lookup l.targets) l.fields) c.new.ensures
-    ∙ is_story c.args.fields c.args.main c.args.names.items finished c.args.strings c.args.tables _ _ _ c.in_ok-areas.ensures.bytes c.in_ok-areas.ensures.fixups c.in_ok-targets.ensures in
+    ∙ is_story c.args.fields c.args.main c.args.names.items finished c.args.strings c.args.tables.now _ _ _ c.in_ok-areas.ensures.bytes c.in_ok-areas.ensures.fixups c.in_ok-targets.ensures in
     subst (λ bytes. IfOk c.link.result (λ s. s.bytes ≡ bytes)) same c.link.ensures.bytes
 
 pub returns-clause-fault : goal.returns-clause-fault
 returns-clause-fault c =
     let same = ap (λ l. too_long_by (lengths (contents (λ area. area) l.areas)) l.fields.scale) c.new.ensures
-    ∙ is_too_long c.args.fields c.args.main c.args.code.finished c.args.strings c.args.tables _ c.in_ok-areas.ensures.bytes in
+    ∙ is_too_long c.args.fields c.args.main c.args.code.finished c.args.strings c.args.tables.now _ c.in_ok-areas.ensures.bytes in
     let Tells : Option LinkFault → Type 0 = λ long. MatchResult c.link.result (λ _. long ≡ None) (λ fault. (fault ≡ Memory) ⊎ (long ≡ Some fault)) in
     subst Tells same (told c.link.result _ c.link.ensures.fault)
