@@ -1,14 +1,15 @@
 -- The areas of a source that told nothing of tables, by evaluation.
 use Rattle.std.proofs.Common.{refl}
-use Rattle.inf_objects.specs.Attributes.{no_attributes}
+use Rattle.inf_objects.specs.Attributes.{attribute_cells, flag_byte, no_attributes}
+use Rattle.inf_objects.specs.Tables.{all_falling}
 use Rattle.inf_story.specs.Plain.{LookupIsPlain, TablesArePlain, class_numbers, dictionary, globals, objects, property_defaults, property_tables, table_places}
 use Rattle.inf_text.specs.Packing.{packed, longest, character_zs}
 use Rattle.inf_world.specs.Areas.{first_names}
 
 pub tables_are_plain : TablesArePlain
-unfolding property_defaults objects property_tables class_numbers globals dictionary packed longest character_zs first_names no_attributes
+unfolding property_defaults objects property_tables class_numbers globals dictionary packed longest character_zs first_names no_attributes attribute_cells flag_byte all_falling
 tables_are_plain settings main finished strings = refl
 
 pub lookup_is_plain : LookupIsPlain
-unfolding table_places packed longest character_zs first_names
+unfolding table_places packed longest character_zs first_names all_falling
 lookup_is_plain settings names = refl

@@ -1,5 +1,5 @@
 -- One value more, or none.
-use Rattle.std.proofs.Common.{◌≡◌, ◌<◌, ◌+◌, ◌∷◌, [], ◌++◌, ℕ, List, Option, Some, None, drop, sym, ap, ◌∙◌, length, arith}
+use Rattle.std.proofs.Common.{◌≡◌, ◌<◌, ◌+◌, List, Some, None, drop, sym, ap, ◌∙◌, length, arith}
 use Rattle.inf_area.specs.declared.targets.Value.{Value}
 use Rattle.inf_names.specs.Symbols.{meaning_in, standing_at}
 use Rattle.inf_story.specs.Names.{value_by, values_of, with_value}

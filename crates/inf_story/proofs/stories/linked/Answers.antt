@@ -1,6 +1,6 @@
 -- The story of the areas and targets that were made.
 use Rattle.std.specs.Prelude.{IfOk, MatchResult}
-use Rattle.std.proofs.Common.{◌≡◌, ◌⊎◌, ◌∙◌, ℕ, List, Option, Some, None, ap, subst}
+use Rattle.std.proofs.Common.{◌≡◌, ◌⊎◌, ◌∙◌, Option, Some, None, ap, subst}
 use Rattle.inf_link.specs.declared.link.LinkFault.{LinkFault}
 use Rattle.inf_link.specs.declared.link.LinkFault.TheVariants.{Memory}
 use Rattle.inf_link.specs.Areas.{contents, lengths}
