@@ -49,6 +49,17 @@ fn write(alloc: Global, words: &Dictionary, command: &str) -> Result<String, All
     written.told(alloc, flat, paged)
 }
 
+/// How many words stand before each of some texts.
+fn ranks(alloc: Global, words: &Dictionary, command: &str) -> Result<String, AllocError> {
+    let places = words.places(alloc)?;
+    let mut told = String::new(alloc);
+    for text in texts_of(alloc, command)?.as_slice() {
+        let gap = if told.is_empty() { "" } else { " " };
+        told.push_str(format!(in alloc; "{gap}{}", places.rank(*text))?.as_str())?;
+    }
+    Ok(told)
+}
+
 /// What comes of a command.
 fn obey(alloc: Global, words: &mut Dictionary, command: &str) -> Result<String, AllocError> {
     let text = text_of(word(command, 1));
@@ -59,7 +70,7 @@ fn obey(alloc: Global, words: &mut Dictionary, command: &str) -> Result<String, 
             let misfit = words.first_misfit(alloc, texts_of(alloc, command)?.as_slice())?;
             format!(in alloc; "{misfit:?}")
         }
-        "rank" => format!(in alloc; "{}", words.places(alloc)?.rank(text)),
+        "rank" => ranks(alloc, words, command),
         "len" => format!(in alloc; "{}", words.len()),
         _ => write(alloc, words, command),
     }

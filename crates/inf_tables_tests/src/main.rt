@@ -7,7 +7,7 @@
 //! those of an area in one piece and of one in pages are the same.
 //!
 //! - `dictionary WORDS`: `use TEXT KIND`, with `verbN`, `metaN`, `prep` or `other`, and `plural` behind it; `verb TEXT`, `misfit TEXTS`,
-//!   `rank TEXT`, `len`;
+//!   `rank TEXTS`, `len`;
 //! - `arrays BYTES`: `open KIND`, `entry VALUE`, `zeros N`, `text DIGITS`, `size`, `later`;
 //! - `globals`: `add VALUE`, `len`, `later`;
 //! - `verbs VERBS BYTES`: `add`, `extend N PLACE`, `line N PLACE ACTION TOKENS`, `len`, `size`, `later`, `places`. A token is a noun's name,
