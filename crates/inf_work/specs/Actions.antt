@@ -115,9 +115,9 @@ no_work set settings = record {
 
 -- Units
 
--- a piece begins
+-- A piece begins. No locals of a routine before it are known in it.
 abbrev pub piece_begun : Work → Work
-piece_begun w = record w { unit = no_unit; constructs = [] }
+piece_begun w = record w { unit = no_unit; constructs = []; locals = [] }
 
 -- The end of a unit, which begins at a place: its error is told, if it has one, and then the first limit that was passed.
 abbrev pub unit_ended : FileNames → Place → Bool → Option Blame → Work → Work

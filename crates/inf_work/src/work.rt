@@ -141,12 +141,13 @@ impl Work {
         }
     }
 
-    /// A piece begins.
+    /// A piece begins. No locals of a routine before it are known in it.
     pub fn begin_piece(&mut self)
         ensures { work self.new ≡ piece_begun (work self.old) }
     {
         self.unit.clear();
         self.constructs.clear();
+        self.locals = Locals::new();
     }
 
     /// A unit that begins at a place is finished, with which code begins, unless it has begun. Where that would pass a setting, it
