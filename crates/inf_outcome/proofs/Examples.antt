@@ -1,5 +1,5 @@
 -- The definitions at worked examples.
-use Rattle.std.proofs.Common.{◌≡◌, ℕ, ◌/◌, List, [], ◌∷◌, length, map, refl, ◌∙◌, subst}
+use Rattle.std.proofs.Common.{◌≡◌, ℕ, ◌/◌, List, [], ◌∷◌, length, map, refl, ap, ◌∙◌, subst}
 use Rattle.inf_area.specs.declared.targets.AreaName.TheVariants as area
 use Rattle.inf_area.specs.declared.targets.Target.TheVariants as target
 use Rattle.inf_area.specs.declared.targets.Value.{Value}
@@ -18,8 +18,16 @@ use Rattle.inf_link.specs.Header.{number_bytes}
 use Rattle.inf_link.specs.MemoryMaps.{map_of}
 use Rattle.inf_link.specs.StoryLaws.{HasAt}
 use Rattle.inf_story.specs.Stories.{story, too_long}
+use Rattle.inf_story.specs.Plain as plain
 use Rattle.inf_story.specs.Tables as tables
+use Rattle.inf_story.proofs.Plain.{tables_are_plain}
 use Rattle.inf_story.proofs.Told.{story_tells}
+use Rattle.inf_link.specs.declared.areas.Areas.{Areas}
+use Rattle.inf_objects.specs.Attributes.{attribute_cells, flag_byte, no_attributes}
+use Rattle.inf_objects.specs.Tables.{all_falling}
+use Rattle.inf_settings.specs.Settings.{defaults}
+use Rattle.inf_tables.specs.Tables.{more, no_tables}
+use Rattle.inf_world.specs.Areas.{first_names}
 use Rattle.inf_outcome.specs.Examples.{ConditionalsChoose, ConditionsChoose, EmptySource, FilesAreIncluded, HelloIsAStory, NamesAreUndeclared, NoSource, SixteenAreOpen, TextIsMissing}
 use Rattle.inf_grammar.specs.Language as language
 use Rattle.inf_names.specs.SystemNames as system
@@ -32,35 +40,35 @@ use Rattle.inf_unit.specs.Units as units
 use Rattle.inf_work.specs.Parts as work_parts
 
 pub no_source : NoSource
-unfolding digits
+unfolding digits more
 no_source serial = refl
 
 pub empty_source : EmptySource
-unfolding digits system.system_names
+unfolding digits more system.system_names
 empty_source serial = record { final = _; is_read = record { turns = 10; leads = refl; ends = refl }; is_ending = refl }
 
 pub text_is_missing : TextIsMissing
-unfolding digits units.order units.next_place output.laid output.instruction output.behind meaning.call_of parts.calling statements.statement_in effects.statement_laid effects.statement_finding work_parts.part_effect language.grammar language.known system.system_names
+unfolding digits more units.order units.next_place output.laid output.instruction output.behind meaning.call_of parts.calling statements.statement_in effects.statement_laid effects.statement_finding work_parts.part_effect language.grammar language.known system.system_names
 text_is_missing serial = record { final = _; is_read = record { turns = 20; leads = refl; ends = refl }; is_ending = refl }
 
 pub names_are_undeclared : NamesAreUndeclared
-unfolding digits units.order units.next_place output.laid output.instruction output.behind meaning.call_of parts.calling statements.statement_in effects.statement_laid effects.statement_finding work_parts.part_effect language.grammar language.known system.system_names
+unfolding digits more units.order units.next_place output.laid output.instruction output.behind meaning.call_of parts.calling statements.statement_in effects.statement_laid effects.statement_finding work_parts.part_effect language.grammar language.known system.system_names
 names_are_undeclared serial = record { final = _; is_read = record { turns = 40; leads = refl; ends = refl }; is_ending = refl }
 
 pub files_are_included : FilesAreIncluded
-unfolding digits text_of piece_at escape_piece spelled spellings zscii_of zscii_of_unicode accented units.order units.next_place output.laid output.instruction output.behind meaning.call_of parts.calling statements.statement_in effects.statement_laid effects.statement_finding work_parts.part_effect language.grammar language.known system.system_names
+unfolding digits more text_of piece_at escape_piece spelled spellings zscii_of zscii_of_unicode accented units.order units.next_place output.laid output.instruction output.behind meaning.call_of parts.calling statements.statement_in effects.statement_laid effects.statement_finding work_parts.part_effect language.grammar language.known system.system_names
 files_are_included serial = record { final = _; is_read = record { turns = 40; leads = refl; ends = refl }; is_ending = refl }
 
 pub conditionals_choose : ConditionalsChoose
-unfolding digits text_of piece_at escape_piece spelled spellings zscii_of zscii_of_unicode accented units.order units.next_place output.laid output.instruction output.behind meaning.call_of parts.calling statements.statement_in effects.statement_laid effects.statement_finding work_parts.part_effect language.grammar language.known system.system_names
+unfolding digits more text_of piece_at escape_piece spelled spellings zscii_of zscii_of_unicode accented units.order units.next_place output.laid output.instruction output.behind meaning.call_of parts.calling statements.statement_in effects.statement_laid effects.statement_finding work_parts.part_effect language.grammar language.known system.system_names
 conditionals_choose serial = record { final = _; is_read = record { turns = 80; leads = refl; ends = refl }; is_ending = refl }
 
 pub conditions_choose : ConditionsChoose
-unfolding digits text_of piece_at escape_piece spelled spellings zscii_of zscii_of_unicode accented units.order units.next_place output.laid output.instruction output.behind meaning.call_of parts.calling statements.statement_in effects.statement_laid effects.statement_finding work_parts.part_effect language.grammar language.known system.system_names
+unfolding digits more text_of piece_at escape_piece spelled spellings zscii_of zscii_of_unicode accented units.order units.next_place output.laid output.instruction output.behind meaning.call_of parts.calling statements.statement_in effects.statement_laid effects.statement_finding work_parts.part_effect language.grammar language.known system.system_names
 conditions_choose serial = record { final = _; is_read = record { turns = 80; leads = refl; ends = refl }; is_ending = refl }
 
 pub sixteen_are_open : SixteenAreOpen
-unfolding digits text_of piece_at escape_piece spelled spellings zscii_of zscii_of_unicode accented units.order units.next_place output.laid output.instruction output.behind meaning.call_of parts.calling statements.statement_in effects.statement_laid effects.statement_finding work_parts.part_effect language.grammar language.known system.system_names
+unfolding digits more text_of piece_at escape_piece spelled spellings zscii_of zscii_of_unicode accented units.order units.next_place output.laid output.instruction output.behind meaning.call_of parts.calling statements.statement_in effects.statement_laid effects.statement_finding work_parts.part_effect language.grammar language.known system.system_names
 sixteen_are_open serial = record { final = _; is_read = record { turns = 120; leads = refl; ends = refl }; is_ending = refl }
 
 -- the code of the routine: no locals, `print`, `rtrue`, and a zero
@@ -71,16 +79,19 @@ abbrev fields : List ℕ → HeaderFields
 fields serial = record { release = 1; serial = serial; scale = scale.Four }
 
 abbrev hello : List ℕ → List ℕ
-hello serial = story (fields serial) 8 (value.Later (target.Place area.Code 8) ∷ []) hello_code []
+hello serial = story (fields serial) 8 (value.Later (target.Place area.Code 8) ∷ []) hello_code [] (no_tables defaults)
 
-hello_size : (map_of (cells_sizes (tables.areas 8 hello_code [])) scale.Four).end ≡ 976
-unfolding packed longest character_zs tables.low_strings tables.abbreviations tables.property_defaults tables.objects tables.property_tables tables.class_numbers tables.globals tables.dictionary
-hello_size = refl
+plain_size : (map_of (cells_sizes (plain.plain_areas 8 hello_code [])) scale.Four).end ≡ 976
+unfolding packed longest character_zs tables.low_strings tables.abbreviations plain.property_defaults plain.objects plain.property_tables plain.class_numbers plain.globals plain.dictionary
+plain_size = refl
+
+hello_size : (map_of (cells_sizes (tables.areas 8 hello_code [] (no_tables defaults))) scale.Four).end ≡ 976
+hello_size = ap (λ (cells : Areas (List Cell)). (map_of (cells_sizes cells) scale.Four).end) (tables_are_plain defaults 8 hello_code []) ∙ plain_size
 
 pub hello_is_a_story : HelloIsAStory
-unfolding digits text_of piece_at escape_piece spelled spellings zscii_of zscii_of_unicode accented packed longest character_zs punctuation units.order units.next_place output.laid output.instruction output.behind meaning.call_of parts.calling statements.statement_in effects.statement_laid effects.statement_finding work_parts.part_effect language.grammar language.known system.system_names too_long tables.low_strings tables.abbreviations tables.property_defaults tables.objects tables.property_tables tables.class_numbers tables.globals tables.dictionary
+unfolding digits more text_of piece_at escape_piece spelled spellings zscii_of zscii_of_unicode accented packed longest character_zs punctuation units.order units.next_place output.laid output.instruction output.behind meaning.call_of parts.calling statements.statement_in effects.statement_laid effects.statement_finding work_parts.part_effect language.grammar language.known system.system_names too_long tables.low_strings tables.abbreviations first_names no_attributes attribute_cells flag_byte all_falling
 hello_is_a_story serial six =
-    let says = story_tells (fields serial) 8 (value.Later (target.Place area.Code 8) ∷ []) hello_code [] six in
+    let says = story_tells (fields serial) 8 (value.Later (target.Place area.Code 8) ∷ []) hello_code [] (no_tables defaults) six in
     let size : length (hello serial) ≡ 976 = says.as_mapped ∙ hello_size in
     record {
       story = hello serial;

@@ -1,5 +1,5 @@
 -- The areas of a story. Z-Machine Standard 1.1, section 1.1 and the sections named below.
-use Rattle.std.specs.Prelude.{ℕ, ◌%◌, List, [], ◌∷◌, map, replicate, codes}
+use Rattle.std.specs.Prelude.{ℕ, ◌%◌, List, [], map, replicate, codes}
 use Rattle.inf_area.specs.declared.targets.AreaName.TheVariants as area
 use Rattle.inf_area.specs.declared.targets.Target.TheVariants as target
 use Rattle.inf_area.specs.declared.targets.Value.{Value}

@@ -1,7 +1,8 @@
 //! What the definitions give together.
 ghost use Rattle.inf_story.specs.Plain.{LookupIsPlain, TablesArePlain};
 
-/// A source that told nothing of tables has the first four objects, with their names, and an empty dictionary; all else is zeros or nothing.
+/// A source that told nothing of tables has the first four objects, with their names, and an empty dictionary; all else is zeros or
+/// nothing.
 pub fn tables_are_plain()
     ensures areas { TablesArePlain }
     ensures looked_up { LookupIsPlain }

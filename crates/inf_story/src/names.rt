@@ -9,7 +9,8 @@ use inf_names::symbols::Symbols;
 use inf_scanner::Place;
 use std::alloc::{AllocError, Global};
 
-/// What a name is in a story, by what it stands for: a number, a place in an area, or a word of the dictionary. Nothing for what is no number by itself.
+/// What a name is in a story, by what it stands for: a number, a place in an area, or a word of the dictionary. Nothing for what is no
+/// number by itself.
 fn value_of(meaning: Meaning) -> Option<Value>
     ensures { result ≡ value_of meaning }
 {

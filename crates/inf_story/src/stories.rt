@@ -10,8 +10,10 @@ use inf_link::{HeaderFields, Link, LinkFault, Story};
 use inf_tables::Tables;
 use std::alloc::Global;
 
-/// The story of some code, strings and tables, in which the routine at a place of the code is called first, and names are these. Refuses first where code would begin at an address
-/// over 65,534, then where the story would be longer than one of its version may be, and else only where no memory is left.
+/// The story of some code, strings and tables, in which the routine at a place of the code is called first, and names are these.
+///
+/// Refuses first where code would begin at an address over 65,534, then where the story would be longer than one of its version may
+/// be, and else only where no memory is left.
 pub fn story(
     alloc: Global,
     fields: HeaderFields,
