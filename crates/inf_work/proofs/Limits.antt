@@ -44,9 +44,9 @@ use Rattle.inf_statements.specs.declared.constructs.Kind.{Kind}
 use Rattle.inf_statements.specs.declared.constructs.Kind.TheVariants as kind
 use Rattle.inf_statements.specs.declared.constructs.Over.TheVariants as over
 use Rattle.inf_statements.proofs.Keeping.{alone_keep, begun_keeps as begun_construct_keeps, case_keeps, cases_keep, ended_keeps, joined_keeps, leaf_added_keeps, leaves_same, looped_over_keeps, statement_keeps, stepped_keeps, switched_keeps, tested_keeps}
-use Rattle.inf_work.specs.Actions.{Work, begun_at, close, close_open, constant, constant_added, constant_finding, constant_meaning, constant_of, constant_with, cut, finding_at, header_end, header_of, header_with, is_deep, is_replaced, name_finding, named, nested, opened_with, opens, operands_of, passed, replace, routine_declared, settled_of, sized, stopped, stub, stub_by, stub_code, stub_locals, stubbed, token_checked, told, took, trees_at, unit_ended}
-use Rattle.inf_work.specs.Declarations.{alias_by, is_alias, alias_finding, alias_meaning, alias_told, alias_with, aliased, attribute, attribute_added, attribute_number, attribute_with, global_added, global_variable, global_with, new_attribute, new_attribute_by, new_global, new_property, new_property_by, nothing_of, name_known, property, property_added, property_named, property_number, property_order, property_with, value_of, valued, with_variable}
-use Rattle.inf_work.specs.Directives.{carried_out, default, default_by, directive_end, directive_of_names}
+use Rattle.inf_work.specs.Actions.{Work, begun_at, close, close_open, constant, constant_added, constant_finding, constant_meaning, constant_of, constant_with, cut, finding_at, header_end, header_of, header_with, is_declared, is_deep, is_replaced, name_finding, named, nested, opened_with, opens, operands_of, passed, replace, routine_declared, settled_of, sized, stopped, stub, stub_code, stub_locals, stubbed, token_checked, told, took, trees_at, unit_ended}
+use Rattle.inf_work.specs.Declarations.{alias_by, is_alias, alias_finding, alias_meaning, alias_told, alias_with, aliased, attribute, attribute_added, attribute_number, attribute_with, global_added, global_variable, global_with, last_meaning, new_attribute, new_attribute_by, new_global, new_property, new_property_by, nothing_of, name_known, property, property_added, property_named, property_number, property_order, property_with, value_of, valued, with_variable}
+use Rattle.inf_work.specs.Directives.{carried_out, default, directive_end, directive_of_names, is_first_declared}
 use Rattle.inf_work.specs.declared.declarations.Declared.{Declared}
 use Rattle.inf_work.specs.Acting.{act, acted}
 use Rattle.inf_work.specs.Findings.{header_fault, name_fault}
@@ -183,31 +183,22 @@ declared_stub_same files first name w =
     let d = routine_declared name w in
     same_then w d (stubbed files first d) (declared_keeps name.bytes name.place (meaning_of.Routine (place_behind w.output.code.finished)) w.output) (stubbed_same files first d)
 
-stub_by_same : (f : Found Place) (files : FileNames) (first : Place) (name : Name) (w : Work) → SameLimits w (stub_by f files first name w)
-stub_by_same (found.System m) files first name w = (refl, refl)
-stub_by_same (found.Declared m place) files first name w = (refl, refl)
-stub_by_same found.Used files first name w = declared_stub_same files first name w
-stub_by_same found.Unknown files first name w = declared_stub_same files first name w
-
 stub_same : (files : FileNames) (first : Place) (names : List Name) (w : Work) → SameLimits w (stub files first names w)
 stub_same files first [] w = (refl, refl)
-stub_same files first (name ∷ names) w = stub_by_same (found_in name.bytes w.output.names) files first name w
-
-default_by_same : (f : Found Place) (files : FileNames) (first : Place) (names : List Name) (w : Work) → SameLimits w (default_by f files first names w)
-default_by_same (found.System m) files first names w = (refl, refl)
-default_by_same (found.Declared m place) files first names w = (refl, refl)
-default_by_same found.Used files first names w = constant_same files first names w
-default_by_same found.Unknown files first names w = constant_same files first names w
+stub_same files first (name ∷ names) w =
+    of_both (SameLimits w) (is_declared (found_in name.bytes w.output.names)) (unit_ended files first true None w) (stubbed files first (routine_declared name w))
+    (λ _. (refl, refl)) (λ _. declared_stub_same files first name w)
 
 default_same : (files : FileNames) (first : Place) (names : List Name) (w : Work) → SameLimits w (default files first names w)
-default_same files first [] w = (refl, refl)
-default_same files first (name ∷ names) w = default_by_same (found_in name.bytes w.output.names) files first (name ∷ names) w
+default_same files first names w =
+    of_both (SameLimits w) (is_first_declared names w.output.names) (unit_ended files first true None w) (constant files first names w)
+    (λ _. (refl, refl)) (λ _. constant_same files first names w)
 
 -- Declarations
 
 alias_same : (files : FileNames) (first : Place) (name : Name) (at : ℕ) (kind : Countable) (w : Work) → SameLimits w (alias_told files first name at kind w)
 alias_same files first name at kind w =
-    let m = alias_meaning kind (found_in (bytes_at w.unit.tokens (length w.unit.tokens - 1)) w.output.names) in
+    let m = last_meaning kind w in
     let finding = least_of_both (name_known files name at false w).finding (alias_finding w.unit.tokens m) in
     declared_keeps name.bytes name.place (aliased kind m finding) w.output
 

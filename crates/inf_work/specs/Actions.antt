@@ -358,15 +358,17 @@ stubbed files first w =
     if nat_lt 4 locals then unit_ended files first true (Some (record { place = first; message = ConstantOutOfRange })) w
     else unit_ended files first true None (record w { output = stub_code locals w.output })
 
-abbrev pub stub_by : Found Place → FileNames → Place → Name → Work → Work
-stub_by (found.System m) files first name w = unit_ended files first true None w
-stub_by (found.Declared m place) files first name w = unit_ended files first true None w
-stub_by found.Used files first name w = stubbed files first (routine_declared name w)
-stub_by found.Unknown files first name w = stubbed files first (routine_declared name w)
+-- whether a name is declared, by what looking for it found
+abbrev pub is_declared : Found Place → Bool
+is_declared (found.System m) = true
+is_declared (found.Declared m place) = true
+is_declared found.Used = false
+is_declared found.Unknown = false
 
 abbrev pub stub : FileNames → Place → List Name → Work → Work
 stub files first [] w = passed true w
-stub files first (name ∷ names) w = stub_by (found_in name.bytes w.output.names) files first name w
+stub files first (name ∷ names) w =
+    if is_declared (found_in name.bytes w.output.names) then unit_ended files first true None w else stubbed files first (routine_declared name w)
 
 -- Files
 

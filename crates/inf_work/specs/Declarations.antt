@@ -1,5 +1,5 @@
 -- The directives that declare attributes, properties and global variables. Designer's Manual, fourth edition, sections 2 and 3.
-use Rattle.std.specs.Prelude.{ℕ, ◌+◌, ◌-◌, ◌%◌, ◌==◌, min, nat_le, List, [], ◌∷◌, ◌++◌, length, map, codes, Bool, true, false, if◌then◌else◌, Option, Some, None}
+use Rattle.std.specs.Prelude.{ℕ, ◌+◌, ◌-◌, ◌%◌, ◌==◌, min, nat_le, List, [], ◌∷◌, ◌++◌, length, map, codes, Bool, true, false, ◌||◌, if◌then◌else◌, Option, Some, None}
 use Rattle.std.specs.Str.{str_eq_ignore_ascii_case}
 use Rattle.inf_area.specs.declared.targets.Value.{Value}
 use Rattle.inf_area.specs.declared.targets.Value.TheVariants as value
@@ -47,9 +47,13 @@ abbrev pub is_name_at : List Spelled → List ℕ → Leaf → Bool
 is_name_at tokens name (leaf.Name at) = str_eq_ignore_ascii_case (bytes_at tokens at) name
 is_name_at tokens name _ = false
 
+-- whether one of these is, or one was found before
+abbrev pub names_from : List Spelled → List ℕ → List Leaf → Bool → Bool
+names_from tokens name [] found = found
+names_from tokens name (l ∷ leaves) found = names_from tokens name leaves (found || is_name_at tokens name l)
+
 abbrev pub names_itself : List Spelled → List ℕ → List Leaf → Bool
-names_itself tokens name [] = false
-names_itself tokens name (l ∷ leaves) = if is_name_at tokens name l then true else names_itself tokens name leaves
+names_itself tokens name leaves = names_from tokens name leaves false
 
 -- One of these may not be declared behind a use of its name, and its own expression may not use it.
 abbrev pub is_late : Found Place → Bool → Bool
@@ -151,9 +155,12 @@ alias_by m files first name at kind w =
     let own = name_known files name at false w in
     alias_with files first name kind m (record { found = own.found; finding = least_of_both own.finding (alias_finding w.unit.tokens m) }) w
 
+-- what the last name of the unit stands for, where that is one of this kind
+abbrev pub last_meaning : Countable → Work → Option Meaning
+last_meaning kind w = alias_meaning kind (found_in (bytes_at w.unit.tokens (length w.unit.tokens - 1)) w.output.names)
+
 abbrev pub alias_told : FileNames → Place → Name → ℕ → Countable → Work → Work
-alias_told files first name at kind w =
-    alias_by (alias_meaning kind (found_in (bytes_at w.unit.tokens (length w.unit.tokens - 1)) w.output.names)) files first name at kind w
+alias_told files first name at kind w = alias_by (last_meaning kind w) files first name at kind w
 
 -- Attributes
 

@@ -1,8 +1,6 @@
 -- What the directives do that are one unit.
-use Rattle.std.specs.Prelude.{List, [], ◌∷◌, true, None}
-use Rattle.inf_names.specs.Symbols.{found_in}
-use Rattle.inf_names.specs.declared.symbols.Found.{Found}
-use Rattle.inf_names.specs.declared.symbols.Found.TheVariants as found
+use Rattle.std.specs.Prelude.{List, [], ◌∷◌, Bool, true, false, None, if◌then◌else◌}
+use Rattle.inf_names.specs.Symbols.{Table, found_in}
 use Rattle.inf_scanner.specs.declared.tokens.Place.{Place}
 use Rattle.inf_symbol.specs.Spellings.{Name}
 use Rattle.inf_unit.specs.Directives.{Include, End, directive_of, weight_of}
@@ -10,19 +8,17 @@ use Rattle.inf_unit.specs.declared.directives.Directive.{Directive}
 use Rattle.inf_unit.specs.declared.directives.Directive.TheVariants as directive
 use Rattle.inf_unit.specs.Messages.{FileNames, location, with_words}
 use Rattle.inf_unit.specs.Units.{first_place, names_in, quoted_in}
-use Rattle.inf_work.specs.Actions.{Work, begun_at, constant, passed, replace, stub, unit_ended, words_of}
+use Rattle.inf_work.specs.Actions.{Work, begun_at, constant, is_declared, passed, replace, stub, unit_ended, words_of}
 use Rattle.inf_work.specs.Declarations.{attribute, global_variable, property}
 
--- a constant, unless its name is declared
-abbrev pub default_by : Found Place → FileNames → Place → List Name → Work → Work
-default_by (found.System m) files first names w = unit_ended files first true None w
-default_by (found.Declared m place) files first names w = unit_ended files first true None w
-default_by found.Used files first names w = constant files first names w
-default_by found.Unknown files first names w = constant files first names w
+-- whether the first of some names is declared
+abbrev pub is_first_declared : List Name → Table Place → Bool
+is_first_declared [] names = false
+is_first_declared (name ∷ others) names = is_declared (found_in name.bytes names)
 
+-- a constant, unless its name is declared
 abbrev pub default : FileNames → Place → List Name → Work → Work
-default files first [] w = passed true w
-default files first (name ∷ names) w = default_by (found_in name.bytes w.output.names) files first (name ∷ names) w
+default files first names w = if is_first_declared names w.output.names then unit_ended files first true None w else constant files first names w
 
 abbrev pub carried_out : Directive → FileNames → Place → List Name → Work → Work
 carried_out directive.Include files first names w = passed true (record w { asked = Include (quoted_in w.unit.tokens) first })

@@ -68,12 +68,11 @@ fn is_name_at(tokens: &UnitTokens, name: &[u8], leaf: Leaf) -> bool
 fn names_itself(tokens: &UnitTokens, name: &[u8], leaves: &[Leaf]) -> bool
     ensures { result ≡ names_itself tokens.now name.now leaves.now }
 {
+    let mut found = false;
     for leaf in leaves {
-        if is_name_at(tokens, name, *leaf) {
-            return true;
-        }
+        found = found | is_name_at(tokens, name, *leaf);
     }
-    false
+    found
 }
 
 /// Whether a name was used before its declaration, by what looking for it found, or is used by it.
@@ -253,7 +252,7 @@ fn property_order(tokens: &UnitTokens, is_additive: bool) -> u32
 
 impl Work {
     ghost use Rattle.inf_work.specs.Actions.{finding_at, operands_of, settled_of, trees_at};
-    ghost use Rattle.inf_work.specs.Declarations.{alias_told, alias_with, attribute, attribute_added, attribute_number, attribute_with, declaration_ended, global_added, global_variable, global_with, new_attribute, new_global, new_property, name_known, property, property_added, property_named, property_number, property_with, valued};
+    ghost use Rattle.inf_work.specs.Declarations.{alias_told, alias_with, attribute, attribute_added, attribute_number, attribute_with, declaration_ended, global_added, global_variable, global_with, last_meaning, new_attribute, new_global, new_property, name_known, property, property_added, property_named, property_number, property_with, valued};
     ghost use Rattle.inf_work.specs.Works.{work};
 
     /// The end of a declaration that begins at a place: what is wrong with it is told.
@@ -527,6 +526,15 @@ impl Work {
         }
     }
 
+    /// What the last name of the unit stands for, where that is one of this kind.
+    fn last_meaning(&self, kind: Countable) -> Option<Meaning>
+        ensures { result ≡ last_meaning kind (work self.now) }
+    {
+        let tokens = &self.unit.tokens;
+        let other = tokens.bytes_at(tokens.len().saturating_sub(1));
+        alias_meaning(kind, self.output.names.look(other))
+    }
+
     /// Declares a name as another one for what the last name of the unit stands for.
     fn alias(
         &mut self,
@@ -538,11 +546,9 @@ impl Work {
     ) -> Result<(), AllocError>
         ensures { OnOk result (work self.new ≡ alias_told files.now.names first (as_name name.now) order kind (work self.old)) }
     {
-        let tokens = &self.unit.tokens;
-        let other = tokens.bytes_at(tokens.len().saturating_sub(1));
-        let meaning = alias_meaning(kind, self.output.names.look(other));
+        let meaning = self.last_meaning(kind);
         let own = self.name_known(files, name, order, false);
-        let finding = least_of_both(own.finding, alias_finding(tokens, meaning));
+        let finding = least_of_both(own.finding, alias_finding(&self.unit.tokens, meaning));
         let stands = aliased(kind, meaning, finding);
         self.output.declare(name.bytes(), name.place, stands)?;
         let declared = Declared {

@@ -7,7 +7,7 @@ ghost use Rattle.inf_symbol.specs.Spellings.{as_name};
 ghost use Rattle.inf_unit.specs.Blames.{blamed};
 ghost use Rattle.inf_unit.specs.Messages.{location, with_words};
 ghost use Rattle.inf_unit.specs.Units.{quoted_in};
-ghost use Rattle.inf_work.specs.Actions.{constant_blame, constant_finding, constant_meaning, declared_meaning, leaf_meaning, name_finding, named_leaf, stub_locals, used_name};
+ghost use Rattle.inf_work.specs.Actions.{constant_blame, constant_finding, constant_meaning, declared_meaning, is_declared, leaf_meaning, name_finding, named_leaf, stub_locals, used_name};
 ghost use Rattle.inf_statements.specs.Operands.{leaf_added};
 
 use crate::findings::{blame_of, name_fault};
@@ -34,8 +34,8 @@ const MOST_STUB_LOCALS: u16 = 4;
 
 impl Work {
     ghost use Rattle.inf_unit.specs.Directives.{Include, asked, weight_of};
-    ghost use Rattle.inf_work.specs.Actions.{constant, constant_of, constant_with, replace, stub, stubbed, words_of};
-    ghost use Rattle.inf_work.specs.Directives.{carried_out, default, directive_end};
+    ghost use Rattle.inf_work.specs.Actions.{constant, constant_of, constant_with, replace, routine_declared, stub, stubbed, words_of};
+    ghost use Rattle.inf_work.specs.Directives.{carried_out, default, directive_end, is_first_declared};
     ghost use Rattle.inf_work.specs.Works.{work};
 
     /// A directive ends, before a token at a place.
@@ -105,13 +105,20 @@ impl Work {
             self.pass(true);
             return Ok(());
         };
-        match self.output.names.look(name.bytes()) {
-            Found::System(_) | Found::Declared(..) => self.end_unit(files, first, true),
-            Found::Used | Found::Unknown => {
-                self.declare_routine(name)?;
-                self.stub_routine(files, first)
-            }
+        if is_declared(self.output.names.look(name.bytes())) {
+            self.end_unit(files, first, true)
+        } else {
+            self.new_stub(files, first, name)
         }
+    }
+
+    /// Declares a name as that of the routine of a `Stub`.
+    fn new_stub(&mut self, files: &Stack, first: Place, name: &Name) -> Result<(), AllocError>
+        ensures { OnOk result (work self.new
+            ≡ stubbed files.now.names first (routine_declared (as_name name.now) (work self.old))) }
+    {
+        self.declare_routine(name)?;
+        self.stub_routine(files, first)
     }
 
     /// The routine of a `Stub`, whose name is declared.
@@ -137,13 +144,20 @@ impl Work {
         ensures { OnOk result (work self.new
             ≡ default files.now.names first (map as_name names.now) (work self.old)) }
     {
-        let Some(name) = names.first() else {
-            self.pass(true);
-            return Ok(());
-        };
-        match self.output.names.look(name.bytes()) {
-            Found::System(_) | Found::Declared(..) => self.end_unit(files, first, true),
-            Found::Used | Found::Unknown => self.constant(files, first, names),
+        if self.is_first_declared(names) {
+            self.end_unit(files, first, true)
+        } else {
+            self.constant(files, first, names)
+        }
+    }
+
+    /// Whether the first of these names is declared.
+    fn is_first_declared(&self, names: &[Name]) -> bool
+        ensures { result ≡ is_first_declared (map as_name names.now) (work self.now).output.names }
+    {
+        match names.first() {
+            Some(name) => is_declared(self.output.names.look(name.bytes())),
+            None => false,
         }
     }
 
@@ -269,6 +283,16 @@ impl Work {
             leaves,
             &mut self.output,
         )
+    }
+}
+
+/// Whether a name is declared, by what looking for it found.
+fn is_declared(found: Found<Place>) -> bool
+    ensures { result ≡ is_declared found }
+{
+    match found {
+        Found::System(_) | Found::Declared(..) => true,
+        Found::Used | Found::Unknown => false,
     }
 }
 
