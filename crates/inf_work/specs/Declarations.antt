@@ -227,10 +227,17 @@ property_added None name is_additive w =
 abbrev pub property_order : List Spelled → Bool → ℕ
 property_order tokens is_additive = if is_additive then min (name_order tokens + 1) 4294967295 else name_order tokens
 
+abbrev pub property_ended : FileNames → Place → Bool → Name → Declared → Work → Work
+property_ended files first is_additive name d w =
+    declaration_ended files first name countable.Properties d (record w { output = property_added d.finding name is_additive w })
+
+abbrev pub has_most_properties : Out → Bool
+has_most_properties o = nat_le 60 (length o.tables.world.declared)
+
 abbrev pub property_with : FileNames → Place → Bool → Name → Work → Work
 property_with files first is_additive name w =
-    let d = valued files name (property_order w.unit.tokens is_additive) (nat_le 60 (length w.output.tables.world.declared)) w in
-    declaration_ended files first name countable.Properties d (record w { output = property_added d.finding name is_additive w })
+    let order = property_order w.unit.tokens is_additive in
+    property_ended files first is_additive name (valued files name order (has_most_properties w.output) w) w
 
 abbrev pub property_named : FileNames → Place → Bool → List Name → Work → Work
 property_named files first is_additive [] w = passed true w
@@ -238,12 +245,23 @@ property_named files first is_additive (name ∷ names) w =
     if is_alias names w.unit.gathering.leaves then alias_told files first name (property_order w.unit.tokens is_additive) countable.Properties w
     else property_with files first is_additive name w
 
--- the word `additive` is no name there
+-- the word `additive` before its name is no name
+abbrev pub is_additive_word : Name → Bool
+is_additive_word word = str_eq_ignore_ascii_case word.bytes (codes "additive")
+
+abbrev pub is_additive : List Name → Bool
+is_additive [] = false
+is_additive (word ∷ names) = is_additive_word word
+
+abbrev pub names_behind : Bool → List Name → List Name
+names_behind is_additive [] = []
+names_behind is_additive (word ∷ names) = if is_additive then names else word ∷ names
+
+abbrev pub property_names : List Name → List Name
+property_names names = names_behind (is_additive names) names
+
 abbrev pub property : FileNames → Place → List Name → Work → Work
-property files first [] w = property_named files first false [] w
-property files first (word ∷ names) w =
-    if str_eq_ignore_ascii_case word.bytes (codes "additive") then property_named files first true names w
-    else property_named files first false (word ∷ names) w
+property files first names w = property_named files first (is_additive names) (property_names names) w
 
 -- Global variables
 
@@ -259,10 +277,16 @@ global_added None name w =
     let o = (settled_of w).out in
     new_global (value_of w) (declared name.bytes name.place (meaning.Variable (16 + length o.tables.globals)) o)
 
+abbrev pub global_ended : FileNames → Place → Name → Declared → Work → Work
+global_ended files first name d w =
+    declaration_ended files first name countable.Globals d (record w { output = global_added d.finding name w })
+
+abbrev pub has_most_globals : Out → Bool
+has_most_globals o = nat_le 235 (length o.tables.globals)
+
 abbrev pub global_with : FileNames → Place → Name → Work → Work
 global_with files first name w =
-    let d = valued files name (name_order w.unit.tokens) (nat_le 235 (length w.output.tables.globals)) w in
-    declaration_ended files first name countable.Globals d (record w { output = global_added d.finding name w })
+    global_ended files first name (valued files name (name_order w.unit.tokens) (has_most_globals w.output) w) w
 
 abbrev pub global_variable : FileNames → Place → List Name → Work → Work
 global_variable files first [] w = passed true w

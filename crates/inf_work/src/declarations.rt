@@ -4,7 +4,7 @@ ghost use Rattle.inf_expressions.specs.Forests.{trees_in as rooted_in};
 ghost use Rattle.inf_statements.specs.Statements.{tree_in};
 ghost use Rattle.inf_symbol.specs.Spellings.{as_name};
 ghost use Rattle.inf_unit.specs.Blames.{blamed};
-ghost use Rattle.inf_work.specs.Declarations.{alias_finding, alias_meaning, aliased, declaration_blame, declared_finding, is_alias, is_late, is_name_at, late_finding, many_finding, names_itself, nothing_of, property_order, standing_fault, value_in};
+ghost use Rattle.inf_work.specs.Declarations.{alias_finding, alias_meaning, aliased, declaration_blame, declared_finding, is_additive, is_additive_word, is_alias, is_late, is_name_at, late_finding, many_finding, names_itself, nothing_of, property_names, property_order, standing_fault, value_in};
 
 use crate::directives::name_finding;
 use crate::findings::{DECLARED, TOO_MANY, USED_BEFORE, blame_of, name_fault};
@@ -239,6 +239,33 @@ fn value_in(forest: &Forest) -> Value
     }
 }
 
+/// Whether a name is the word `additive`.
+fn is_additive_word(word: &Name) -> bool
+    ensures { result ≡ is_additive_word (as_name word.now) }
+{
+    word.bytes().eq_ignore_ascii_case(b"additive")
+}
+
+/// Whether the first of the names of a property is the word `additive`.
+fn is_additive(names: &[Name]) -> bool
+    ensures { result ≡ is_additive (map as_name names.now) }
+{
+    match names.first() {
+        Some(word) => is_additive_word(word),
+        None => false,
+    }
+}
+
+/// The names of a property without the word `additive` before them.
+fn property_names(names: &[Name]) -> &[Name]
+    ensures { map as_name result.now ≡ property_names (map as_name names.now) }
+{
+    match names.split_first() {
+        Some((_, others)) => { if is_additive(names) { others } else { names } }
+        None => names,
+    }
+}
+
 /// The order of the name of a property, which stands behind `additive` or not.
 fn property_order(tokens: &UnitTokens, is_additive: bool) -> u32
     ensures { result ≡ property_order tokens.now is_additive }
@@ -252,7 +279,7 @@ fn property_order(tokens: &UnitTokens, is_additive: bool) -> u32
 
 impl Work {
     ghost use Rattle.inf_work.specs.Actions.{finding_at, operands_of, settled_of, trees_at};
-    ghost use Rattle.inf_work.specs.Declarations.{alias_told, alias_with, attribute, attribute_added, attribute_number, attribute_with, declaration_ended, global_added, global_variable, global_with, last_meaning, new_attribute, new_global, new_property, name_known, property, property_added, property_named, property_number, property_with, valued};
+    ghost use Rattle.inf_work.specs.Declarations.{alias_told, alias_with, attribute, attribute_added, attribute_number, attribute_with, declaration_ended, global_added, global_ended, global_variable, global_with, has_most_globals, has_most_properties, last_meaning, new_attribute, new_global, new_property, name_known, property, property_added, property_ended, property_named, property_number, property_with, valued};
     ghost use Rattle.inf_work.specs.Works.{work};
 
     /// The end of a declaration that begins at a place: what is wrong with it is told.
@@ -353,12 +380,7 @@ impl Work {
     ) -> Result<(), AllocError>
         ensures { OnOk result (work self.new ≡ property files.now.names first (map as_name names.now) (work self.old)) }
     {
-        match names.split_first() {
-            Some((word, others)) if word.bytes().eq_ignore_ascii_case(b"additive") => {
-                self.property_named(files, first, true, others)
-            }
-            _ => self.property_named(files, first, false, names),
-        }
+        self.property_named(files, first, is_additive(names), property_names(names))
     }
 
     /// Declares the first of these names as a property, which is additive or not.
@@ -376,12 +398,48 @@ impl Work {
             self.pass(true);
             return Ok(());
         };
-        let order = property_order(&self.unit.tokens, is_additive);
         if is_alias(names, self.unit.gathering.leaves()) {
+            let order = property_order(&self.unit.tokens, is_additive);
             return self.alias(files, first, name, order, Countable::Properties);
         }
-        let are_many = self.output.tables.world.property_count() >= MOST_PROPERTIES;
-        let declared = self.valued(files, name, order, are_many)?;
+        self.one_property(files, first, is_additive, name)
+    }
+
+    /// Whether there are as many properties as there may be.
+    fn has_most_properties(&self) -> bool
+        ensures { result ≡ has_most_properties (work self.now).output }
+    {
+        self.output.tables.world.property_count() >= MOST_PROPERTIES
+    }
+
+    /// Declares a name as a property, with the value of the unit's expression, or 0.
+    fn one_property(
+        &mut self,
+        files: &Stack,
+        first: Place,
+        is_additive: bool,
+        name: &Name,
+    ) -> Result<(), AllocError>
+        ensures { OnOk result (work self.new
+            ≡ property_with files.now.names first is_additive (as_name name.now) (work self.old)) }
+    {
+        let order = property_order(&self.unit.tokens, is_additive);
+        let declared = self.valued(files, name, order, self.has_most_properties())?;
+        self.end_property(files, first, is_additive, name, declared)
+    }
+
+    /// The end of the declaration of a property, of which so much is known.
+    fn end_property(
+        &mut self,
+        files: &Stack,
+        first: Place,
+        is_additive: bool,
+        name: &Name,
+        declared: Declared,
+    ) -> Result<(), AllocError>
+        ensures { OnOk result (work self.new
+            ≡ property_ended files.now.names first is_additive (as_name name.now) declared (work self.old)) }
+    {
         self.add_property(name, is_additive, declared.finding)?;
         self.end_declaration(files, first, name, Countable::Properties, declared)
     }
@@ -486,13 +544,41 @@ impl Work {
     ) -> Result<(), AllocError>
         ensures { OnOk result (work self.new ≡ global_variable files.now.names first (map as_name names.now) (work self.old)) }
     {
-        let Some(name) = names.first() else {
-            self.pass(true);
-            return Ok(());
-        };
+        match names.first() {
+            Some(name) => self.one_global(files, first, name),
+            None => {
+                self.pass(true);
+                Ok(())
+            }
+        }
+    }
+
+    /// Whether there are as many global variables as there may be.
+    fn has_most_globals(&self) -> bool
+        ensures { result ≡ has_most_globals (work self.now).output }
+    {
+        self.output.tables.globals.len() >= MOST_GLOBALS
+    }
+
+    /// Declares a name as a global variable, with the value of the unit's expression, or 0.
+    fn one_global(&mut self, files: &Stack, first: Place, name: &Name) -> Result<(), AllocError>
+        ensures { OnOk result (work self.new ≡ global_with files.now.names first (as_name name.now) (work self.old)) }
+    {
         let order = self.unit.tokens.name_order();
-        let are_many = self.output.tables.globals.len() >= MOST_GLOBALS;
-        let declared = self.valued(files, name, order, are_many)?;
+        let declared = self.valued(files, name, order, self.has_most_globals())?;
+        self.end_global(files, first, name, declared)
+    }
+
+    /// The end of the declaration of a global variable, of which so much is known.
+    fn end_global(
+        &mut self,
+        files: &Stack,
+        first: Place,
+        name: &Name,
+        declared: Declared,
+    ) -> Result<(), AllocError>
+        ensures { OnOk result (work self.new ≡ global_ended files.now.names first (as_name name.now) declared (work self.old)) }
+    {
         self.add_global(name, declared.finding)?;
         self.end_declaration(files, first, name, Countable::Globals, declared)
     }
