@@ -44,9 +44,9 @@ use Rattle.inf_statements.specs.declared.constructs.Kind.{Kind}
 use Rattle.inf_statements.specs.declared.constructs.Kind.TheVariants as kind
 use Rattle.inf_statements.specs.declared.constructs.Over.TheVariants as over
 use Rattle.inf_statements.proofs.Keeping.{alone_keep, begun_keeps as begun_construct_keeps, case_keeps, cases_keep, ended_keeps, joined_keeps, leaf_added_keeps, leaves_same, looped_over_keeps, statement_keeps, stepped_keeps, switched_keeps, tested_keeps}
-use Rattle.inf_work.specs.Actions.{Work, begun_at, close, close_open, constant, constant_added, constant_finding, constant_meaning, constant_of, constant_with, cut, finding_at, header_end, header_of, header_with, is_declared, is_deep, is_replaced, name_finding, named, nested, opened_with, opens, operands_of, passed, replace, routine_declared, settled_of, sized, stopped, stub, stub_code, stub_locals, stubbed, token_checked, told, took, trees_at, unit_ended}
-use Rattle.inf_work.specs.Declarations.{alias_by, is_alias, alias_finding, alias_meaning, alias_told, alias_with, aliased, attribute, attribute_added, attribute_number, attribute_with, global_added, global_variable, global_with, last_meaning, new_attribute, new_attribute_by, new_global, new_property, new_property_by, nothing_of, name_known, property, property_added, property_named, property_number, property_order, property_with, value_of, valued, with_variable}
-use Rattle.inf_work.specs.Directives.{carried_out, default, directive_end, directive_of_names, is_first_declared}
+use Rattle.inf_work.specs.Actions.{Work, begun_at, close, close_open, constant, constant_added, constant_finding, constant_meaning, constant_of, constant_with, cut, finding_at, header_end, header_of, header_with, is_deep, is_first_declared, is_replaced, name_finding, named, nested, new_stub, opened_with, opens, operands_of, passed, replace, routine_declared, settled_of, sized, stopped, stub, stub_code, stub_locals, stubbed, token_checked, told, took, trees_at, unit_ended}
+use Rattle.inf_work.specs.Declarations.{alias_by, is_alias, alias_finding, alias_meaning, alias_told, alias_with, aliased, attribute, attribute_added, attribute_number, attribute_with, global_added, global_variable, global_with, is_additive, last_meaning, new_attribute, new_attribute_by, new_global, new_property, new_property_by, nothing_of, name_known, property, property_added, property_named, property_names, property_number, property_order, property_with, value_of, valued, with_variable}
+use Rattle.inf_work.specs.Directives.{carried_out, default, directive_end, directive_of_names}
 use Rattle.inf_work.specs.declared.declarations.Declared.{Declared}
 use Rattle.inf_work.specs.Acting.{act, acted}
 use Rattle.inf_work.specs.Findings.{header_fault, name_fault}
@@ -183,11 +183,14 @@ declared_stub_same files first name w =
     let d = routine_declared name w in
     same_then w d (stubbed files first d) (declared_keeps name.bytes name.place (meaning_of.Routine (place_behind w.output.code.finished)) w.output) (stubbed_same files first d)
 
+new_stub_same : (files : FileNames) (first : Place) (names : List Name) (w : Work) → SameLimits w (new_stub files first names w)
+new_stub_same files first [] w = (refl, refl)
+new_stub_same files first (name ∷ names) w = declared_stub_same files first name w
+
 stub_same : (files : FileNames) (first : Place) (names : List Name) (w : Work) → SameLimits w (stub files first names w)
-stub_same files first [] w = (refl, refl)
-stub_same files first (name ∷ names) w =
-    of_both (SameLimits w) (is_declared (found_in name.bytes w.output.names)) (unit_ended files first true None w) (stubbed files first (routine_declared name w))
-    (λ _. (refl, refl)) (λ _. declared_stub_same files first name w)
+stub_same files first names w =
+    of_both (SameLimits w) (is_first_declared names w.output.names) (unit_ended files first true None w) (new_stub files first names w)
+    (λ _. (refl, refl)) (λ _. new_stub_same files first names w)
 
 default_same : (files : FileNames) (first : Place) (names : List Name) (w : Work) → SameLimits w (default files first names w)
 default_same files first names w =
@@ -246,10 +249,7 @@ property_named_same files first is_additive (name ∷ names) w =
     (λ _. property_added_same (valued files name at (nat_le 60 (length w.output.tables.world.declared)) w).finding name is_additive w)
 
 property_same : (files : FileNames) (first : Place) (names : List Name) (w : Work) → SameLimits w (property files first names w)
-property_same files first [] w = (refl, refl)
-property_same files first (word ∷ names) w =
-    of_both (SameLimits w) (str_eq_ignore_ascii_case word.bytes (codes "additive")) (property_named files first true names w) (property_named files first false (word ∷ names) w)
-    (λ _. property_named_same files first true names w) (λ _. property_named_same files first false (word ∷ names) w)
+property_same files first names w = property_named_same files first (is_additive names) (property_names names) w
 
 new_global_same : (v : Value) (o : Out) → SameOutLimits o (new_global v o)
 new_global_same v o = of_both (SameOutLimits o) (nat_le 235 (length o.tables.globals)) o (with_variable v o) (λ _. (refl, refl)) (λ _. (refl, refl))

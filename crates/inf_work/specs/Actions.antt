@@ -365,10 +365,17 @@ is_declared (found.Declared m place) = true
 is_declared found.Used = false
 is_declared found.Unknown = false
 
+-- whether the first of some names is declared
+abbrev pub is_first_declared : List Name → Table Place → Bool
+is_first_declared [] names = false
+is_first_declared (name ∷ others) names = is_declared (found_in name.bytes names)
+
+abbrev pub new_stub : FileNames → Place → List Name → Work → Work
+new_stub files first [] w = passed true w
+new_stub files first (name ∷ names) w = stubbed files first (routine_declared name w)
+
 abbrev pub stub : FileNames → Place → List Name → Work → Work
-stub files first [] w = passed true w
-stub files first (name ∷ names) w =
-    if is_declared (found_in name.bytes w.output.names) then unit_ended files first true None w else stubbed files first (routine_declared name w)
+stub files first names w = if is_first_declared names w.output.names then unit_ended files first true None w else new_stub files first names w
 
 -- Files
 

@@ -182,10 +182,16 @@ abbrev pub attribute_added : Option Finding → Name → Code
 attribute_added (Some f) name o = declared name.bytes name.place (meaning.Attribute 0) o
 attribute_added None name o = new_attribute (declared name.bytes name.place (meaning.Attribute (attribute_number o)) o)
 
+abbrev pub attribute_ended : FileNames → Place → Name → Declared → Work → Work
+attribute_ended files first name d w =
+    declaration_ended files first name countable.Attributes d (record w { output = attribute_added d.finding name w.output })
+
+abbrev pub has_most_attributes : Out → Bool
+has_most_attributes o = nat_le 48 o.tables.world.attributes
+
 abbrev pub attribute_with : FileNames → Place → Name → Work → Work
 attribute_with files first name w =
-    let d = name_known files name (name_order w.unit.tokens) (nat_le 48 w.output.tables.world.attributes) w in
-    declaration_ended files first name countable.Attributes d (record w { output = attribute_added d.finding name w.output })
+    attribute_ended files first name (name_known files name (name_order w.unit.tokens) (has_most_attributes w.output) w) w
 
 abbrev pub attribute : FileNames → Place → List Name → Work → Work
 attribute files first [] w = passed true w

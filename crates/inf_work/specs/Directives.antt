@@ -1,6 +1,5 @@
 -- What the directives do that are one unit.
-use Rattle.std.specs.Prelude.{List, [], ◌∷◌, Bool, true, false, None, if◌then◌else◌}
-use Rattle.inf_names.specs.Symbols.{Table, found_in}
+use Rattle.std.specs.Prelude.{List, [], ◌∷◌, true, None, if◌then◌else◌}
 use Rattle.inf_scanner.specs.declared.tokens.Place.{Place}
 use Rattle.inf_symbol.specs.Spellings.{Name}
 use Rattle.inf_unit.specs.Directives.{Include, End, directive_of, weight_of}
@@ -8,13 +7,8 @@ use Rattle.inf_unit.specs.declared.directives.Directive.{Directive}
 use Rattle.inf_unit.specs.declared.directives.Directive.TheVariants as directive
 use Rattle.inf_unit.specs.Messages.{FileNames, location, with_words}
 use Rattle.inf_unit.specs.Units.{first_place, names_in, quoted_in}
-use Rattle.inf_work.specs.Actions.{Work, begun_at, constant, is_declared, passed, replace, stub, unit_ended, words_of}
+use Rattle.inf_work.specs.Actions.{Work, begun_at, constant, is_first_declared, passed, replace, stub, unit_ended, words_of}
 use Rattle.inf_work.specs.Declarations.{attribute, global_variable, property}
-
--- whether the first of some names is declared
-abbrev pub is_first_declared : List Name → Table Place → Bool
-is_first_declared [] names = false
-is_first_declared (name ∷ others) names = is_declared (found_in name.bytes names)
 
 -- a constant, unless its name is declared
 abbrev pub default : FileNames → Place → List Name → Work → Work

@@ -279,7 +279,7 @@ fn property_order(tokens: &UnitTokens, is_additive: bool) -> u32
 
 impl Work {
     ghost use Rattle.inf_work.specs.Actions.{finding_at, operands_of, settled_of, trees_at};
-    ghost use Rattle.inf_work.specs.Declarations.{alias_told, alias_with, attribute, attribute_added, attribute_number, attribute_with, declaration_ended, global_added, global_ended, global_variable, global_with, has_most_globals, has_most_properties, last_meaning, new_attribute, new_global, new_property, name_known, property, property_added, property_ended, property_named, property_number, property_with, valued};
+    ghost use Rattle.inf_work.specs.Declarations.{alias_told, alias_with, attribute, attribute_added, attribute_ended, attribute_number, attribute_with, declaration_ended, global_added, global_ended, global_variable, global_with, has_most_attributes, has_most_globals, has_most_properties, last_meaning, new_attribute, new_global, new_property, name_known, property, property_added, property_ended, property_named, property_number, property_with, valued};
     ghost use Rattle.inf_work.specs.Works.{work};
 
     /// The end of a declaration that begins at a place: what is wrong with it is told.
@@ -327,12 +327,39 @@ impl Work {
             self.pass(true);
             return Ok(());
         };
-        let order = self.unit.tokens.name_order();
         if is_alias(names, self.unit.gathering.leaves()) {
+            let order = self.unit.tokens.name_order();
             return self.alias(files, first, name, order, Countable::Attributes);
         }
-        let are_many = self.output.tables.world.attribute_count() >= MOST_ATTRIBUTES;
-        let declared = self.name_known(files, name, order, are_many);
+        self.one_attribute(files, first, name)
+    }
+
+    /// Whether there are as many attributes as there may be.
+    fn has_most_attributes(&self) -> bool
+        ensures { result ≡ has_most_attributes (work self.now).output }
+    {
+        self.output.tables.world.attribute_count() >= MOST_ATTRIBUTES
+    }
+
+    /// Declares a name as an attribute.
+    fn one_attribute(&mut self, files: &Stack, first: Place, name: &Name) -> Result<(), AllocError>
+        ensures { OnOk result (work self.new ≡ attribute_with files.now.names first (as_name name.now) (work self.old)) }
+    {
+        let order = self.unit.tokens.name_order();
+        let declared = self.name_known(files, name, order, self.has_most_attributes());
+        self.end_attribute(files, first, name, declared)
+    }
+
+    /// The end of the declaration of an attribute, of which so much is known.
+    fn end_attribute(
+        &mut self,
+        files: &Stack,
+        first: Place,
+        name: &Name,
+        declared: Declared,
+    ) -> Result<(), AllocError>
+        ensures { OnOk result (work self.new ≡ attribute_ended files.now.names first (as_name name.now) declared (work self.old)) }
+    {
         self.add_attribute(name, declared.finding)?;
         self.end_declaration(files, first, name, Countable::Attributes, declared)
     }

@@ -34,8 +34,8 @@ const MOST_STUB_LOCALS: u16 = 4;
 
 impl Work {
     ghost use Rattle.inf_unit.specs.Directives.{Include, asked, weight_of};
-    ghost use Rattle.inf_work.specs.Actions.{constant, constant_of, constant_with, replace, routine_declared, stub, stubbed, words_of};
-    ghost use Rattle.inf_work.specs.Directives.{carried_out, default, directive_end, is_first_declared};
+    ghost use Rattle.inf_work.specs.Actions.{constant, constant_of, constant_with, is_first_declared, new_stub, replace, stub, stubbed, words_of};
+    ghost use Rattle.inf_work.specs.Directives.{carried_out, default, directive_end};
     ghost use Rattle.inf_work.specs.Works.{work};
 
     /// A directive ends, before a token at a place.
@@ -101,22 +101,21 @@ impl Work {
         ensures { OnOk result (work self.new
             ≡ stub files.now.names first (map as_name names.now) (work self.old)) }
     {
+        if self.is_first_declared(names) {
+            self.end_unit(files, first, true)
+        } else {
+            self.new_stub(files, first, names)
+        }
+    }
+
+    /// Declares the first of these names as that of the routine of a `Stub`.
+    fn new_stub(&mut self, files: &Stack, first: Place, names: &[Name]) -> Result<(), AllocError>
+        ensures { OnOk result (work self.new ≡ new_stub files.now.names first (map as_name names.now) (work self.old)) }
+    {
         let Some(name) = names.first() else {
             self.pass(true);
             return Ok(());
         };
-        if is_declared(self.output.names.look(name.bytes())) {
-            self.end_unit(files, first, true)
-        } else {
-            self.new_stub(files, first, name)
-        }
-    }
-
-    /// Declares a name as that of the routine of a `Stub`.
-    fn new_stub(&mut self, files: &Stack, first: Place, name: &Name) -> Result<(), AllocError>
-        ensures { OnOk result (work self.new
-            ≡ stubbed files.now.names first (routine_declared (as_name name.now) (work self.old))) }
-    {
         self.declare_routine(name)?;
         self.stub_routine(files, first)
     }
