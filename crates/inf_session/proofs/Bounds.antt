@@ -161,14 +161,14 @@ pub within : (s : Session) (names code strings refs : ℕ) (tables : TableCounts
 within s names code strings refs tables bounded going few_names few_code few_strings few_refs few =
     let settings = (chosen s.setup).settings in
     let most_code = ap (λ (l : CodeLimits × ℕ × TableBounds). l.0.code) bounded.1.0 in
-    let most_strings = ap (λ (l : CodeLimits × ℕ × TableBounds). l.1.0) bounded.1.0 in
-    let most = subst (λ b. FitBounds tables b) (ap (λ (l : CodeLimits × ℕ × TableBounds). l.1.1) bounded.1.0) few in
+    let most_strings = ap (λ (l : CodeLimits × ℕ × TableBounds). l.1) bounded.1.0 in
+    let most = subst (λ b. FitBounds tables b) (ap (λ (l : CodeLimits × ℕ × TableBounds). l.2) bounded.1.0) few in
     let has = bounded.1.1.1 going in
     let named = subst (λ n. names ≤ n) bounded.0 few_names in
     let coded = subst (λ n. code ≤ n) most_code few_code in
     let stringed = subst (λ n. strings ≤ n) most_strings few_strings in
     let objects = at_most tables.objects 4 (number_of Objects settings) most.objects has.0 in
-    let properties = at_most tables.properties 30 (number_of PropertyTables settings) most.properties has.1.0 in
+    let properties = at_most tables.properties 30 (number_of PropertyTables settings) most.properties has.1 in
     (bounded.1.1.0, (omega arith, (named, (omega arith, (most.words, (objects, (most.verbs, (most.actions, (most.lines, (properties, (most.arrays, (omega arith, (coded, (stringed, (few_refs, tt)))))))))))))))
 
 -- the lesser of two numbers is at most the second

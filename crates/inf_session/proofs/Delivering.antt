@@ -1,5 +1,6 @@
 -- What was written of the last lines, and of all.
-use Rattle.std.proofs.Common.{◌≡◌, ℕ, List, [], ◌++◌, take, drop, take-append-drop, append_assoc, arith, Option, Result, Ok, Err, IfOk, refl, sym, ap, subst, ◌∙◌}
+use Rattle.std.specs.Prelude.{option_map}
+use Rattle.std.proofs.Common.{◌≡◌, ℕ, List, [], ◌++◌, take, drop, take-append-drop, append_assoc, arith, Option, Some, None, Result, Ok, Err, IfOk, refl, sym, ap, subst, ◌∙◌}
 use Rattle.inf_report.specs.Reports.{closing}
 use Rattle.inf_symbol.specs.Sinks.{Takes}
 use Rattle.inf_symbol.specs.declared.sinks.Sink.{Ghosts as Sink}
@@ -44,6 +45,15 @@ pub ends_clean : (e : Ending) (c : Compiled) (old new : Option (List ℕ)) → (
 ends_clean e c old new clean d is =
     let k = clean (sym d.status ∙ is) in
     record { front = k.front; warnings = k.warnings; takes = subst (λ (lines : List ℕ). Takes old new lines) k.is d.messages }
+
+mapped_none : {T U : Type 0} (f : T → U) (o : Option T) → option_map f o ≡ None → o ≡ None
+mapped_none f None e = refl
+mapped_none f (Some x) e = let never : Some (f x) ≡ None = e in cc
+
+-- of an ending that has no story where it has an error
+pub has_none : (e : Ending) (c : Compiled) (old new : Option (List ℕ)) → (e.status ≡ status.Errors → e.story ≡ None) → Delivers e c old new
+    → c.status ≡ status.Errors → c.story ≡ None
+has_none e c old new none d is = mapped_none (λ v. v.items) c.story (d.story ∙ none (sym d.status ∙ is))
 
 pub if_ok_more : {T E : Type 0} (r : Result T E) (P Q : T → Type 0) → ((x : T) → P x → Q x) → IfOk r P → IfOk r Q
 if_ok_more (Ok x) P Q h p = h x p

@@ -15,6 +15,7 @@ use Rattle.inf_work.specs.Actions.{Work, begun_at}
 use Rattle.inf_unit.proofs.Cases.{of_both}
 use Rattle.inf_unit.specs.Messages.{FileNames, Reported, with_closing, with_fatal}
 use Rattle.inf_unit.specs.Names.{main_of, with_all_undeclared}
+use Rattle.inf_output.specs.Output.{Out}
 use Rattle.inf_output.specs.Strings.{StringArea}
 use Rattle.inf_tables.specs.declared.tables.Tables.{Tables}
 use Rattle.inf_report.specs.Messages.{StoryTooLong}
@@ -60,18 +61,18 @@ named_none : (serial : List ℕ) (files : FileNames) (main : ℕ) (code : Routin
 named_none serial files main code strings tables r None = λ _. refl
 named_none serial files main code strings tables r (Some names) = linked_none serial files main names code strings tables r (too_long (fields_of serial code) main code.finished strings.bytes tables)
 
-laid_none : (serial : List ℕ) (files : FileNames) (main : ℕ) (w : Work) (r : Reported) → HasNone (laid serial files main w r)
-laid_none serial files main w r = named_none serial files main w.output.code w.output.strings w.output.tables r (values_of w.output.names.names)
+laid_none : (serial : List ℕ) (files : FileNames) (main : ℕ) (o : Out) (r : Reported) → HasNone (laid serial files main o r)
+laid_none serial files main o r = named_none serial files main o.code o.strings o.tables r (values_of o.names.names)
 
-begun_none : (serial : List ℕ) (files : FileNames) (w : Work) (r : Reported) (main : Option ℕ) → HasNone (begun serial files w r main)
-begun_none serial files w r None = λ _. refl
-begun_none serial files w r (Some main) =
-    of_both HasNone (is_clean r) (laid serial files main w r) (refused r) (λ _. laid_none serial files main w r) (λ _ _. refl)
+begun_none : (serial : List ℕ) (files : FileNames) (o : Out) (r : Reported) (main : Option ℕ) → HasNone (begun serial files o r main)
+begun_none serial files o r None = λ _. refl
+begun_none serial files o r (Some main) =
+    of_both HasNone (is_clean r) (laid serial files main o r) (refused r) (λ _. laid_none serial files main o r) (λ _ _. refl)
 
 pub errors_none : (serial : List ℕ) (files : FileNames) (w : Work) → (finished serial files w).status ≡ status.Errors → (finished serial files w).story ≡ None
 errors_none serial files w =
     let b = begun_at files first_place w in
-    begun_none serial files b (with_all_undeclared files b.output.names.names b.report) (main_of b.output.names)
+    begun_none serial files b.output (with_all_undeclared files b.output.names.names b.report) (main_of b.output.names)
 
 -- lines that end with the line that tells no error
 pub record IsClean (lines : List ℕ) : Type 0 where
@@ -108,15 +109,15 @@ named_clean : (serial : List ℕ) (files : FileNames) (main : ℕ) (code : Routi
 named_clean serial files main code strings tables r clean None = λ e. cc
 named_clean serial files main code strings tables r clean (Some names) = linked_clean serial files main names code strings tables r clean (too_long (fields_of serial code) main code.finished strings.bytes tables)
 
-laid_clean : (serial : List ℕ) (files : FileNames) (main : ℕ) (w : Work) (r : Reported) → is_clean r ≡ true → EndsSo (laid serial files main w r)
-laid_clean serial files main w r clean = named_clean serial files main w.output.code w.output.strings w.output.tables r clean (values_of w.output.names.names)
+laid_clean : (serial : List ℕ) (files : FileNames) (main : ℕ) (o : Out) (r : Reported) → is_clean r ≡ true → EndsSo (laid serial files main o r)
+laid_clean serial files main o r clean = named_clean serial files main o.code o.strings o.tables r clean (values_of o.names.names)
 
-begun_clean : (serial : List ℕ) (files : FileNames) (w : Work) (r : Reported) (main : Option ℕ) → EndsSo (begun serial files w r main)
-begun_clean serial files w r None = λ e. cc
-begun_clean serial files w r (Some main) =
-    of_both EndsSo (is_clean r) (laid serial files main w r) (refused r) (λ clean. laid_clean serial files main w r clean) (λ _ e. cc)
+begun_clean : (serial : List ℕ) (files : FileNames) (o : Out) (r : Reported) (main : Option ℕ) → EndsSo (begun serial files o r main)
+begun_clean serial files o r None = λ e. cc
+begun_clean serial files o r (Some main) =
+    of_both EndsSo (is_clean r) (laid serial files main o r) (refused r) (λ clean. laid_clean serial files main o r clean) (λ _ e. cc)
 
 pub success_clean : (serial : List ℕ) (files : FileNames) (w : Work) → (finished serial files w).status ≡ status.Success → IsClean (finished serial files w).messages
 success_clean serial files w =
     let b = begun_at files first_place w in
-    begun_clean serial files b (with_all_undeclared files b.output.names.names b.report) (main_of b.output.names)
+    begun_clean serial files b.output (with_all_undeclared files b.output.names.names b.report) (main_of b.output.names)

@@ -6,6 +6,7 @@ use Rattle.inf_code.specs.Code.{Routines}
 use Rattle.inf_link.specs.declared.header.HeaderFields.{HeaderFields}
 use Rattle.inf_link.specs.declared.link.LinkFault.{LinkFault}
 use Rattle.inf_link.specs.declared.link.LinkFault.TheVariants as link_fault
+use Rattle.inf_output.specs.Output.{Out}
 use Rattle.inf_output.specs.Strings.{StringArea}
 use Rattle.inf_tables.specs.declared.tables.Tables.{Tables}
 use Rattle.inf_report.specs.Messages.{Location, NoMain, NoSource, NotConstant, ReadableTooLong, StoryTooLong}
@@ -54,17 +55,17 @@ abbrev pub named : List ℕ → FileNames → ℕ → Routines → StringArea �
 named serial files main code strings tables r None = refused (with_error (first_line files) (first_line files) NotConstant r)
 named serial files main code strings tables r (Some names) = linked serial files main names code strings tables r (too_long (fields_of serial code) main code.finished strings.bytes tables)
 
-abbrev pub laid : List ℕ → FileNames → ℕ → Work → Reported → Ending
-laid serial files main w r = named serial files main w.output.code w.output.strings w.output.tables r (values_of w.output.names.names)
+abbrev pub laid : List ℕ → FileNames → ℕ → Out → Reported → Ending
+laid serial files main o r = named serial files main o.code o.strings o.tables r (values_of o.names.names)
 
 -- the ending of a source that was read: without its first routine it has an error
-abbrev pub begun : List ℕ → FileNames → Work → Reported → Option ℕ → Ending
-begun serial files w r None = refused (with_error (first_line files) (first_line files) NoMain r)
-begun serial files w r (Some main) = if is_clean r then laid serial files main w r else refused r
+abbrev pub begun : List ℕ → FileNames → Out → Reported → Option ℕ → Ending
+begun serial files o r None = refused (with_error (first_line files) (first_line files) NoMain r)
+begun serial files o r (Some main) = if is_clean r then laid serial files main o r else refused r
 
 -- The names are told that were used and never declared.
 abbrev pub finished_with : List ℕ → FileNames → Work → Ending
-finished_with serial files w = begun serial files w (with_all_undeclared files w.output.names.names w.report) (main_of w.output.names)
+finished_with serial files w = begun serial files w.output (with_all_undeclared files w.output.names.names w.report) (main_of w.output.names)
 
 -- At the end, at the latest, code begins.
 abbrev pub finished : List ℕ → FileNames → Work → Ending

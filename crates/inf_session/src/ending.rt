@@ -1,5 +1,5 @@
 //! What comes at the end of a compilation.
-ghost use Rattle.std.specs.Prelude.{◌≡◌, IfOk, OnOk, Some};
+ghost use Rattle.std.specs.Prelude.{◌≡◌, IfOk, OnOk, Some, option_map};
 ghost use Rattle.inf_cells.specs.Scales.{most_bytes};
 ghost use Rattle.inf_report.specs.Meant.{meant};
 ghost use Rattle.inf_story.specs.Stories.{too_long};
@@ -7,7 +7,7 @@ ghost use Rattle.inf_unit.specs.Messages.{with_closing, with_error, with_fatal};
 ghost use Rattle.inf_unit.specs.Names.{main_of, with_all_undeclared};
 ghost use Rattle.inf_work.specs.Actions.{begun_at};
 ghost use Rattle.inf_work.specs.Works.{work as work_of};
-ghost use Rattle.inf_session.specs.Ending.{begun, fields_of, finished, first_line, is_clean, laid, linked, missing, refused, seen};
+ghost use Rattle.inf_session.specs.Ending.{begun, fields_of, finished, first_line, is_clean, laid, linked, missing, named, refused, seen};
 ghost use Rattle.inf_session.specs.Session.{first_place};
 
 use crate::compiled::Status;
@@ -71,7 +71,7 @@ fn finish_told(
     serial: &[u8; 6],
     work: Work,
 ) -> Result<Ending, AllocError>
-    ensures { IfOk result (λ t. seen t ≡ begun serial.now files.now.names (work_of work) work.report (main_of work.output.names)) }
+    ensures { IfOk result (λ t. seen t ≡ begun serial.now files.now.names work.output work.report (main_of work.output.names)) }
 {
     let Some(main) = main_of(&work.output.names) else {
         return failed(files, report_of(work), &Message::NoMain);
@@ -157,11 +157,29 @@ fn laid(
     main: usize,
     work: Work,
 ) -> Result<Ending, AllocError>
-    ensures { IfOk result (λ t. seen t ≡ laid serial.now files.now.names main (work_of work) work.report) }
+    ensures { IfOk result (λ t. seen t ≡ laid serial.now files.now.names main work.output work.report) }
 {
     let (code, contents, report) = parts_of(work);
-    match values_of(alloc, &contents.names)? {
-        Some(names) => linked(alloc, files, *serial, main, names, code, contents, report),
+    let names = values_of(alloc, &contents.names)?;
+    named(alloc, files, *serial, main, names, code, contents, report)
+}
+
+/// Ends it with the story in which names are these values. Without them one of the names is no number in a story, which is an error.
+fn named(
+    alloc: Global,
+    files: &Stack,
+    serial: [u8; 6],
+    main: usize,
+    names: Option<Vec<Value>>,
+    code: Code,
+    contents: Contents,
+    report: Messages,
+) -> Result<Ending, AllocError>
+    ensures { IfOk result (λ t. seen t ≡ named serial files.now.names main code contents.strings contents.tables report
+        (option_map (λ v. v.items) names)) }
+{
+    match names {
+        Some(names) => linked(alloc, files, serial, main, names, code, contents, report),
         None => failed(files, report, &Message::NotConstant),
     }
 }

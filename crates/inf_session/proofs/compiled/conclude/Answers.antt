@@ -1,11 +1,11 @@
-use Rattle.std.proofs.Common.{◌≡◌, IfOk, subst}
+use Rattle.std.proofs.Common.{◌≡◌, IfOk, None, subst}
 use Rattle.inf_opcode.proofs.Growing.{on_err}
 use Rattle.inf_work.specs.Works.{work as work_of}
 use Rattle.inf_session.specs.Delivered.{Delivers, EndsClean}
 use Rattle.inf_session.specs.Ending.{Ending, finished}
 use Rattle.inf_session.specs.declared.compiled.Status.TheVariants as status
-use Rattle.inf_session.proofs.Delivering.{ends_clean, if_ok_more, takes_no_front}
-use Rattle.inf_session.proofs.Endings.{success_clean}
+use Rattle.inf_session.proofs.Delivering.{ends_clean, has_none, if_ok_more, takes_no_front}
+use Rattle.inf_session.proofs.Endings.{errors_none, success_clean}
 use Rattle.inf_session.proofs.compiled.conclude.Goals as goal
 
 pub returns-in_err-ending-clause-err : goal.returns-in_err-ending-clause-err
@@ -20,4 +20,15 @@ returns-clause-clean g c =
     let e = finished serial names (work_of c.args.work) in
     if_ok_more c.written.result (λ x. Delivers e x old new) (λ x. x.status ≡ status.Success → EndsClean old new)
     (λ x d. ends_clean e x old new (success_clean serial names (work_of c.args.work)) d)
+    (subst (λ (t : Ending). IfOk c.written.result (λ x. Delivers t x old new)) c.in_ok-ending.ensures c.written.ensures.ok)
+
+pub returns-clause-errors : goal.returns-clause-errors
+returns-clause-errors g c =
+    let old = g.M.Sink.taken c.args.messages.now in
+    let new = g.M.Sink.taken c.written.new.messages in
+    let names = c.args.names.now.names in
+    let serial = c.args.serial.now in
+    let e = finished serial names (work_of c.args.work) in
+    if_ok_more c.written.result (λ x. Delivers e x old new) (λ x. x.status ≡ status.Errors → x.story ≡ None)
+    (λ x d. has_none e x old new (errors_none serial names (work_of c.args.work)) d)
     (subst (λ (t : Ending). IfOk c.written.result (λ x. Delivers t x old new)) c.in_ok-ending.ensures c.written.ensures.ok)
