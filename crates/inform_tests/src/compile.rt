@@ -181,14 +181,13 @@ fn words_of_statements_begin_no_calls(rt: HostRuntime) -> Result<(), Fail> {
 }
 
 /// Sources whose bad token the grammar has, with what is told of it.
-static ROWS: [(&[u8], &str); 7] = [
+static ROWS: [(&[u8], &str); 6] = [
     (b"[ Main; string 3 \"ab\"; ];", "\"string\""),
     (b"[ Main; <Take>; ];", "\"<\""),
-    (b"[ Main; F('word'); ];", "\"'word'\""),
-    (b"[ Main; F(\"text\"); ];", "text"),
     (b"[ Main; return ##F; ];", "\"##\""),
     (b"[ Main; F, G: ; ];", "\":\""),
     (b"Array a --> 5;", "\"Array\""),
+    (b"Verb 'go' * -> Go;", "\"Verb\""),
 ];
 
 /// Compiles `t.inf` of these files, and asserts the beginning of its messages.
