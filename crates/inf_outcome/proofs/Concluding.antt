@@ -1,5 +1,5 @@
 -- What is written up to the end of a compilation, or up to where it was given up.
-use Rattle.std.proofs.Common.{◌≡◌, ◌⊎◌, ℕ, zero, ◌+◌, ◌-◌, ◌<◌, ◌≤◌, List, [], ◌∷◌, ◌++◌, length, length-append, map, min, reverse, get_or, unwrap_or, cond, drop, Bool, true, false, Option, Some, None, arith, Result, Ok, Err, IfOk, IfErr, inl, inr, refl, sym, ap, subst, ◌∙◌, append_assoc}
+use Rattle.std.proofs.Common.{◌≡◌, ◌⊎◌, ℕ, zero, ◌+◌, ◌-◌, ◌<◌, ◌≤◌, List, [], ◌∷◌, ◌++◌, length, length-append, map, min, reverse, get_or, unwrap_or, cond, drop, Bool, true, false, Option, Some, None, arith, Result, Ok, Err, IfOk, IfErr, OnErr, inl, inr, refl, sym, ap, subst, ◌∙◌, append_assoc}
 use Rattle.inf_token.specs.Files.{Opening, Openings, Sources, last_count, opened}
 use Rattle.inf_token.specs.declared.files.Files.{Ghosts as Files}
 use Rattle.inf_characters.specs.declared.characters.CharSet.{CharSet}
@@ -17,12 +17,13 @@ use Rattle.inf_reader.specs.Standing.{standing}
 use Rattle.inf_session.specs.Choices.{Choices, most_quoted}
 use Rattle.inf_session.specs.Delivered.{Delivers, TakesFront}
 use Rattle.inf_session.specs.Ending.{Ending, finished}
-use Rattle.inf_session.specs.Faults.{IfRead}
+use Rattle.inf_session.specs.Faults.{Caused, IfRead}
 use Rattle.inf_session.specs.Leading.{CutsShort, GivenUp, IsFront, OpensAll, StopsAtInclusion, StopsFor, StopsInToken, Writes}
 use Rattle.inf_session.specs.Session.{IsRead, State, begun_with, has_ended, run, start, stepped}
 use Rattle.inf_session.specs.Standing.{state}
 use Rattle.inf_session.specs.declared.compiled.Compiled.{Compiled}
 use Rattle.inf_session.specs.declared.faults.Fault.{Fault}
+use Rattle.inf_session.specs.declared.faults.Fault.TheVariants as fault
 use Rattle.inf_session.specs.declared.session.Session.{Session}
 use Rattle.inf_session.proofs.Leadings.{end_begins, front_more, front_then, same_end, stops_more, takes_none, takes_then}
 use Rattle.inf_session.proofs.Standings.{if_read_more}
@@ -82,6 +83,22 @@ stops_ending sources o serial was now old mid new turns w over told_is t = recor
       (subst (λ l. IsFront (w.lines ++ (t w.lines).front) (l ++ (finished serial (now w.lines).nesting.names (now w.lines).work).messages)) (sym (told_is w.lines))
       (front_behind w.lines (t w.lines).front (finished serial (now w.lines).nesting.names (now w.lines).work).messages (t w.lines).begins));
 }
+
+-- a fault that is none of reading
+unread_none : (f : Fault) (P : List ℕ → Type 0) (Q : Type 0) → Caused f (λ name. ⊥) Q → IfRead f P
+unread_none fault.Memory P Q c = tt
+unread_none (fault.Read name) P Q c = absurd c
+unread_none fault.Messages P Q c = tt
+unread_none (fault.Story n) P Q c = tt
+
+pub if_read_none : {T : Type 0} (r : Result T Fault) (P : List ℕ → Type 0) (Q : Type 0) → IfErr r (λ f. Caused f (λ name. ⊥) Q) → IfErr r (λ f. IfRead f P)
+if_read_none (Ok x) P Q c = tt
+if_read_none (Err f) P Q c = unread_none f P Q c
+
+-- what holds at a fault leads to more
+pub on_err_leads : {T E : Type 0} (r : Result T E) (P Q : Type 0) → (P → Q) → OnErr r P → OnErr r Q
+on_err_leads (Ok x) P Q h p = tt
+on_err_leads (Err f) P Q h p = h p
 
 pub if_ok_always : {T E : Type 0} (r : Result T E) (A : Type 0) → A → IfOk r (λ x. A)
 if_ok_always (Ok x) A a = a

@@ -1,16 +1,15 @@
 use Rattle.std.proofs.Common.{◌≡◌, [], IfOk, refl, subst, sym}
-use Rattle.std.proofs.lemmas.Result.{on_err_weaker}
 use Rattle.inf_opcode.proofs.Growing.{on_err}
 use Rattle.inf_sources.specs.Open.{Open, opened_since}
 use Rattle.inf_sources.proofs.Calls.{went_as}
 use Rattle.inf_work.specs.Works.{work as work_of}
 use Rattle.inf_session.specs.Choices.{chosen}
-use Rattle.inf_session.specs.Delivered.{Delivers, EndsClean}
+use Rattle.inf_session.specs.Delivered.{Delivers, EndsClean, TakesFront}
 use Rattle.inf_session.specs.declared.compiled.Status.TheVariants as status
-use Rattle.inf_outcome.specs.Comes.{Concludes}
+use Rattle.inf_outcome.specs.Comes.{Concludes, Stops}
 use Rattle.inf_session.specs.Ending.{finished}
 use Rattle.inf_session.specs.Standing.{state}
-use Rattle.inf_outcome.proofs.Concluding.{concludes, if_ok_always, stops_ending, stops_reading}
+use Rattle.inf_outcome.proofs.Concluding.{concludes, if_ok_always, if_read_none, on_err_leads, stops_ending, stops_reading}
 use Rattle.inf_session.proofs.Delivering.{ends_behind, if_ok_more}
 use Rattle.inf_session.proofs.Leadings.{opened_behind}
 use Rattle.inf_outcome.proofs.translation.read_out.Goals as goal
@@ -39,12 +38,21 @@ returns-in-Ok-clause-stops g c = λ honest start nested.
     let files = g.F.Files in
     let s = files.sources c.args.files.now in
     let o = chosen c.args.session.setup in
+    let first = files.openings c.args.files.now in
+    let here = files.openings c.read.new.files in
+    let old = g.M.Sink.taken c.args.messages.now in
+    let mid = g.M.Sink.taken c.read.new.messages in
+    let new = g.M.Sink.taken c.finish.new.messages in
     let read = c.in-Ok.ensures.read honest start nested in
-    on_err_weaker c.finish.result.1
-    (λ t. stops_ending s o c.args.serial.now (state s start (files.openings c.args.files.now) c.args.session) (state s start (files.openings c.read.new.files) c.read.new.self)
-    (g.M.Sink.taken c.args.messages.now) (g.M.Sink.taken c.read.new.messages) (g.M.Sink.taken c.finish.new.messages) read.0 read.1
+    on_err_leads c.finish.result.1
+    (TakesFront (finished c.args.serial.now c.read.new.self.open_files.nest.names (work_of c.read.new.self.progress.work)).messages mid new)
+    (Stops s o c.args.serial.now (state s start first c.args.session []) old new)
+    (λ t. stops_ending s o c.args.serial.now (state s start first c.args.session) (state s start here c.read.new.self) old mid new read.0 read.1
     (λ told. c.in-Ok.ensures.ended) (λ told. refl) (λ told. t))
     c.finish.ensures.err
+
+pub returns-in-Ok-clause-heard : goal.returns-in-Ok-clause-heard
+returns-in-Ok-clause-heard g c = λ honest start nested. if_read_none c.finish.result.1 _ _ c.finish.ensures.fault
 
 pub returns-in-Err-clause-stops : goal.returns-in-Err-clause-stops
 returns-in-Err-clause-stops g c = λ honest start nested.
