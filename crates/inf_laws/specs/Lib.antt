@@ -3,3 +3,5 @@ pub mod Findings
 pub mod NameEvents
 pub mod Skipping
 pub mod BadTokens
+pub mod Sides
+pub mod Counts

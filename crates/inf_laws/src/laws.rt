@@ -1,7 +1,9 @@
 //! What the definitions give together.
 ghost use Rattle.inf_laws.specs.BadTokens.{BadTokensArePassedOver};
+ghost use Rattle.inf_laws.specs.Counts.{LimitsCountTheStory};
 ghost use Rattle.inf_laws.specs.Findings.{HeadersTellTheFirst};
 ghost use Rattle.inf_laws.specs.NameEvents.{FewHaveRoom, FirstDeclarationsCount, OperandsUse, UndeclaredAreTold, UnitsDeclare};
+ghost use Rattle.inf_laws.specs.Sides.{SidesAgree, SidesAreCut, SidesEnd};
 ghost use Rattle.inf_laws.specs.Skipping.{DirectivesAreSkipped, RoutinesAreSkipped, SourcesEnd};
 ghost use Rattle.inf_laws.specs.UnusedLocals.{HeadersMakeNew, UnusedAreWarned};
 
@@ -46,4 +48,18 @@ pub fn bad_pieces_are_skipped()
 /// closing one stands between them; everywhere else it is passed over as in a directive.
 pub fn bad_tokens_are_passed_over()
     ensures { BadTokensArePassedOver }
+{}
+
+/// The side of a conditional that is left out is cut, up to the `Ifnot` or `Endif` of its own level, by the levels that the other four words
+/// open and `Endif` ends, and so is what ends it. Of `Ifdef` it is the first side where no directive before declared the name, of `Ifndef`
+/// where one did.
+pub fn sides_are_cut()
+    ensures cut { SidesAreCut }
+    ensures ends { SidesEnd }
+    ensures agree { SidesAgree }
+{}
+
+/// What the limits of code and of references look at are the bytes of the story's code and the references of all of its areas.
+pub fn limits_count_the_story()
+    ensures { LimitsCountTheStory }
 {}
