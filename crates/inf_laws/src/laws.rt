@@ -7,6 +7,9 @@ ghost use Rattle.inf_laws.specs.Sides.{SidesAgree, SidesAreCut, SidesEnd};
 ghost use Rattle.inf_laws.specs.Skipping.{DirectivesAreSkipped, RoutinesAreSkipped, SourcesEnd};
 ghost use Rattle.inf_laws.specs.UnusedLocals.{HeadersMakeNew, UnusedAreWarned};
 
+use inf_tables::Tables;
+use inf_world::written_as_counted;
+
 /// Of all errors that its rules find, a header of a routine tells the first by token, and of two at one token the one whose
 /// message has the lower number.
 pub fn first_errors_are_told()
@@ -60,6 +63,8 @@ pub fn sides_are_cut()
 {}
 
 /// What the limits of code and of references look at are the bytes of the story's code and the references of all of its areas.
-pub fn limits_count_the_story()
-    ensures { LimitsCountTheStory }
-{}
+pub fn limits_count_the_story(tables: &Tables)
+    ensures { LimitsCountTheStory tables.now }
+{
+    written_as_counted(&tables.world);
+}
