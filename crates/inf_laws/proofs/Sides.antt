@@ -5,7 +5,12 @@ use Rattle.inf_scanner.specs.declared.tokens.Mark.TheVariants as mark
 use Rattle.inf_scanner.specs.declared.tokens.Place.{Place}
 use Rattle.inf_scanner.specs.declared.tokens.TokenKind.{TokenKind}
 use Rattle.inf_scanner.specs.declared.tokens.TokenKind.TheVariants as kind
+use Rattle.inf_machine.specs.Machine.{fits}
+use Rattle.inf_grammar.specs.Language.{grammar, known}
 use Rattle.inf_unit.specs.Tokens.{Spelled, is_end, is_mark}
+use Rattle.inf_conditionals.specs.Atoms.{atom_of}
+use Rattle.inf_conditionals.specs.Condition.{Condition, condition_took, is_whole, verdict_of}
+use Rattle.inf_conditionals.specs.Said.{too_much}
 use Rattle.inf_conditionals.specs.declared.judged.Site.{Site}
 use Rattle.inf_conditionals.specs.declared.open.LeftOut.{LeftOut}
 use Rattle.inf_conditionals.specs.declared.pending.Awaits.{Awaits}
@@ -14,10 +19,10 @@ use Rattle.inf_conditionals.specs.declared.pending.Effect.TheVariants as effect
 use Rattle.inf_conditionals.specs.declared.pending.Pending.{Pending}
 use Rattle.inf_conditionals.specs.declared.words.ConditionalWord.{ConditionalWord}
 use Rattle.inf_conditionals.specs.declared.words.ConditionalWord.TheVariants as word
-use Rattle.inf_conditionals.specs.Judging.{Behind, at_front, awaiting, begun, begun_by, effected, held, is_kept, judged, judged_by, kept, none_handed, offered, passed, passed_by, unfit}
+use Rattle.inf_conditionals.specs.Judging.{Behind, asked, asking, at_front, awaited, awaiting, begun, begun_by, decided, effected, held, is_kept, is_none_pending, judged, judged_by, kept, none_handed, offered, offered_to, passed, passed_by, saying, taken, unfit, went_on}
 use Rattle.inf_conditionals.specs.Open.{Conditions, ended_by, ends_at, is_second, latest, levels_behind, most_levels}
 use Rattle.inf_conditionals.specs.Words.{awaits_of, word_of}
-use Rattle.inf_laws.specs.Sides.{AllCut, EndsSide, Event, FirstSides, IsBetween, Piece, SidesAgree, SidesAreCut, SidesEnd, StayIn, StaysLeftOut, Token, became, behind, behind_all, directive, ends_side, is_last, level_after, level_behind, opened_at}
+use Rattle.inf_laws.specs.Sides.{AllCut, EndsSide, Event, FirstSides, IsBetween, IsLastOf, Piece, SidesAgree, SidesAreCut, SidesEnd, StayIn, StaysLeftOut, Token, ValuesDecide, became, behind, behind_all, directive, ends_side, is_last, level_after, level_behind, opened_at}
 
 -- Words
 
@@ -69,7 +74,7 @@ passed_is None t c side level sign declared e few = refl
 passed_is (Some w) t c side level sign declared e few =
     let here = inside c side level sign declared in
     ap (λ (b : Bool). cond b (awaiting (unwrap_or sign t.place) false (awaits.End effect.Nothing) (record (ended_by w here) { left_out = None; sign = None }))
-        (inside c side (levels_behind w level) None declared)) (ends_as w level (is_second (latest c)) false e)
+    (inside c side (levels_behind w level) None declared)) (ends_as w level (is_second (latest c)) false e)
     ∙ ap (λ (n : ℕ). inside c side n None declared) (level_is w level few)
 
 token_is : (site : Site) (names : Table Place) (t : Spelled) (c : Conditions) (side : LeftOut) (level : ℕ) (sign : Option Place) (declared : ℕ)
@@ -141,7 +146,7 @@ ending : (o : Option ConditionalWord) (t : Spelled) (c : Conditions) (side : Lef
 ending None t c side e = cc
 ending (Some w) t c side e =
     ap (λ (b : Bool). (cond b (awaiting (unwrap_or c.sign t.place) false (awaits.End effect.Nothing) (record (ended_by w c) { left_out = None; sign = None }))
-        (record c { left_out = Some (record side { levels = levels_behind w side.levels }); sign = None })).left_out) (ends_as w side.levels (is_second (latest c)) true e)
+    (record c { left_out = Some (record side { levels = levels_behind w side.levels }); sign = None })).left_out) (ends_as w side.levels (is_second (latest c)) true e)
 
 pub sides_end : SidesEnd
 sides_end site names t c side left_out going e =
@@ -176,7 +181,7 @@ end_step : (k : Bool) (site : Site) (names : Table Place) (t : Spelled) (p : Pen
 end_step k site names t p c no_hash is =
     let q : Pending = record p { awaits = awaits.End (effect.Opens k) } in
     ap (λ (b : Bool). cond b (passed (held (site.is_between && false) t.place (record (clear c) { pending = q ∷ [] })))
-        (cond (is_mark mark.Semicolon t.kind) (effected (effect.Opens k) site.is_quiet q (clear c)) (unfit (clear c)))) no_hash
+    (cond (is_mark mark.Semicolon t.kind) (effected (effect.Opens k) site.is_quiet q (clear c)) (unfit (clear c)))) no_hash
     ∙ ap (λ (b : Bool). cond b (effected (effect.Opens k) site.is_quiet q (clear c)) (unfit (clear c))) is
 
 first_side : (flag : Bool) (o : ConditionalWord) → awaits_of o ≡ awaits.Name flag → FirstSides o (λ b. cond flag b (not b))
@@ -199,3 +204,22 @@ first_side flag o awaits first second third names w end name place c at is_name 
 
 pub sides_agree : SidesAgree
 sides_agree = record { of_ifdef = first_side true word.Ifdef refl; of_ifndef = first_side false word.Ifndef refl }
+
+-- By the value of a condition
+
+pub values_decide : ValuesDecide
+values_decide site names t wanted p k c at =
+    let quiet = site.is_quiet in
+    let front = site.is_between && is_none_pending c.pending in
+    let read : Conditions = record c { pending = at.others } in
+    let here : Conditions = record read { conditions = at.around } in
+    let whole = condition_took t k in
+    ap (λ o. (judged_by o c.sign site names t c).now.left_out) at.all_kept
+    ∙ ap (λ o. (judged_by None o site names t c).now.left_out) at.no_sign
+    ∙ ap (λ b. (cond b (passed (held front t.place c)) (offered_to c.pending front quiet names t c)).now.left_out) at.no_hash
+    ∙ ap (λ ps. (offered_to ps front quiet names t c).now.left_out) at.is_read
+    ∙ ap (λ a. (awaited a quiet names t p read).now.left_out) at.waits
+    ∙ ap (λ ks. (asked ks wanted quiet names t p read).now.left_out) at.is_condition
+    ∙ ap (λ b. (cond b (went_on wanted quiet names t whole p here) (unfit here)).now.left_out) at.goes_on
+    ∙ ap (λ b. (cond b (decided (verdict_of here.declared names whole) wanted quiet whole p here)
+    (taken (asking p.place p.is_inner wanted whole (saying quiet (too_much here.longest t whole) here)))).now.left_out) at.is_last

@@ -4,11 +4,17 @@ use Rattle.inf_names.specs.Symbols.{Table, declared_before}
 use Rattle.inf_scanner.specs.declared.tokens.Mark.TheVariants as mark
 use Rattle.inf_scanner.specs.declared.tokens.Place.{Place}
 use Rattle.inf_scanner.specs.declared.tokens.TokenKind.TheVariants as kind
+use Rattle.inf_machine.specs.Machine.{fits}
+use Rattle.inf_grammar.specs.Language.{grammar, known}
 use Rattle.inf_unit.specs.Tokens.{Spelled, is_end, is_mark}
+use Rattle.inf_conditionals.specs.Atoms.{atom_of}
+use Rattle.inf_conditionals.specs.Condition.{Condition, condition_took, is_whole, verdict_of}
 use Rattle.inf_conditionals.specs.declared.judged.Judged.{Judged}
 use Rattle.inf_conditionals.specs.declared.judged.Site.{Site}
 use Rattle.inf_conditionals.specs.declared.open.Conditional.{Conditional}
 use Rattle.inf_conditionals.specs.declared.open.LeftOut.{LeftOut}
+use Rattle.inf_conditionals.specs.declared.pending.Awaits.TheVariants as awaits
+use Rattle.inf_conditionals.specs.declared.pending.Pending.{Pending}
 use Rattle.inf_conditionals.specs.declared.words.ConditionalWord.{ConditionalWord}
 use Rattle.inf_conditionals.specs.declared.words.ConditionalWord.TheVariants as word
 use Rattle.inf_conditionals.specs.Ends.{piece_ended}
@@ -126,3 +132,27 @@ FirstSides directive_word is_kept = (first second third : Site) (names : Table P
 pub record SidesAgree : Type 0 where
   pub of_ifdef : FirstSides word.Ifdef (λ b. b)
   pub of_ifndef : FirstSides word.Ifndef not
+
+-- a directive with a condition, of which a token is the last
+pub record IsLastOf (t : Spelled) (wanted : Bool) (p : Pending) (k : Condition) (c : Conditions) : Type 0 where
+  pub all_kept : c.left_out ≡ None
+  pub no_sign : c.sign ≡ None
+  pub others : List Pending
+  pub is_read : c.pending ≡ p ∷ others
+  pub waits : p.awaits ≡ awaits.Condition wanted
+  pub around : List Condition
+  pub is_condition : c.conditions ≡ k ∷ around
+  pub no_hash : is_mark mark.Hash t.kind ≡ false
+  pub goes_on : fits grammar known (atom_of t) k.stack ≡ true
+  pub is_last : is_whole (condition_took t k) ≡ true
+
+-- whether its first side is kept, where a true condition is wanted or a false one
+abbrev pub is_wanted : Bool → Bool → Bool
+is_wanted wanted is_true = if wanted then is_true else not is_true
+
+-- The first side of `Iftrue` is kept where its condition is true, and that of `Iffalse` where it is not, by the names that were declared by the directives
+-- before.
+abbrev pub ValuesDecide : Type 0
+ValuesDecide = (site : Site) (names : Table Place) (t : Spelled) (wanted : Bool) (p : Pending) (k : Condition) (c : Conditions) → IsLastOf t wanted p k c
+    → (judged site names t c).now.left_out
+    ≡ (if is_wanted wanted (verdict_of c.declared names (condition_took t k)).is_true then None else Some (record { is_inner = p.is_inner; levels = 0 }))

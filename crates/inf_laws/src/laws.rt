@@ -3,7 +3,7 @@ ghost use Rattle.inf_laws.specs.BadTokens.{BadTokensArePassedOver};
 ghost use Rattle.inf_laws.specs.Counts.{LimitsCountTheStory};
 ghost use Rattle.inf_laws.specs.Findings.{HeadersTellTheFirst};
 ghost use Rattle.inf_laws.specs.NameEvents.{FewHaveRoom, FirstDeclarationsCount, OperandsUse, UndeclaredAreTold, UnitsDeclare};
-ghost use Rattle.inf_laws.specs.Sides.{SidesAgree, SidesAreCut, SidesEnd};
+ghost use Rattle.inf_laws.specs.Sides.{SidesAgree, SidesAreCut, SidesEnd, ValuesDecide};
 ghost use Rattle.inf_laws.specs.Skipping.{DirectivesAreSkipped, RoutinesAreSkipped, SourcesEnd};
 ghost use Rattle.inf_laws.specs.UnusedLocals.{HeadersMakeNew, UnusedAreWarned};
 
@@ -55,11 +55,12 @@ pub fn bad_tokens_are_passed_over()
 
 /// The side of a conditional that is left out is cut, up to the `Ifnot` or `Endif` of its own level, by the levels that the other four words
 /// open and `Endif` ends, and so is what ends it. Of `Ifdef` it is the first side where no directive before declared the name, of `Ifndef`
-/// where one did.
+/// where one did; of `Iftrue` where the condition is false, of `Iffalse` where it is true.
 pub fn sides_are_cut()
     ensures cut { SidesAreCut }
     ensures ends { SidesEnd }
     ensures agree { SidesAgree }
+    ensures values { ValuesDecide }
 {}
 
 /// What the limits of code and of references look at are the bytes of the story's code and the references of all of its areas.
