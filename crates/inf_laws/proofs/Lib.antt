@@ -7,3 +7,4 @@ pub mod Skipping
 pub mod BadTokens
 pub mod Sides
 pub mod Counts
+pub mod MissingEnds

@@ -5,3 +5,4 @@ pub mod Skipping
 pub mod BadTokens
 pub mod Sides
 pub mod Counts
+pub mod MissingEnds

@@ -2,6 +2,7 @@
 ghost use Rattle.inf_laws.specs.BadTokens.{BadTokensArePassedOver};
 ghost use Rattle.inf_laws.specs.Counts.{LimitsCountTheStory};
 ghost use Rattle.inf_laws.specs.Findings.{HeadersTellTheFirst};
+ghost use Rattle.inf_laws.specs.MissingEnds.{MissingEndsAreTold};
 ghost use Rattle.inf_laws.specs.NameEvents.{FewHaveRoom, FirstDeclarationsCount, OperandsUse, UndeclaredAreTold, UnitsDeclare};
 ghost use Rattle.inf_laws.specs.Sides.{SidesAgree, SidesAreCut, SidesEnd, ValuesDecide};
 ghost use Rattle.inf_laws.specs.Skipping.{DirectivesAreSkipped, RoutinesAreSkipped, SourcesEnd};
@@ -61,6 +62,12 @@ pub fn sides_are_cut()
     ensures ends { SidesEnd }
     ensures agree { SidesAgree }
     ensures values { ValuesDecide }
+{}
+
+/// Where a conditional must end, at the end of its file or of the directive in which it was opened, those are told that no `Endif` of their own level
+/// closes, in the order in which they were opened.
+pub fn missing_ends_are_told()
+    ensures { MissingEndsAreTold }
 {}
 
 /// What the limits of code and of references look at are the bytes of the story's code and the references of all of its areas.
