@@ -8,3 +8,4 @@ pub mod BadTokens
 pub mod Sides
 pub mod Counts
 pub mod MissingEnds
+pub mod KeptTokens

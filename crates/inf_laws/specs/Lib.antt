@@ -6,3 +6,4 @@ pub mod BadTokens
 pub mod Sides
 pub mod Counts
 pub mod MissingEnds
+pub mod KeptTokens

@@ -3,6 +3,7 @@ ghost use Rattle.inf_laws.specs.BadTokens.{BadTokensArePassedOver};
 ghost use Rattle.inf_laws.specs.Counts.{LimitsCountTheStory};
 ghost use Rattle.inf_laws.specs.Findings.{HeadersTellTheFirst};
 ghost use Rattle.inf_laws.specs.MissingEnds.{MissingEndsAreTold};
+ghost use Rattle.inf_laws.specs.KeptTokens.{KeptTokensAreRead, TokensAreHandedOn};
 ghost use Rattle.inf_laws.specs.NameEvents.{FewHaveRoom, FirstDeclarationsCount, OperandsUse, UndeclaredAreTold, UnitsDeclare};
 ghost use Rattle.inf_laws.specs.Sides.{SidesAgree, SidesAreCut, SidesEnd, ValuesDecide};
 ghost use Rattle.inf_laws.specs.Skipping.{DirectivesAreSkipped, RoutinesAreSkipped, SourcesEnd};
@@ -68,6 +69,13 @@ pub fn sides_are_cut()
 /// closes, in the order in which they were opened.
 pub fn missing_ends_are_told()
     ensures { MissingEndsAreTold }
+{}
+
+/// How pieces are read is told by the tokens that conditionals hand on: those that are kept, and those that do not fit a conditional directive. They
+/// are taken to the end of a piece, or up to the bad one, which is the first that does not fit or with which they begin no piece.
+pub fn kept_tokens_are_read()
+    ensures handed_on { TokensAreHandedOn }
+    ensures read { KeptTokensAreRead }
 {}
 
 /// What the limits of code and of references look at are the bytes of the story's code and the references of all of its areas.
