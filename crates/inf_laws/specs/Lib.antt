@@ -5,5 +5,6 @@ pub mod Skipping
 pub mod BadTokens
 pub mod Sides
 pub mod Counts
-pub mod MissingEnds
 pub mod KeptTokens
+pub mod MissingEnds
+pub mod KeptTurns
