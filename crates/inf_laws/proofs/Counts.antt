@@ -86,7 +86,8 @@ limits_count_the_story tables counted code main strings begun closed few =
     let of_size : size_of (code_cells called finished) ≡ 8 + size_of finished = omega arith in
     let none : object_fixups (ended world.body) ≡ 0 = none_open (ended world.body) closed in
     let in_world : fixups_now world - 4 ≡ sum_by object_fixups world.objects + later_defaults world.declared = omega (arith, none) in
-    let sums = (
+    let all : 5 + later_count finished + ((fixups_now world - 4) + (laters tables.globals + (arrays_laters (all_of tables.arrays)
+    + (verbs_laters tables.verbs.list + (length tables.actions.routines + length tables.parsing))))) ≡ later_in order (story.areas main finished strings tables) = omega (
       arith,
       no_spaces,
       no_abbreviations,
@@ -101,8 +102,6 @@ limits_count_the_story tables counted code main strings begun closed few =
       of_code,
       later_known strings,
     ) in
-    let all : 5 + later_count finished + ((fixups_now world - 4) + (laters tables.globals + (arrays_laters (all_of tables.arrays)
-    + (verbs_laters tables.verbs.list + (length tables.actions.routines + length tables.parsing))))) ≡ later_in order (story.areas main finished strings tables) = omega sums in
     record {
       references = ap (λ b. references_with (cond b 5 4 + later_count finished) tables) begun
           ∙ all_added (5 + later_count finished) (fixups_now world - 4) (laters tables.globals) (arrays_laters (all_of tables.arrays)) (verbs_laters tables.verbs.list)
