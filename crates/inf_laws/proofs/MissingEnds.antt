@@ -5,7 +5,7 @@ use Rattle.inf_scanner.specs.declared.tokens.Place.{Place}
 use Rattle.inf_unit.specs.Messages.{FileNames, Reported}
 use Rattle.inf_conditionals.specs.declared.open.Conditional.{Conditional}
 use Rattle.inf_conditionals.specs.Ends.{file_told, piece_told, with_all_lone, with_lone}
-use Rattle.inf_conditionals.specs.Open.{Conditions, closed_by, turned_by, turned_first}
+use Rattle.inf_conditionals.specs.Open.{Conditions, closed, closed_by, opened, turned, turned_by, turned_first}
 use Rattle.inf_laws.specs.MissingEnds.{Change, Closes, MissingEndsAreTold, Opens, StandInside, Turns, all_changed, is_closed, never_closed, with_all_at}
 
 -- Places that are put before others and taken away
@@ -114,16 +114,16 @@ among_is : (changes : List Change) (c : Conditions) (places : List Place) → ma
 among_is [] c places e none inside = record { among = e; inner = none }
 among_is (Opens is_kept p ∷ changes) c places e none inside =
     let new : Conditional = record { place = p.place; is_second = false } in
-    let rest = among_is changes _ (p.place ∷ places)
+    let rest = among_is changes (opened is_kept p c) (p.place ∷ places)
     (ap (λ b. map place_of (cond b c.among (new ∷ c.among))) inside.0 ∙ ap (λ ps. p.place ∷ ps) e)
     (ap (λ b. cond b (new ∷ c.inner) c.inner) inside.0 ∙ none) inside.1 in
     record { among = rest.among; inner = rest.inner }
 among_is (Turns ∷ changes) c places e none inside =
-    let rest = among_is changes _ places
+    let rest = among_is changes (turned c) places
     (ap (λ i. map place_of (turned_by i c).among) none ∙ turned_places c.among ∙ e) (ap (λ i. (turned_by i c).inner) none ∙ none) inside in
     record { among = rest.among; inner = rest.inner }
 among_is (Closes ∷ changes) c places e none inside =
-    let rest = among_is changes _ (drop 1 places)
+    let rest = among_is changes (closed c) (drop 1 places)
     (ap (λ i. map place_of (closed_by i c).among) none ∙ dropped_places c.among ∙ ap (drop 1) e) (ap (λ i. (closed_by i c).inner) none ∙ none) inside in
     record { among = rest.among; inner = rest.inner }
 
@@ -133,13 +133,13 @@ inner_is : (changes : List Change) (c : Conditions) (places : List Place) → ma
 inner_is [] c places e inside = e
 inner_is (Opens is_kept p ∷ changes) c places e inside =
     let new : Conditional = record { place = p.place; is_second = false } in
-    inner_is changes _ (p.place ∷ places) (ap (λ b. map place_of (cond b (new ∷ c.inner) c.inner)) inside.0 ∙ ap (λ ps. p.place ∷ ps) e) inside.1
-inner_is (Turns ∷ changes) c places e inside = inner_is changes _ places (go c.inner refl ∙ e) inside
+    inner_is changes (opened is_kept p c) (p.place ∷ places) (ap (λ b. map place_of (cond b (new ∷ c.inner) c.inner)) inside.0 ∙ ap (λ ps. p.place ∷ ps) e) inside.1
+inner_is (Turns ∷ changes) c places e inside = inner_is changes (turned c) places (go c.inner refl ∙ e) inside
   where
     go : (i : List Conditional) → c.inner ≡ i → map place_of (turned_by i c).inner ≡ map place_of c.inner
     go [] is = refl
     go (x ∷ i) is = turned_places c.inner
-inner_is (Closes ∷ changes) c places e inside = inner_is changes _ (drop 1 places) (go c.inner refl ∙ ap (drop 1) e) inside
+inner_is (Closes ∷ changes) c places e inside = inner_is changes (closed c) (drop 1 places) (go c.inner refl ∙ ap (drop 1) e) inside
   where
     go : (i : List Conditional) → c.inner ≡ i → map place_of (closed_by i c).inner ≡ drop 1 (map place_of c.inner)
     go [] is = ap (map place_of) is ∙ sym (ap (λ cs. drop 1 (map place_of cs)) is)
