@@ -1,5 +1,5 @@
 -- The references and the bytes of the areas of a story.
-use Rattle.std.proofs.Common.{◌≡◌, ◌∙◌, ◌+◌, ◌-◌, ◌≤◌, ℕ, List, [], ◌∷◌, length, cond, true, refl, sym, ap, arith}
+use Rattle.std.proofs.Common.{◌≡◌, ◌∙◌, ◌+◌, ◌-◌, ◌≤◌, ℕ, List, [], ◌∷◌, codes, cond, length, map, true, refl, sym, ap, arith}
 use Rattle.std.proofs.Math.Nat.{min-eq_left}
 use Rattle.std.proofs.lemmas.List.Sums.{sum_by-cons}
 use Rattle.std.specs.Prelude.{sum_by}
@@ -9,6 +9,7 @@ use Rattle.inf_arrays.specs.Arrays.{all_of, arrays_laters}
 use Rattle.inf_arrays.specs.Kinds.{laters}
 use Rattle.inf_arrays.proofs.Sizes.{globals_later, laters_written as arrays_written}
 use Rattle.inf_cells.specs.Cells.{later_count, size_of}
+use Rattle.inf_characters.specs.declared.texts.TextItem.TheVariants.{Character}
 use Rattle.inf_code.specs.Code.{Routines, code_cells, known, reference_count}
 use Rattle.inf_dictionary.specs.Words.{dictionary_bytes}
 use Rattle.inf_link.specs.Areas.{order}
@@ -21,6 +22,7 @@ use Rattle.inf_properties.specs.declared.values.Property.{Property}
 use Rattle.inf_story.specs.Tables as story
 use Rattle.inf_tables.specs.Tables.{more, references_with}
 use Rattle.inf_tables.specs.declared.tables.Tables.{Tables}
+use Rattle.inf_text.specs.Packing.{packed}
 use Rattle.inf_verbs.specs.Verbs.{verbs_laters}
 use Rattle.inf_verbs.proofs.Sizes.{later_routines, laters_written as verbs_written}
 use Rattle.inf_world.specs.Areas.{area_cells}
@@ -35,7 +37,7 @@ later_known (byte ∷ bytes) = later_known bytes
 
 no_spaces : later_count story.low_strings ≡ 0
 unfolding story.low_strings
-no_spaces = later_known _
+no_spaces = later_known (packed (map Character (codes "   ")) [])
 
 no_abbreviations : later_count story.abbreviations ≡ 0
 unfolding story.abbreviations
@@ -48,9 +50,11 @@ nothing_sum f (p ∷ ps) none = omega (arith, sum_by-cons f p ps, none p, nothin
 
 nothing_later : (ps : List Property) → head_fixups owner.Nothing + (with_table (total owner.Nothing ps)).fixups ≡ 0
 nothing_later ps =
+    let none : (with_table (total owner.Nothing ps)).fixups ≡ 0 =
     ap (λ n. (with_table (record { bytes = bytes_of owner.Nothing ps; fixups = fixups_of owner.Nothing ps; individuals = n })).fixups)
     (nothing_sum (λ p. (property_size owner.Nothing p).individuals) ps (λ p. refl))
-    ∙ nothing_sum (λ p. (property_size owner.Nothing p).fixups) ps (λ p. refl)
+    ∙ nothing_sum (λ p. (property_size owner.Nothing p).fixups) ps (λ p. refl) in
+    omega (arith, none)
 
 none_open : (o : Object) → o.owner ≡ owner.Nothing → object_fixups o ≡ 0
 none_open o e = ap (λ (w : Owner). head_fixups w + (with_table (total w o.properties)).fixups) e ∙ nothing_later o.properties
