@@ -127,7 +127,7 @@ no_array_piece (atom ∷ atoms) some =
         ap (λ b. b && begin_array atoms) e ∙ no_array_behind atoms (sym (ap (λ symbols. is_some (read grammar known symbols atoms)) left) ∙ t.goes_on)
     by_sign false e = ap (λ b. b && begin_array atoms) e
 
-bracketed : (tokens : List Spelled) → BeginsPiece tokens → is_inside (read grammar known (Rule piece_rule ∷ []) (map atom_of tokens)) ≡ opened_by_all false tokens
+pub bracketed : (tokens : List Spelled) → BeginsPiece tokens → is_inside (read grammar known (Rule piece_rule ∷ []) (map atom_of tokens)) ≡ opened_by_all false tokens
 bracketed tokens b =
     open_routines_are_bracketed (map atom_of tokens) b.begins
     ∙ ap (λ a. not a && open_behind_all false (map atom_of tokens)) (no_array_piece (map atom_of tokens) ((bad_tokens_begin_nothing grammar known piece_rule (map atom_of tokens) language_is_decided).1 b.begins))

@@ -1,9 +1,16 @@
 //! What the definitions give together.
 ghost use Rattle.inf_laws.specs.BadTokens.{BadTokensArePassedOver};
+ghost use Rattle.inf_laws.specs.Counts.{LimitsCountTheStory};
 ghost use Rattle.inf_laws.specs.Findings.{HeadersTellTheFirst};
+ghost use Rattle.inf_laws.specs.MissingEnds.{MissingEndsAreTold};
+ghost use Rattle.inf_laws.specs.KeptTokens.{KeptTokensAreRead, TokensAreHandedOn};
 ghost use Rattle.inf_laws.specs.NameEvents.{FewHaveRoom, FirstDeclarationsCount, OperandsUse, UndeclaredAreTold, UnitsDeclare};
+ghost use Rattle.inf_laws.specs.Sides.{SidesAgree, SidesAreCut, SidesEnd, ValuesDecide};
 ghost use Rattle.inf_laws.specs.Skipping.{DirectivesAreSkipped, RoutinesAreSkipped, SourcesEnd};
 ghost use Rattle.inf_laws.specs.UnusedLocals.{HeadersMakeNew, UnusedAreWarned};
+
+use inf_tables::Tables;
+use inf_world::written_as_counted;
 
 /// Of all errors that its rules find, a header of a routine tells the first by token, and of two at one token the one whose
 /// message has the lower number.
@@ -47,3 +54,33 @@ pub fn bad_pieces_are_skipped()
 pub fn bad_tokens_are_passed_over()
     ensures { BadTokensArePassedOver }
 {}
+
+/// The side of a conditional that is left out is cut, up to the `Ifnot` or `Endif` of its own level, by the levels that the other four words
+/// open and `Endif` ends, and so is what ends it. Of `Ifdef` it is the first side where no directive before declared the name, of `Ifndef`
+/// where one did; of `Iftrue` where the condition is false, of `Iffalse` where it is true.
+pub fn sides_are_cut()
+    ensures cut { SidesAreCut }
+    ensures ends { SidesEnd }
+    ensures agree { SidesAgree }
+    ensures values { ValuesDecide }
+{}
+
+/// Where a conditional must end, at the end of its file or of the directive in which it was opened, those are told that no `Endif` of their own level
+/// closes, in the order in which they were opened.
+pub fn missing_ends_are_told()
+    ensures { MissingEndsAreTold }
+{}
+
+/// How pieces are read is told by the tokens that conditionals hand on: those that are kept, and those that do not fit a conditional directive. They
+/// are taken to the end of a piece, or up to the bad one, which is the first that does not fit or with which they begin no piece.
+pub fn kept_tokens_are_read()
+    ensures handed_on { TokensAreHandedOn }
+    ensures read { KeptTokensAreRead }
+{}
+
+/// What the limits of code and of references look at are the bytes of the story's code and the references of all of its areas.
+pub fn limits_count_the_story(tables: &Tables)
+    ensures { LimitsCountTheStory tables.now }
+{
+    written_as_counted(&tables.world);
+}

@@ -1,0 +1,115 @@
+-- The references and the bytes of the areas of a story.
+use Rattle.std.proofs.Common.{◌≡◌, ◌∙◌, ◌+◌, ◌-◌, ◌≤◌, ℕ, List, [], ◌∷◌, codes, cond, length, map, true, refl, sym, ap, arith}
+use Rattle.std.proofs.Math.Nat.{min-eq_left}
+use Rattle.std.proofs.lemmas.List.Sums.{sum_by-cons}
+use Rattle.std.specs.Prelude.{sum_by}
+use Rattle.inf_area.specs.declared.targets.AreaName.TheVariants as area
+use Rattle.inf_area.specs.declared.targets.Target.TheVariants as target
+use Rattle.inf_arrays.specs.Arrays.{all_of, arrays_laters}
+use Rattle.inf_arrays.specs.Kinds.{laters}
+use Rattle.inf_arrays.proofs.Sizes.{globals_later, laters_written as arrays_written}
+use Rattle.inf_cells.specs.Cells.{later_count, size_of}
+use Rattle.inf_characters.specs.declared.texts.TextItem.TheVariants.{Character}
+use Rattle.inf_code.specs.Code.{Routines, code_cells, known, reference_count}
+use Rattle.inf_dictionary.specs.Words.{dictionary_bytes}
+use Rattle.inf_link.specs.Areas.{order}
+use Rattle.inf_objects.specs.Objects.{ended, head_fixups, object_fixups}
+use Rattle.inf_objects.specs.declared.objects.Object.{Object}
+use Rattle.inf_properties.specs.Sizes.{bytes_of, fixups_of, size_of as property_size, total, with_table}
+use Rattle.inf_properties.specs.declared.sizes.Owner.{Owner}
+use Rattle.inf_properties.specs.declared.sizes.Owner.TheVariants as owner
+use Rattle.inf_properties.specs.declared.values.Property.{Property}
+use Rattle.inf_story.specs.Tables as story
+use Rattle.inf_tables.specs.Tables.{more, references_with}
+use Rattle.inf_tables.specs.declared.tables.Tables.{Tables}
+use Rattle.inf_text.specs.Packing.{packed}
+use Rattle.inf_verbs.specs.Verbs.{verbs_laters}
+use Rattle.inf_verbs.proofs.Sizes.{later_routines, laters_written as verbs_written}
+use Rattle.inf_world.specs.Areas.{area_cells}
+use Rattle.inf_world.specs.World.{WorldOf, ended_fixups, fixups_now, later_defaults}
+use Rattle.inf_world.specs.declared.kinds.WorldArea.TheVariants as world_area
+use Rattle.inf_laws.specs.Counts.{LimitsCountTheStory, later_in}
+
+-- bytes alone have none
+later_known : (bytes : List ℕ) → later_count (known bytes) ≡ 0
+later_known [] = refl
+later_known (byte ∷ bytes) = later_known bytes
+
+no_spaces : later_count story.low_strings ≡ 0
+unfolding story.low_strings
+no_spaces = later_known (packed (map Character (codes "   ")) [])
+
+no_abbreviations : later_count story.abbreviations ≡ 0
+unfolding story.abbreviations
+no_abbreviations = refl
+
+-- what belongs to nothing has none
+nothing_sum : (f : Property → ℕ) (ps : List Property) → ((p : Property) → f p ≡ 0) → sum_by f ps ≡ 0
+nothing_sum f [] none = refl
+nothing_sum f (p ∷ ps) none = omega (arith, sum_by-cons f p ps, none p, nothing_sum f ps none)
+
+nothing_later : (ps : List Property) → head_fixups owner.Nothing + (with_table (total owner.Nothing ps)).fixups ≡ 0
+nothing_later ps =
+    let none : (with_table (total owner.Nothing ps)).fixups ≡ 0 =
+    ap (λ n. (with_table (record { bytes = bytes_of owner.Nothing ps; fixups = fixups_of owner.Nothing ps; individuals = n })).fixups)
+    (nothing_sum (λ p. (property_size owner.Nothing p).individuals) ps (λ p. refl))
+    ∙ nothing_sum (λ p. (property_size owner.Nothing p).fixups) ps (λ p. refl) in
+    omega (arith, none)
+
+none_open : (o : Object) → o.owner ≡ owner.Nothing → object_fixups o ≡ 0
+none_open o e = ap (λ (w : Owner). head_fixups w + (with_table (total w o.properties)).fixups) e ∙ nothing_later o.properties
+
+-- counts that stay below the greatest number are added
+added : (a b : ℕ) → a + b ≤ 18446744073709551615 → more a b ≡ a + b
+unfolding more
+added a b few = min-eq_left few
+
+all_added : (n w g a v r p : ℕ) → n + (w + (g + (a + (v + (r + p))))) ≤ 18446744073709551615
+    → more n (more (more (more w g) a) (more v (more r p))) ≡ n + (w + (g + (a + (v + (r + p)))))
+all_added n w g a v r p few =
+    ap (λ x. more n (more (more x a) (more v (more r p)))) (added w g (omega (arith, few)))
+    ∙ ap (λ x. more n (more x (more v (more r p)))) (added (w + g) a (omega (arith, few)))
+    ∙ ap (λ x. more n (more (w + g + a) (more v x))) (added r p (omega (arith, few)))
+    ∙ ap (λ x. more n (more (w + g + a) x)) (added v (r + p) (omega (arith, few)))
+    ∙ ap (λ x. more n x) (added (w + g + a) (v + (r + p)) (omega (arith, few)))
+    ∙ added n (w + g + a + (v + (r + p))) (omega (arith, few))
+    ∙ omega arith
+
+-- the references of the areas of a world are counted
+abbrev Counted : WorldOf → Type 0
+Counted w = later_count (area_cells world_area.PropertyDefaults w) + later_count (area_cells world_area.Objects w)
+    + later_count (area_cells world_area.PropertyTables w) + later_count (area_cells world_area.ClassNumbers w)
+    + later_count (area_cells world_area.IndividualTables w) ≡ ended_fixups w.objects + later_defaults w.declared
+
+pub limits_count_the_story : (tables : Tables) → Counted tables.world → LimitsCountTheStory tables
+limits_count_the_story tables counted code main strings begun closed few =
+    let finished = code.finished in
+    let world = tables.world in
+    let called = target.Place area.Code main in
+    let of_code : later_count (code_cells called finished) ≡ 1 + later_count finished = refl in
+    let of_size : size_of (code_cells called finished) ≡ 8 + size_of finished = omega arith in
+    let none : object_fixups (ended world.body) ≡ 0 = none_open (ended world.body) closed in
+    let in_world : fixups_now world - 4 ≡ sum_by object_fixups world.objects + later_defaults world.declared = omega (arith, none) in
+    let all : 5 + later_count finished + ((fixups_now world - 4) + (laters tables.globals + (arrays_laters (all_of tables.arrays)
+    + (verbs_laters tables.verbs.list + (length tables.actions.routines + length tables.parsing))))) ≡ later_in order (story.areas main finished strings tables) = omega (
+      arith,
+      no_spaces,
+      no_abbreviations,
+      counted,
+      in_world,
+      globals_later tables.globals,
+      arrays_written (all_of tables.arrays),
+      verbs_written tables.verbs.list,
+      later_routines tables.actions.routines,
+      later_routines tables.parsing,
+      later_known (dictionary_bytes tables.dictionary.list),
+      of_code,
+      later_known strings,
+    ) in
+    record {
+      references = ap (λ b. references_with (cond b 5 4 + later_count finished) tables) begun
+          ∙ all_added (5 + later_count finished) (fixups_now world - 4) (laters tables.globals) (arrays_laters (all_of tables.arrays)) (verbs_laters tables.verbs.list)
+          (length tables.actions.routines) (length tables.parsing) (omega (arith, few, all))
+          ∙ all;
+      bytes = ap (λ b. cond b 8 0 + size_of finished) begun ∙ sym of_size;
+    }

@@ -1,0 +1,5 @@
+use Rattle.inf_laws.proofs.KeptTokens.{kept_tokens_are_read, tokens_are_handed_on}
+use Rattle.inf_laws.proofs.laws.kept_tokens_are_read.Goals as goal
+
+pub returns : goal.returns
+returns c = record { handed_on = tokens_are_handed_on; read = kept_tokens_are_read }
