@@ -8,6 +8,8 @@ mod conditionals;
 #[cfg(test)]
 mod faults;
 #[cfg(test)]
+mod given;
+#[cfg(test)]
 mod including;
 #[cfg(test)]
 mod reading;

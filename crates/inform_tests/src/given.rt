@@ -1,0 +1,232 @@
+//! How many bytes of each source were given behind each step of a session.
+ghost use Rattle.std.specs.Prelude.{◌≡◌, ◌<◌, IfOk, None, OnOk, [], false, length, min};
+ghost use Rattle.inf_session.specs.Standing.{IsSet};
+ghost use Rattle.inf_token.specs.Files.{last_count};
+
+use inf_session::session::Session;
+use inf_session::setup::Setup;
+use inf_settings::setting::Setting;
+use inf_settings::settings::Settings;
+use inf_sources::open_files::OpenFiles;
+use inf_symbol::memory_sink::MemorySink;
+use inf_text::CharSet;
+use inf_token::failures::Failures;
+use inf_token::files::{Files, OpenFault, ReadFault};
+use inf_token::memory_files::MemoryFiles;
+use inform_trials::devices::folder_of;
+use std::alloc::{AllocError, Global};
+use std::process::Abort;
+use std::test::Fail;
+
+/// The files of a folder, with how many bytes were given of the first source and of those that it includes.
+#[derive(Drop)]
+struct Counted {
+    files: MemoryFiles,
+    failures: Failures,
+    depth: usize,
+    first: usize,
+    included: usize,
+}
+
+impl Counted {
+    /// These files, of which nothing was given.
+    fn new(files: MemoryFiles) -> Counted
+        ensures { result.files ≡ files }
+    {
+        Counted {
+            files,
+            failures: Failures::none(),
+            depth: 0,
+            first: 0,
+            included: 0,
+        }
+    }
+}
+
+impl Files for Counted {
+    ghost faults = { λ f. f.failures };
+
+    ghost given = { λ f. f.files.given };
+
+    ghost is_honest = { λ _. false };
+
+    ghost sources = { λ _ _. None };
+
+    ghost openings = { λ _. record { all = []; open_places = [] } };
+
+    ghost depth = { λ f. length f.files.openings.open_places };
+
+    ghost opened = { λ f. min (length f.files.openings.all) last_count };
+
+    fn open(&mut self, name: &str) -> Result<(), OpenFault> {
+        let opened = self.files.open(name);
+        if opened.is_ok() {
+            self.depth = self.depth.saturating_add(1);
+        }
+        opened
+    }
+
+    fn read(&mut self, to: &mut [u8]) -> Result<usize, ReadFault> {
+        let read = self.files.read(to);
+        if let Ok(count) = read {
+            if self.depth > 1 {
+                self.included = self.included.saturating_add(count);
+            } else {
+                self.first = self.first.saturating_add(count);
+            }
+        }
+        read
+    }
+
+    fn close(&mut self) {
+        self.depth = self.depth.saturating_sub(1);
+        self.files.close();
+    }
+}
+
+/// A session with its devices.
+#[derive(Drop)]
+struct Run<'a> {
+    session: Session<'a>,
+    files: Counted,
+    messages: MemorySink,
+}
+
+/// Where the pieces end that were read: in the first source, and in the one that it includes.
+type Ends = (usize, usize);
+
+/// Asserts that the piece was given, and at most a window behind it.
+fn assert_near(rt: &impl Abort, given: usize, end: usize) {
+    assert!(rt; given >= end, "{given}");
+    assert!(rt; given <= end.saturating_add(4096), "{given}");
+}
+
+/// A session at the front of `t.inf`.
+fn begin<'a>(
+    alloc: Global,
+    settings: &'a Settings,
+    files: &mut Counted,
+) -> Result<Session<'a>, Fail>
+    ensures is_open { IfOk result (λ session. length session.open_files.outer < length files.new.files.openings.open_places) }
+    ensures goes { IfOk result (λ session. session.open_files.lexer.has_failed ≡ false) }
+    ensures set { IfOk result (λ session. IsSet session) }
+{
+    let limit = settings.of(Setting::QuotedText);
+    let open_files = OpenFiles::enter_main(alloc, CharSet::Latin1, limit, files, "t.inf")?;
+    let setup = Setup {
+        set: CharSet::Latin1,
+        has_warnings: true,
+        settings,
+        directories: &[],
+    };
+    let Ok(session) = Session::new(alloc, setup, open_files) else {
+        return Err(AllocError.into());
+    };
+    Ok(session)
+}
+
+impl<'a> Run<'a> {
+    /// Makes a step, and asserts what was given.
+    fn step(&mut self, rt: &impl Abort, first: usize, included: usize) -> Result<(), Fail>
+        requires is_open { length self.old.session.open_files.outer < length self.old.files.files.openings.open_places }
+        requires goes { self.old.session.open_files.lexer.has_failed ≡ false }
+        requires set { IsSet self.old.session }
+        ensures is_open { length self.new.session.open_files.outer < length self.new.files.files.openings.open_places }
+        ensures goes { OnOk result (self.new.session.open_files.lexer.has_failed ≡ false) }
+        ensures set { IsSet self.new.session }
+    {
+        self.session.step(&mut self.files, &mut self.messages)?;
+        assert_near(rt, self.files.first, first);
+        assert_near(rt, self.files.included, included);
+        Ok(())
+    }
+
+    /// Ends the session and closes its files.
+    fn close(self)
+        requires is_open { length self.session.open_files.outer < length self.files.files.openings.open_places }
+    {
+        let Run {
+            session,
+            mut files,
+            mut messages,
+        } = self;
+        let (open_files, _) = session.finish(b"260307", &mut messages);
+        open_files.close(&mut files);
+    }
+}
+
+/// Makes a step for each of these.
+fn make_steps(rt: &impl Abort, run: &mut Run<'_>, ends: &[Ends]) -> Result<(), Fail>
+    requires is_open { length run.old.session.open_files.outer < length run.old.files.files.openings.open_places }
+    requires goes { run.old.session.open_files.lexer.has_failed ≡ false }
+    requires set { IsSet run.old.session }
+    ensures is_open { length run.new.session.open_files.outer < length run.new.files.files.openings.open_places }
+{
+    for (first, included) in ends {
+        run.step(rt, *first, *included)?;
+    }
+    Ok(())
+}
+
+/// Makes a step for each of these from the front of some files, and ends the session.
+fn step_through(
+    rt: &impl Abort,
+    alloc: Global,
+    files: MemoryFiles,
+    ends: &[Ends],
+) -> Result<(), Fail> {
+    let settings = Settings::new();
+    let mut files = Counted::new(files);
+    let session = begin(alloc, &settings, &mut files)?;
+    let mut run = Run {
+        session,
+        files,
+        messages: MemorySink::new(alloc),
+    };
+    let made = make_steps(rt, &mut run, ends);
+    run.close();
+    made
+}
+
+/// Three directives, of which the second is an inclusion, with 5,000 spaces between them.
+fn outer_source(alloc: Global) -> Result<Vec<u8>, Fail> {
+    let spaces = b" ".as_slice().repeat(alloc, 5000)?;
+    let mut source = b"Message \"a\";".as_slice().repeat(alloc, 1)?;
+    source.extend_from_slice(spaces.as_slice())?;
+    source.extend_from_slice(b"Include \"c.h\";")?;
+    source.extend_from_slice(spaces.as_slice())?;
+    source.extend_from_slice(b"Message \"b\";")?;
+    Ok(source)
+}
+
+/// Two directives, with 5,000 spaces between them.
+fn inner_source(alloc: Global) -> Result<Vec<u8>, Fail> {
+    let mut source = b"Message \"c\";".as_slice().repeat(alloc, 1)?;
+    source.extend_from_slice(b" ".as_slice().repeat(alloc, 5000)?.as_slice())?;
+    source.extend_from_slice(b"Message \"d\";")?;
+    Ok(source)
+}
+
+/// Where the pieces end behind each step. The fifth reads the end of the included file, and the last but one that of the first.
+static ENDS: [Ends; 8] = [
+    (12, 0),
+    (5026, 0),
+    (5026, 12),
+    (5026, 5024),
+    (5026, 5024),
+    (10038, 5024),
+    (10038, 5024),
+    (10038, 5024),
+];
+
+#[test]
+fn of_each_source_little_is_given_behind_a_step(rt: HostRuntime) -> Result<(), Fail> {
+    let alloc = rt.alloc();
+    let outer = outer_source(alloc)?;
+    let inner = inner_source(alloc)?;
+    let files = folder_of(
+        alloc,
+        &[("t.inf", outer.as_slice()), ("c.h", inner.as_slice())],
+    )?;
+    step_through(&rt, alloc, files, &ENDS)
+}
