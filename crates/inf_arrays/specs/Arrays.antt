@@ -1,5 +1,5 @@
 -- The arrays of a story: each is its kind and its entries; the last one may be open.
-use Rattle.std.specs.Prelude.{ℕ, ◌+◌, ◌*◌, ◌≤◌, List, [], ◌∷◌, ◌++◌, Option, Some, None, Bool, true, false, nat_lt, length, map, option_map, option_to_list, if◌then◌else◌}
+use Rattle.std.specs.Prelude.{ℕ, ◌+◌, ◌*◌, ◌≤◌, List, [], ◌∷◌, ◌++◌, Option, Some, None, Bool, true, false, nat_lt, length, map, option_map, option_to_list, replicate, if◌then◌else◌}
 use Rattle.inf_area.specs.declared.targets.Value.{Value}
 use Rattle.inf_area.specs.declared.targets.Value.TheVariants as value
 use Rattle.inf_cells.specs.declared.cells.Cell.{Cell}
@@ -95,6 +95,22 @@ zeros_fault count arrays = if nat_lt count 1 then Some fault.NoEntries else faul
 -- characters are bytes
 abbrev pub characters_fault : List ℕ → AllArrays → Option ArrayFault
 characters_fault text arrays = fault_by (length text) true arrays
+
+-- What an entry of a source adds: a value, so many zeros, or characters.
+pub data Adding : Type 0 where
+  One : (v : Value) → Adding
+  Zeros : (count : ℕ) → Adding
+  Characters : (text : List ℕ) → Adding
+
+abbrev pub values_in : Adding → List Value
+values_in (One v) = v ∷ []
+values_in (Zeros count) = replicate count (value.Known 0)
+values_in (Characters text) = characters text
+
+abbrev pub added_fault : Adding → AllArrays → Option ArrayFault
+added_fault (One v) arrays = entries_fault (v ∷ []) arrays
+added_fault (Zeros count) arrays = zeros_fault count arrays
+added_fault (Characters text) arrays = characters_fault text arrays
 
 -- as they are written
 abbrev pub array_cells : Listed → List Cell

@@ -1,3 +1,4 @@
+pub mod Adding
 pub mod Arrays
 pub mod Globals
 pub mod Kinds

@@ -5,7 +5,8 @@ ghost use Rattle.inf_area.specs.declared.targets.AreaName.TheVariants as area_na
 ghost use Rattle.inf_area.specs.declared.targets.Value.TheVariants.{Known};
 ghost use Rattle.inf_cells.specs.Cells.{bytes_of, fixups_of, later_count};
 ghost use Rattle.inf_cells.specs.declared.cells.WriteFault.TheVariants as write_fault;
-ghost use Rattle.inf_arrays.specs.Arrays.{HasRoom, all_of, array_cells, arrays_cells, arrays_laters, arrays_size, characters, characters_fault, closed_one, entries_fault, fault_by, no_arrays, opened, open_fault, with_entries, zeros_fault};
+ghost use Rattle.inf_arrays.specs.Adding.{added};
+ghost use Rattle.inf_arrays.specs.Arrays.{HasRoom, added_fault, all_of, array_cells, arrays_cells, arrays_laters, arrays_size, characters, characters_fault, closed_one, entries_fault, fault_by, no_arrays, opened, open_fault, values_in, with_entries, zeros_fault};
 ghost use Rattle.inf_arrays.specs.Kinds.{bytes_cells, count_cells, count_size, entries_cells, low_byte};
 ghost use Rattle.inf_arrays.specs.Listing.{listed};
 ghost use Rattle.inf_arrays.specs.declared.arrays.ArrayFault.TheVariants.{Memory};
@@ -37,6 +38,16 @@ impl From<AllocError> for ArrayFault {
     fn from(_error: AllocError) -> ArrayFault {
         ArrayFault::Memory
     }
+}
+
+/// What an entry of a source adds to its array.
+#[derive(Clone, Copy, Debug)]
+pub enum Entries<'a> {
+    One(Value),
+    /// So many zeros: a number alone.
+    Zeros(u16),
+    /// The characters of a text alone, in ZSCII.
+    Characters(&'a [u8]),
 }
 
 /// An array, as far as it was read.
@@ -204,17 +215,19 @@ impl Arrays {
         Ok(())
     }
 
-    /// An entry of the open array. There is one.
+    /// An entry of the open array. Where none is open nothing happens.
     ///
     /// Refuses first a value that cannot stand there (`ArrayKind::misfit`), then where there would be more bytes than there may be, then
     /// where no memory is left. All then stay as they were.
     pub fn entry(&mut self, value: Value) -> Result<(), ArrayFault>
-        requires { IsSome self.old.open_one }
         ensures ok { OnOk result (self.new ≡ with_entries (value ∷ []) self.old) }
         ensures err { OnErr result (self.new ≡ self.old) }
         ensures fault { let fault = entries_fault (value ∷ []) self.old in
             MatchResult result (λ _. fault ≡ None) (λ refused. refused ≡ unwrap_or fault Memory) }
     {
+        if self.open.is_none() {
+            return Ok(());
+        }
         if let Some(fault) = self.fault(1, is_byte(value)) {
             return Err(fault);
         }
@@ -222,11 +235,10 @@ impl Arrays {
         Ok(())
     }
 
-    /// As many zeros as entries of the open array, as a number alone asks for. There is an open array.
+    /// As many zeros as entries of the open array, as a number alone asks for. Where none is open nothing happens.
     ///
     /// Refuses a size of 0 first, and then as `entry` does.
     pub fn zeros(&mut self, count: u16) -> Result<(), ArrayFault>
-        requires { IsSome self.old.open_one }
         ensures ok { OnOk result (self.new ≡ with_entries (replicate count (Known 0)) self.old) }
         ensures err { OnErr result (self.new ≡ self.old) }
         ensures fault { let fault = zeros_fault count self.old in
@@ -234,6 +246,9 @@ impl Arrays {
     {
         if count == 0 {
             return Err(ArrayFault::NoEntries);
+        }
+        if self.open.is_none() {
+            return Ok(());
         }
         if let Some(fault) = self.fault(count as usize, true) {
             return Err(fault);
@@ -243,22 +258,63 @@ impl Arrays {
         Ok(())
     }
 
-    /// The characters of a text, in ZSCII, as entries of the open array, as a text alone gives them. There is an open array.
+    /// The characters of a text, in ZSCII, as entries of the open array, as a text alone gives them. Where none is open nothing happens.
     ///
     /// Refuses as `entry` does.
     pub fn characters(&mut self, text: &[u8]) -> Result<(), ArrayFault>
-        requires { IsSome self.old.open_one }
         ensures ok { OnOk result (self.new ≡ with_entries (characters text.now) self.old) }
         ensures err { OnErr result (self.new ≡ self.old) }
         ensures fault { let fault = characters_fault text.now self.old in
             MatchResult result (λ _. fault ≡ None) (λ refused. refused ≡ unwrap_or fault Memory) }
     {
+        if self.open.is_none() {
+            return Ok(());
+        }
         if let Some(fault) = self.fault(text.len(), true) {
             return Err(fault);
         }
         let values = characters(self.alloc, text)?;
         self.append(&values)?;
         Ok(())
+    }
+
+    /// Adds what an entry of a source adds to the open array. Where none is open nothing happens.
+    ///
+    /// Refuses as `entry`, `zeros` and `characters` do.
+    pub fn add(&mut self, entries: Entries<'_>) -> Result<(), ArrayFault>
+        ensures ok { OnOk result (self.new ≡ with_entries (values_in (added entries.entry)) self.old) }
+        ensures err { OnErr result (self.new ≡ self.old) }
+        ensures fault { let fault = added_fault (added entries.entry) self.old in
+            MatchResult result (λ _. fault ≡ None) (λ refused. refused ≡ unwrap_or fault Memory) }
+    {
+        match entries {
+            Entries::One(value) => self.entry(value),
+            Entries::Zeros(count) => self.zeros(count),
+            Entries::Characters(text) => self.characters(text),
+        }
+    }
+
+    /// Why `add` would refuse these, but for want of memory.
+    pub fn add_fault(&self, entries: Entries<'_>) -> Option<ArrayFault>
+        ensures { result ≡ added_fault (added entries.entry) self.now }
+    {
+        match entries {
+            Entries::One(value) => self.fault_of(1, is_byte(value)),
+            Entries::Zeros(0) => Some(ArrayFault::NoEntries),
+            Entries::Zeros(count) => self.fault_of(count as usize, true),
+            Entries::Characters(text) => self.fault_of(text.len(), true),
+        }
+    }
+
+    // Why there cannot be so many more entries, where it is known whether they are bytes; nothing, where no array is open.
+    fn fault_of(&self, added: usize, fit: bool) -> Option<ArrayFault>
+        requires { added < 2 ^ 63 }
+        ensures { result ≡ fault_by added fit self.now }
+    {
+        if self.open.is_none() {
+            return None;
+        }
+        self.fault(added, fit)
     }
 
     // Why the open array cannot have so many more entries, whatever memory there is, where it is known whether they are bytes.

@@ -1,8 +1,8 @@
 -- How the grammar sees a token.
-use Rattle.std.specs.Prelude.{ℕ, ◌+◌, List}
+use Rattle.std.specs.Prelude.{ℕ, ◌+◌, List, Bool, false, if◌then◌else◌}
 use Rattle.inf_scanner.specs.declared.tokens.TokenKind.{TokenKind}
 use Rattle.inf_scanner.specs.declared.tokens.TokenKind.TheVariants as kind
-use Rattle.inf_syntax.specs.Atoms.{mark_atom, place_in, first_word, first_literal}
+use Rattle.inf_syntax.specs.Atoms.{mark_atom, place_in, first_word, first_literal, names}
 use Rattle.inf_syntax.specs.Words.{words}
 use Rattle.inf_unit.specs.Tokens.{Spelled}
 
@@ -25,19 +25,24 @@ bad_atom = first_literal + 4
 abbrev pub end_atom : ℕ
 end_atom = first_literal + 5
 
-abbrev pub name_atom : List ℕ → ℕ
-name_atom bytes = first_word + 0 + place_in bytes words
+-- the atoms of the names of classes are others than those of other names
+abbrev pub name_atom : Bool → List ℕ → ℕ
+name_atom is_class bytes = first_word + (if is_class then names else 0) + place_in bytes words
 
--- the atom of a token: what is faulty by itself is a bad one
-abbrev pub atom_of_kind : TokenKind → List ℕ → ℕ
-atom_of_kind (kind.Mark m) bytes = mark_atom m
-atom_of_kind kind.Name bytes = name_atom bytes
-atom_of_kind (kind.Number n) bytes = number_atom
-atom_of_kind (kind.Char c) bytes = char_atom
-atom_of_kind (kind.Word w) bytes = word_atom
-atom_of_kind kind.Text bytes = text_atom
-atom_of_kind (kind.Bad b) bytes = bad_atom
-atom_of_kind kind.End bytes = end_atom
+-- the atom of a token, which is the name of a class or not: what is faulty by itself is a bad one
+abbrev pub atom_of_kind : Bool → TokenKind → List ℕ → ℕ
+atom_of_kind is_class (kind.Mark m) bytes = mark_atom m
+atom_of_kind is_class kind.Name bytes = name_atom is_class bytes
+atom_of_kind is_class (kind.Number n) bytes = number_atom
+atom_of_kind is_class (kind.Char c) bytes = char_atom
+atom_of_kind is_class (kind.Word w) bytes = word_atom
+atom_of_kind is_class kind.Text bytes = text_atom
+atom_of_kind is_class (kind.Bad b) bytes = bad_atom
+atom_of_kind is_class kind.End bytes = end_atom
 
+abbrev pub atom_as : Bool → Spelled → ℕ
+atom_as is_class t = atom_of_kind is_class t.kind t.bytes
+
+-- of one that is not
 abbrev pub atom_of : Spelled → ℕ
-atom_of t = atom_of_kind t.kind t.bytes
+atom_of t = atom_as false t

@@ -66,7 +66,7 @@ impl Condition {
         ensures taken { IfOk result (λ is_taken. is_taken ≡ true → condition self.new ≡ condition_took (spelled token.now) (condition self.old)) }
     {
         self.actions.clear();
-        if !self.machine.read(atom_at(token), &mut self.actions)? {
+        if !self.machine.read(atom_at(token, false), &mut self.actions)? {
             return Ok(false);
         }
         act_all(self.actions.as_slice(), &mut self.unit)?;

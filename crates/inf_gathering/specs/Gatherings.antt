@@ -1,11 +1,12 @@
 -- What a unit gathers while it is read.
-use Rattle.std.specs.Prelude.{ℕ, ◌+◌, ◌-◌, ◌==◌, List, [], ◌∷◌, ◌++◌, length, drop, take, Bool, if◌then◌else◌}
+use Rattle.std.specs.Prelude.{ℕ, ◌+◌, ◌-◌, ◌==◌, List, [], ◌∷◌, ◌++◌, length, map, drop, take, Bool, if◌then◌else◌}
 use Rattle.inf_expressions.specs.declared.symbols.Symbol.{Symbol}
 use Rattle.inf_expressions.specs.declared.symbols.Symbol.TheVariants as symbol
 use Rattle.inf_expressions.specs.declared.operators.Unary.{Unary}
 use Rattle.inf_expressions.specs.declared.operators.Binary.{Binary}
 use Rattle.inf_expressions.specs.declared.operators.Binary.TheVariants as binary
 use Rattle.inf_gathering.specs.declared.gathering.Leaf.{Leaf}
+use Rattle.inf_gathering.specs.declared.gathering.Leaf.TheVariants as leaf
 
 -- The leaves of the unit's expressions, their symbols, each operator behind its parts; the order of the first token of each expression that is whole, the latest
 -- first; of each list that is open how many parts it has; and the order of each opening bracket that is open, the latest first.
@@ -26,6 +27,14 @@ with_leaf first token leaf g = record g {
   symbols = g.symbols ++ symbol.Leaf first token (length g.leaves) ∷ [];
   firsts = first ∷ g.firsts;
 }
+
+-- names are those of actions
+abbrev pub action_leaf : Leaf → Leaf
+action_leaf (leaf.Name at) = leaf.Action at
+action_leaf l = l
+
+abbrev pub with_actions : Gathering → Gathering
+with_actions g = record g { leaves = map action_leaf g.leaves }
 
 -- the order of the first token of the latest expression
 abbrev pub latest : List ℕ → ℕ

@@ -1,6 +1,6 @@
 //! What a unit gathers of its expressions.
-ghost use Rattle.std.specs.Prelude.{◌≡◌, OnOk, [], drop, reverse};
-ghost use Rattle.inf_gathering.specs.Gatherings.{beginning, comma, counted, latest, nothing_gathered, one_more, with_bracket, with_call, with_closed_bracket, with_comma, with_leaf, with_list, with_part, with_prefix, with_rule, with_suffix, with_test, with_two};
+ghost use Rattle.std.specs.Prelude.{◌≡◌, OnOk, [], drop, map, reverse};
+ghost use Rattle.inf_gathering.specs.Gatherings.{action_leaf, beginning, comma, counted, latest, nothing_gathered, one_more, with_actions, with_bracket, with_call, with_closed_bracket, with_comma, with_leaf, with_list, with_part, with_prefix, with_rule, with_suffix, with_test, with_two};
 
 use inf_expressions::{Binary, Symbol, Unary};
 use inf_scanner::DictionaryWord;
@@ -36,6 +36,25 @@ pub struct Gathering {
     counts: Vec<u32>,
     /// The orders of the brackets that are open.
     brackets: Vec<u32>,
+}
+
+/// A name as that of an action.
+fn action_leaf(leaf: Leaf) -> Leaf
+    ensures { result ≡ action_leaf leaf }
+{
+    match leaf {
+        Leaf::Name(at) => Leaf::Action(at),
+        _ => leaf,
+    }
+}
+
+/// Names are those of actions.
+fn name_all(leaves: &mut [Leaf])
+    ensures { leaves.new ≡ map action_leaf leaves.old }
+{
+    for at in 0..leaves.len() {
+        leaves[at] = action_leaf(leaves[at]);
+    }
 }
 
 impl Model for Gathering {
@@ -90,6 +109,13 @@ impl Gathering {
         ensures { result.now ≡ self.now.symbols }
     {
         self.symbols.as_slice()
+    }
+
+    /// Names are those of actions.
+    pub fn name_actions(&mut self)
+        ensures { self.new ≡ with_actions self.old }
+    {
+        name_all(self.leaves.as_mut_slice());
     }
 
     /// A leaf, whose first token has one order, and the token that tells it another or the same.

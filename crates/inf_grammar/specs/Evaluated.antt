@@ -10,7 +10,7 @@ use Rattle.inf_grammar.specs.Facts.{beginnings, empties}
 use Rattle.inf_machine.specs.Decided.{is_decided}
 use Rattle.inf_machine.specs.Laws.{IsDecided}
 
-pub all_decided : agree_below (λ rule. is_decided grammar known rule) (λ rule. true) 246 ≡ true
+pub all_decided : agree_below (λ rule. is_decided grammar known rule) (λ rule. true) 251 ≡ true
 unfolding grammar known
 all_decided = refl
 
@@ -18,30 +18,30 @@ all_decided = refl
 no_rows : (g : Grammar Action) (k : Known) (rule : ℕ) → g.rows_of rule ≡ [] → k.begins rule ≡ 0 → k.is_empty rule ≡ false → is_decided g k rule ≡ true
 no_rows g k rule r b e = rw (r, b, e) refl
 
-rules_length : length rules ≤ 246
+rules_length : length rules ≤ 251
 rules_length = lit≤ tt
 
-beginnings_length : length beginnings ≤ 246
+beginnings_length : length beginnings ≤ 251
 beginnings_length = lit≤ tt
 
-empties_length : length empties ≤ 246
+empties_length : length empties ≤ 251
 empties_length = lit≤ tt
 
-pub rows_past : (rule : ℕ) → 246 ≤ rule → grammar.rows_of rule ≡ []
+pub rows_past : (rule : ℕ) → 251 ≤ rule → grammar.rows_of rule ≡ []
 unfolding grammar
 rows_past rule l = get_or_past rules rule [] (omega (arith, rules_length))
 
-pub begins_past : (rule : ℕ) → 246 ≤ rule → known.begins rule ≡ 0
+pub begins_past : (rule : ℕ) → 251 ≤ rule → known.begins rule ≡ 0
 unfolding known
 begins_past rule l = get_or_past beginnings rule 0 (omega (arith, beginnings_length))
 
-pub empty_past : (rule : ℕ) → 246 ≤ rule → known.is_empty rule ≡ false
+pub empty_past : (rule : ℕ) → 251 ≤ rule → known.is_empty rule ≡ false
 unfolding known
 empty_past rule l = get_or_past empties rule false (omega (arith, empties_length))
 
 pub language_is_decided : IsDecided grammar known
 language_is_decided rule =
-    elim (cases_lt rule 246) [
-      | inl l ↦ agree_below_at (λ r. is_decided grammar known r) (λ r. true) 246 rule all_decided l
+    elim (cases_lt rule 251) [
+      | inl l ↦ agree_below_at (λ r. is_decided grammar known r) (λ r. true) 251 rule all_decided l
       | inr l ↦ no_rows grammar known rule (rows_past rule l) (begins_past rule l) (empty_past rule l)
     ]

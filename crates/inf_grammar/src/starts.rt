@@ -7,10 +7,10 @@ pub const FILE: u8 = 0;
 pub const PIECE: u8 = 1;
 
 /// An expression, with commas.
-pub const EXPRESSION: u8 = 54;
+pub const EXPRESSION: u8 = 59;
 
 /// An expression without commas outside brackets.
-pub const ASSIGN: u8 = 56;
+pub const ASSIGN: u8 = 61;
 
 /// A condition.
-pub const LOGIC: u8 = 61;
+pub const LOGIC: u8 = 66;

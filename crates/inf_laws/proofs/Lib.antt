@@ -9,3 +9,4 @@ pub mod Sides
 pub mod Counts
 pub mod MissingEnds
 pub mod KeptTokens
+pub mod KeptTurns

@@ -1,75 +1,123 @@
 -- What reading makes of the tokens that conditionals hand on: of those of a piece the bad one is the first with which they begin none.
-use Rattle.std.specs.Prelude.{◌≡◌, List, [], ◌∷◌, ◌++◌, map, Bool, true, false, ◌&&◌, ◌||◌, Option, Some, None}
+use Rattle.std.specs.Prelude.{◌≡◌, ℕ, List, [], ◌∷◌, ◌++◌, map, Bool, true, false, ◌&&◌, ◌||◌, Option, Some, None, if◌then◌else◌}
 use Rattle.inf_unit.specs.Messages.{FileNames}
 use Rattle.inf_unit.specs.Tokens.{Spelled, is_end}
+use Rattle.inf_scanner.specs.declared.tokens.TokenKind.{TokenKind}
+use Rattle.inf_syntax.specs.declared.actions.Action.{Action}
+use Rattle.inf_machine.specs.declared.symbols.Symbol.{Symbol}
+use Rattle.inf_machine.specs.Machine.{fits, taken}
+use Rattle.inf_grammar.specs.Language.{grammar, known}
+use Rattle.inf_conditionals.specs.Atoms.{atom_as}
 use Rattle.inf_conditionals.specs.declared.judged.Handed.{Handed}
 use Rattle.inf_conditionals.specs.declared.judged.Handed.TheVariants as handed
 use Rattle.inf_conditionals.specs.declared.judged.Judged.{Judged}
 use Rattle.inf_conditionals.specs.declared.judged.Sign.{Sign}
-use Rattle.inf_reader.specs.Handing.{handed_as, hash, is_empty, judged_taken, reads}
+use Rattle.inf_work.specs.Actions.{Work, is_class}
+use Rattle.inf_reader.specs.Handing.{hash, is_empty, judged_taken, reads, sign_taken}
 use Rattle.inf_reader.specs.Pieces.{BeginsPiece, IsPiece}
-use Rattle.inf_reader.specs.Reading.{Reading, Stand, between, is_mode_ended, passed}
+use Rattle.inf_reader.specs.Reading.{Reading, Stand, between, is_mode_ended, passed, piece_begun, skip_of}
 use Rattle.inf_reader.specs.declared.mode.Mode.{Mode}
 use Rattle.inf_reader.specs.declared.mode.Mode.TheVariants as mode
 use Rattle.inf_laws.specs.BadTokens.{skip_behind}
 
+-- What is handed on
+
+-- a token, and whether it is the name of a class that was declared before it
+pub record Seen : Type 0 where
+  pub token : Spelled
+  pub is_class : Bool
+
+-- how the grammar sees it
+abbrev pub seen_atom : Seen → ℕ
+seen_atom t = atom_as t.is_class t.token
+
 -- A token that is handed on: one that is kept, or one that does not fit the conditional directive in which it stands. Those of conditional
 -- directives, and of sides that are left out, are not handed on.
 pub data Given : Type 0 where
-  Kept : (token : Spelled) → Given
+  Kept : (token : Seen) → Given
   Unfit : (token : Spelled) → Given
 
 abbrev pub token_in : Given → Spelled
-token_in (Kept t) = t
+token_in (Kept t) = t.token
 token_in (Unfit t) = t
 
 -- what is handed on of a token, by what becomes of it: first a `#` that was held back before it
-abbrev pub given_as : Handed → Spelled → List Given
-given_as handed.Kept t = Kept t ∷ []
-given_as handed.Unfit t = Unfit t ∷ []
-given_as handed.Condition t = []
+abbrev pub given_as : Handed → Spelled → Work → List Given
+given_as handed.Kept t w = Kept (record { token = t; is_class = is_class t w }) ∷ []
+given_as handed.Unfit t w = Unfit t ∷ []
+given_as handed.Condition t w = []
 
-abbrev pub given_sign : Option Sign → List Given
-given_sign None = []
-given_sign (Some sign) = given_as sign.handed (hash sign.place)
+abbrev pub given_sign : Option Sign → Work → List Given
+given_sign None w = []
+given_sign (Some sign) w = given_as sign.handed (hash sign.place) w
 
-abbrev pub given_token : Option Handed → Spelled → List Given
-given_token None t = []
-given_token (Some h) t = given_as h t
+abbrev pub given_token : Option Handed → Spelled → Work → List Given
+given_token None t w = []
+given_token (Some h) t w = given_as h t w
 
-abbrev pub given_of : Judged → Spelled → List Given
-given_of j t = given_sign j.sign ++ given_token j.token t
+abbrev pub given_of : FileNames → Judged → Spelled → Stand → List Given
+given_of files j t s = given_sign j.sign s.work ++ given_token j.token t (sign_taken j.sign files s).work
 
--- what reading makes of it
-abbrev pub given_to : FileNames → Given → Stand → Stand
-given_to files (Kept t) s = handed_as handed.Kept files t s
-given_to files (Unfit t) s = handed_as handed.Unfit files t s
+-- Reading alone
 
-abbrev pub all_given_to : FileNames → List Given → Stand → Stand
-all_given_to files [] s = s
-all_given_to files (g ∷ given) s = all_given_to files given (given_to files g s)
+-- a token that fits is taken, and another one is bad
+abbrev pub took_by : ℕ → Reading → Reading
+took_by atom r = record { mode = r.mode; stack = (taken grammar known atom r.stack).left }
 
--- How reading goes on depends on nothing else: neither on what there is to tell, nor on what was compiled.
+abbrev pub bad_by : TokenKind → Reading → Reading
+bad_by k r = between (passed (skip_of r.stack) k)
+
+abbrev pub judged_by : Seen → Reading → Reading
+judged_by t r = if fits grammar known (seen_atom t) r.stack then took_by (seen_atom t) r else bad_by t.token.kind r
+
+-- of a new piece, or of the one at hand
+abbrev pub read_by : List (Symbol Action) → Seen → Reading → Reading
+read_by [] t r = if is_end t.token.kind then record r { mode = mode.Ended } else judged_by t (piece_begun r)
+read_by (_ ∷ _) t r = judged_by t r
+
+abbrev pub kept_by : Mode → Seen → Reading → Reading
+kept_by mode.Reads t r = read_by r.stack t r
+kept_by mode.Ended t r = r
+kept_by skip t r = record r { mode = passed skip t.token.kind }
+
+-- one that does not fit its conditional directive is bad, and among those that are passed over one of them
+abbrev pub unfit_by : Mode → Spelled → Reading → Reading
+unfit_by mode.Reads t r = bad_by t.kind r
+unfit_by mode.Ended t r = r
+unfit_by skip t r = record r { mode = passed skip t.kind }
+
+-- what reading makes of what is handed on
+abbrev pub given_to : Given → Reading → Reading
+given_to (Kept t) r = kept_by r.mode t r
+given_to (Unfit t) r = unfit_by r.mode t r
+
+abbrev pub all_given_to : List Given → Reading → Reading
+all_given_to [] r = r
+all_given_to (g ∷ given) r = all_given_to given (given_to g r)
+
+-- How reading goes on depends on nothing else: neither on what there is to tell, nor on what was compiled, but for which names are those of classes.
 abbrev pub TokensAreHandedOn : Type 0
-TokensAreHandedOn = (files others : FileNames) (t : Spelled) (j : Judged) (s alike : Stand) → s.reading ≡ alike.reading
-    → (judged_taken files t j s).reading ≡ (all_given_to others (given_of j t) alike).reading
+TokensAreHandedOn = (files : FileNames) (t : Spelled) (j : Judged) (s : Stand)
+    → (judged_taken files t j s).reading ≡ all_given_to (given_of files j t s) s.reading
+
+-- Pieces
 
 -- between two pieces, or at the end
 abbrev pub rests : Reading → Bool
 rests r = (reads r.mode && is_empty r.stack) || is_mode_ended r.mode
 
 -- behind each token but the last a piece goes on
-abbrev pub GoesBehind : FileNames → List Given → Stand → Type 0
-GoesBehind files [] s = Unit {0}
-GoesBehind files (g ∷ given) s = (rests s.reading ≡ false) × GoesBehind files given (given_to files g s)
+abbrev pub GoesBehind : List Given → Reading → Type 0
+GoesBehind [] r = Unit {0}
+GoesBehind (g ∷ given) r = (rests r ≡ false) × GoesBehind given (given_to g r)
 
-abbrev pub GoesOn : FileNames → List Given → Stand → Type 0
-GoesOn files [] s = Unit {0}
-GoesOn files (g ∷ given) s = GoesBehind files given (given_to files g s)
+abbrev pub GoesOn : List Given → Reading → Type 0
+GoesOn [] r = Unit {0}
+GoesOn (g ∷ given) r = GoesBehind given (given_to g r)
 
 -- Behind tokens that begin a piece one that does not fit a conditional directive is bad, and one that is kept where they begin none with it.
-abbrev pub IsBad : List Spelled → Given → Type 0
-IsBad tokens (Kept t) = BeginsPiece (tokens ++ t ∷ []) → ⊥
+abbrev pub IsBad : List Seen → Given → Type 0
+IsBad tokens (Kept t) = BeginsPiece (map seen_atom (tokens ++ t ∷ [])) → ⊥
 IsBad tokens (Unfit t) = Unit {0}
 
 -- how reading goes on behind tokens that are passed over
@@ -79,14 +127,13 @@ skipped m (g ∷ given) = skipped (passed m (token_in g).kind) given
 
 -- Where reading stands behind what was handed on since it stood between two pieces.
 pub data Stands (given : List Given) (r : Reading) : Type 0 where
-  InAPiece : (tokens : List Spelled) → given ≡ map Kept tokens → BeginsPiece tokens → r.mode ≡ mode.Reads → Stands given r
-  BehindAPiece : (tokens : List Spelled) → given ≡ map Kept tokens → IsPiece tokens → r ≡ between mode.Reads → Stands given r
-  BehindABadToken : (tokens : List Spelled) (bad : Given) (behind : List Given) → given ≡ map Kept tokens ++ bad ∷ behind → BeginsPiece tokens → IsBad tokens bad → r ≡ between (skipped (skip_behind tokens) (bad ∷ behind)) → Stands given r
-  BehindTheEnd : (t : Spelled) → given ≡ Kept t ∷ [] → is_end t.kind ≡ true → r ≡ between mode.Ended → Stands given r
+  InAPiece : (tokens : List Seen) → given ≡ map Kept tokens → BeginsPiece (map seen_atom tokens) → r.mode ≡ mode.Reads → Stands given r
+  BehindAPiece : (tokens : List Seen) → given ≡ map Kept tokens → IsPiece (map seen_atom tokens) → r ≡ between mode.Reads → Stands given r
+  BehindABadToken : (tokens : List Seen) (bad : Given) (behind : List Given) → given ≡ map Kept tokens ++ bad ∷ behind → BeginsPiece (map seen_atom tokens) → IsBad tokens bad → r ≡ between (skipped (skip_behind (map seen_atom tokens)) (bad ∷ behind)) → Stands given r
+  BehindTheEnd : (t : Seen) → given ≡ Kept t ∷ [] → is_end t.token.kind ≡ true → r ≡ between mode.Ended → Stands given r
 
 -- As long as the first piece goes on: the tokens are kept and begin one, or they are one, and reading stands behind it; or the bad one among
 -- them is the first that does not fit or with which they begin none, and it and those behind it are passed over, as in a routine where the
 -- routine's bracket is open before it; or the file has ended before a piece.
 abbrev pub KeptTokensAreRead : Type 0
-KeptTokensAreRead = (files : FileNames) (given : List Given) (s : Stand) → s.reading ≡ between mode.Reads → GoesOn files given s
-    → Stands given (all_given_to files given s).reading
+KeptTokensAreRead = (given : List Given) (r : Reading) → r ≡ between mode.Reads → GoesOn given r → Stands given (all_given_to given r)

@@ -4,6 +4,7 @@ ghost use Rattle.inf_laws.specs.Counts.{LimitsCountTheStory};
 ghost use Rattle.inf_laws.specs.Findings.{HeadersTellTheFirst};
 ghost use Rattle.inf_laws.specs.MissingEnds.{MissingEndsAreTold};
 ghost use Rattle.inf_laws.specs.KeptTokens.{KeptTokensAreRead, TokensAreHandedOn};
+ghost use Rattle.inf_laws.specs.KeptTurns.{TurnsReadPieces};
 ghost use Rattle.inf_laws.specs.NameEvents.{FewHaveRoom, FirstDeclarationsCount, OperandsUse, UndeclaredAreTold, UnitsDeclare};
 ghost use Rattle.inf_laws.specs.Sides.{SidesAgree, SidesAreCut, SidesEnd, ValuesDecide};
 ghost use Rattle.inf_laws.specs.Skipping.{DirectivesAreSkipped, RoutinesAreSkipped, SourcesEnd};
@@ -49,8 +50,8 @@ pub fn bad_pieces_are_skipped()
     ensures sources { SourcesEnd }
 {}
 
-/// A bad token of a piece is passed over as in a routine exactly where it stands behind the routine's opening bracket, and no
-/// closing one stands between them; everywhere else it is passed over as in a directive.
+/// A bad token of a piece is passed over as in a routine exactly where the last bracket before it is an opening one, and the piece is no
+/// array's; everywhere else it is passed over as in a directive.
 pub fn bad_tokens_are_passed_over()
     ensures { BadTokensArePassedOver }
 {}
@@ -72,10 +73,12 @@ pub fn missing_ends_are_told()
 {}
 
 /// How pieces are read is told by the tokens that conditionals hand on: those that are kept, and those that do not fit a conditional directive. They
-/// are taken to the end of a piece, or up to the bad one, which is the first that does not fit or with which they begin no piece.
+/// are taken to the end of a piece, or up to the bad one, which is the first that does not fit or with which they begin no piece. So do the turns of a
+/// reading of files that include one another.
 pub fn kept_tokens_are_read()
     ensures handed_on { TokensAreHandedOn }
     ensures read { KeptTokensAreRead }
+    ensures turns { TurnsReadPieces }
 {}
 
 /// What the limits of code and of references look at are the bytes of the story's code and the references of all of its areas.

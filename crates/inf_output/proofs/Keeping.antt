@@ -24,8 +24,12 @@ use Rattle.inf_output.specs.declared.veneer.Veneer.{Veneer}
 use Rattle.inf_output.specs.Veneer.{name_of}
 use Rattle.inf_code.specs.declared.code.CodeLimits.{CodeLimits}
 use Rattle.inf_output.specs.Limits.{Keeps, SameLimits, bounds, table_bounds}
+use Rattle.inf_names.specs.declared.meanings.Meaning.TheVariants as meaning
+use Rattle.inf_verbs.specs.Routines.{action_fault}
+use Rattle.inf_verbs.specs.declared.routines.ActionFault.{ActionFault}
+use Rattle.inf_output.specs.Actions.{action_by, action_of, appeared, fake_number, faked, faked_by, first_seen, key_of, next_fake, numbered_as, numbered_by, one_fake, routine_name, routine_of, routine_used, seen_by}
 use Rattle.inf_output.specs.Strings.{fits}
-use Rattle.inf_output.specs.Output.{Code, Out, apart, behind, begun, begun_by, closed, closed_by, declared, declared_by, fitted, full_item, grown, in_routine, instruction, jumped, laid, laid_all, laid_by, marked, naming, next_label, nothing, opened, opened_by, passed, passed_table, referred, referred_by, routine, symbols_passed, together, used, used_by, with_label, with_routine, with_text, with_text_by, with_word, with_word_by, ◌▸◌}
+use Rattle.inf_output.specs.Output.{Code, Out, apart, behind, begun, begun_by, closed, closed_by, declared, declared_by, fitted, full_item, grown, in_routine, instruction, jumped, laid, laid_all, laid_by, marked, naming, next_label, nothing, opened, opened_by, passed, passed_table, referred, referred_as, referred_by, routine, symbols_passed, together, used, used_by, with_label, with_routine, with_text, with_text_by, with_word, with_word_by, ◌▸◌}
 use Rattle.inf_dictionary.specs.declared.dictionary.AddFault.{AddFault as WordFault}
 use Rattle.inf_dictionary.specs.declared.dictionary.AddFault.TheVariants as word_fault
 use Rattle.inf_dictionary.specs.declared.uses.WordUse.{WordUse}
@@ -169,6 +173,42 @@ referred_by_keeps (Some fault) name place o = (refl, refl)
 
 pub referred_keeps : (name : List ℕ) (place : Place) → Keeps (referred name place)
 referred_keeps name place o = referred_by_keeps (refer_fault name o.names) name place o
+
+-- Actions
+
+seen_by_keeps : (fault : Option (DeclareFault Place)) (key : List ℕ) (place : Place) → Keeps (seen_by fault key place)
+seen_by_keeps None key place o = (refl, refl)
+seen_by_keeps (Some fault) key place o = (refl, refl)
+
+numbered_by_same : (fault : Option ActionFault) (routine : ℕ) (o : Out) → SameLimits o (numbered_by fault routine o).0
+numbered_by_same None routine o = (refl, refl)
+numbered_by_same (Some fault) routine o = (refl, refl)
+
+numbered_as_same : (routine : Option ℕ) (o : Out) → SameLimits o (numbered_as routine o).0
+numbered_as_same None o = (refl, refl)
+numbered_as_same (Some routine) o = numbered_by_same (action_fault routine o.tables.actions) routine o
+
+routine_used_same : (routine : List ℕ) (place : Place) (o : Out) → SameLimits o (routine_used routine place o).0
+routine_used_same routine place o =
+    let r = referred routine place o in
+    same_then o r (routine_used routine place o).0 (referred_keeps routine place o) (numbered_as_same (routine_of (referred_as routine o)) r)
+
+action_by_same : (fake : Option ℕ) (name : List ℕ) (place : Place) (o : Out) → SameLimits o (action_by fake name place o).0
+action_by_same (Some number) name place o = (refl, refl)
+action_by_same None name place o =
+    let seen = appeared (key_of name) place o in
+    same_then o seen (routine_used (routine_name name) place seen).0 (seen_by_keeps (declare_fault (key_of name) o.seen) (key_of name) place o)
+    (routine_used_same (routine_name name) place seen)
+
+pub action_same : (name : List ℕ) (place : Place) (o : Out) → SameLimits o (action_of name place o).0
+action_same name place o = action_by_same (fake_number (key_of name) o) name place o
+
+faked_by_same : (first : Option Place) (key : List ℕ) (place : Place) (o : Out) → SameLimits o (faked_by first key place o).0
+faked_by_same (Some first) key place o = (refl, refl)
+faked_by_same None key place o = declared_keeps key place (meaning.FakeAction (next_fake o)) (one_fake o)
+
+pub faked_same : (name : List ℕ) (place : Place) (o : Out) → SameLimits o (faked name place o).0
+faked_same name place o = faked_by_same (first_seen (key_of name) o) (key_of name) place o
 
 -- Strings
 

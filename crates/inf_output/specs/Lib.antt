@@ -1,3 +1,4 @@
+pub mod Actions
 pub mod Limits
 pub mod Operands
 pub mod Strings

@@ -52,7 +52,7 @@ use Rattle.inf_tables.specs.declared.tables.Tables.{Tables}
 use Rattle.inf_tables.specs.Tables.{references}
 use Rattle.inf_output.specs.Veneer.{name_of}
 
--- What is laid: the routines of the story, its strings, its tables, the names, the place of the first token of the unit at hand, the number of the next label of the
+-- What is laid: the routines of the story, its strings, its tables, the names, the actions that appeared, the place of the first token of the unit at hand, the number of the next label of the
 -- routine, what is left of each limit once one was passed, and the items of code that is kept apart, if there is such code.
 abbrev pub Out : Type 0
 Out = Output

@@ -7,12 +7,14 @@
 //! In `specs/`, `Output` has an output and what is laid into it, and `Veneer` the routines that templates call by name.
 #![tactic(auto)]
 
+mod actions;
 mod items;
 mod operands;
 mod output;
 mod strings;
 mod veneer;
 
+pub use actions::key_of as action_key;
 pub use items::{Item, Items, KeptInstruction};
 pub use operands::Simple;
 pub use output::{Output, Past};

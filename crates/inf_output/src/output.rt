@@ -49,6 +49,8 @@ pub struct Output {
     pub strings: Strings,
     pub tables: Tables,
     pub names: Symbols<Place>,
+    /// The actions that appeared, but fake ones: each is declared by its name behind two signs, with its number.
+    pub seen: Symbols<Place>,
     /// The place of the first token of the unit at hand, where routines of the veneer are used.
     pub first: Place,
     /// The number of the next label of the routine at hand.
@@ -240,16 +242,18 @@ impl Output {
         strings: Strings,
         tables: Tables,
         names: Symbols<Place>,
+        seen: Symbols<Place>,
         first: Place,
     ) -> Output
         ensures { result
-            ≡ record { code = code; strings = strings; tables = tables; names = names; first = first; next = 0; past = None; kept = None } }
+            ≡ record { code = code; strings = strings; tables = tables; names = names; seen = seen; first = first; next = 0; past = None; kept = None } }
     {
         Output {
             code,
             strings,
             tables,
             names,
+            seen,
             first,
             next: 0,
             past: None,

@@ -1,12 +1,19 @@
--- A token inside of a piece is judged.
-use Rattle.std.proofs.Common.{◌≡◌, List, [], ◌∷◌, refl}
+-- A token of a piece is judged, and so is the first one behind a piece.
+use Rattle.std.proofs.Common.{◌≡◌, List, [], ◌∷◌, false, cond, refl, ap, ◌∙◌}
 use Rattle.inf_machine.specs.declared.symbols.Symbol.{Symbol}
 use Rattle.inf_syntax.specs.declared.actions.Action.{Action}
 use Rattle.inf_unit.specs.Messages.{FileNames}
-use Rattle.inf_unit.specs.Tokens.{Spelled}
-use Rattle.inf_work.specs.Actions.{Work}
-use Rattle.inf_reader.specs.Reading.{Reading, judged, read_at}
+use Rattle.inf_unit.specs.Tokens.{Spelled, is_end}
+use Rattle.inf_work.specs.Actions.{Work, piece_begun as work_begun}
+use Rattle.inf_reader.specs.Reading.{Reading, judged, piece_begun, read_at}
+use Rattle.inf_reader.specs.declared.mode.Mode.TheVariants as mode
 
 pub read_inside : (files : FileNames) (t : Spelled) (stack : List (Symbol Action)) (r : Reading) (w : Work) → (stack ≡ [] → ⊥) → read_at files t stack r w ≡ judged files t r w
 read_inside files t [] r w some = absurd (some refl)
 read_inside files t (symbol ∷ symbols) r w some = refl
+
+pub read_first : (files : FileNames) (t : Spelled) (stack : List (Symbol Action)) (r : Reading) (w : Work) → stack ≡ [] → is_end t.kind ≡ false
+    → read_at files t stack r w ≡ judged files t (piece_begun r) (work_begun w)
+read_first files t stack r w empty going =
+    ap (λ s. read_at files t s r w) empty
+    ∙ ap (λ b. cond b (record { reading = record r { mode = mode.Ended }; work = w }) (judged files t (piece_begun r) (work_begun w))) going

@@ -12,13 +12,13 @@ use Rattle.inf_conditionals.specs.declared.judged.Handed.{Handed}
 use Rattle.inf_conditionals.specs.declared.judged.Handed.TheVariants as handed
 use Rattle.inf_conditionals.specs.declared.judged.Judged.{Judged}
 use Rattle.inf_conditionals.specs.declared.judged.Sign.{Sign}
-use Rattle.inf_work.specs.Actions.{Work, piece_begun as work_begun, took as work_took}
+use Rattle.inf_work.specs.Actions.{Work, is_class, piece_begun as work_begun, took as work_took}
 use Rattle.inf_work.specs.Acting.{acted}
 use Rattle.inf_work.specs.Limits.{SameLimits}
 use Rattle.inf_work.proofs.Limits.{acted_same, begun_at_same, cut_same, same_then, took_same as work_took_same}
 use Rattle.inf_reader.specs.Handing.{handed_as, hash, judged_taken, lone_told, sign_taken, token_taken, unfit_in, unit_ended}
 use Rattle.inf_reader.specs.Reading.{Reading, Stand, bad, judged, piece_begun, read_at, step, step_in, took}
-use Rattle.inf_conditionals.specs.Atoms.{atom_of}
+use Rattle.inf_conditionals.specs.Atoms.{atom_as}
 use Rattle.inf_reader.specs.declared.mode.Mode.{Mode}
 use Rattle.inf_reader.specs.declared.mode.Mode.TheVariants as mode
 
@@ -31,13 +31,13 @@ bad_same files t r w = cut_same files w
 
 took_same : (files : FileNames) (t : Spelled) (r : Reading) (w : Work) → Keeps w (took files t r w)
 took_same files t r w =
-    let acts = (taken grammar known (atom_of t) r.stack).actions in
+    let acts = (taken grammar known (atom_as (is_class t w) t) r.stack).actions in
     let w' = acted files t.place acts w in
     same_then w w' (work_took files t w') (acted_same files t.place acts w) (work_took_same files t w')
 
 judged_same : (files : FileNames) (t : Spelled) (r : Reading) (w : Work) → Keeps w (judged files t r w)
 judged_same files t r w =
-    of_both (Keeps w) (fits grammar known (atom_of t) r.stack) (took files t r w) (bad files t r w) (λ _. took_same files t r w) (λ _. bad_same files t r w)
+    of_both (Keeps w) (fits grammar known (atom_as (is_class t w) t) r.stack) (took files t r w) (bad files t r w) (λ _. took_same files t r w) (λ _. bad_same files t r w)
 
 read_same : (files : FileNames) (t : Spelled) (stack : List (Symbol Action)) (r : Reading) (w : Work) → Keeps w (read_at files t stack r w)
 read_same files t [] r w =

@@ -1,6 +1,6 @@
 -- Reading leads through a piece or to its bad token.
-use Rattle.std.proofs.Common.{◌≡◌, ℕ, suc, zero, ◌<◌, List, [], ◌∷◌, ◌++◌, length, map, take, drop, cond, Bool, true, false, Option, Some, None, is_some, refl, sym, ap, subst, ◌∙◌, arith, append_assoc}
-use Rattle.std.proofs.lemmas.List.{append-nil, map-append, take-append-drop}
+use Rattle.std.proofs.Common.{◌≡◌, ℕ, suc, zero, ◌<◌, List, [], ◌∷◌, ◌++◌, length, take, drop, cond, Bool, true, false, Option, Some, None, is_some, refl, sym, ap, subst, ◌∙◌, arith, append_assoc}
+use Rattle.std.proofs.lemmas.List.{append-nil, take-append-drop}
 use Rattle.inf_scanner.specs.declared.tokens.TokenKind.{TokenKind}
 use Rattle.inf_scanner.specs.declared.tokens.TokenKind.TheVariants as kind
 use Rattle.inf_report.specs.Messages.{Message}
@@ -15,11 +15,11 @@ use Rattle.inf_grammar.specs.Language.{grammar, known}
 use Rattle.inf_machine.specs.Machine.{fits, taken, read, Read}
 use Rattle.inf_grammar.specs.Evaluated.{language_is_decided}
 use Rattle.inf_machine.proofs.TokenLaws.{bad_tokens_begin_nothing, texts_are_taken}
-use Rattle.inf_conditionals.specs.Atoms.{bad_atom, end_atom, atom_of_kind, atom_of}
+use Rattle.inf_conditionals.specs.Atoms.{atom_as, atom_of_kind, bad_atom, end_atom}
 use Rattle.inf_reader.specs.Tests.{fault_of_kind}
-use Rattle.inf_work.specs.Actions.{piece_begun as work_begun}
+use Rattle.inf_work.specs.Actions.{is_class, piece_begun as work_begun}
 use Rattle.inf_reader.specs.Reading.{Reading, State, Stand, piece_rule, piece_begun, took, bad, judged, read_at, step_in, stand, turn, run}
-use Rattle.inf_reader.specs.Pieces.{IsPiece, BeginsPiece, front, at_hand_by, at_hand, taking, work_at, work_by, AllAreTaken, Leads, ToItsEnd, ToABadToken, PiecesAreRead, PiecesBegin, FrontsBegin, FaultyTokensFitNothing, TurnsAreRead}
+use Rattle.inf_reader.specs.Pieces.{IsPiece, BeginsPiece, atoms, at_hand_by, at_hand, next_atom, taking, work_at, work_by, AllAreTaken, Leads, ToItsEnd, ToABadToken, PiecesAreRead, PiecesBegin, FrontsBegin, FaultyTokensFitNothing, TurnsAreRead}
 use Rattle.inf_reader.specs.declared.mode.Mode.TheVariants as mode
 use Rattle.inf_reader.proofs.Turns.{next_moves, less_behind}
 use Rattle.inf_conditionals.proofs.Misfits.{bad_fits_nothing, end_fits_nothing}
@@ -34,46 +34,45 @@ turns_are_read files (suc n) s going =
 abbrev piece : List (Symbol Action)
 piece = Rule piece_rule ∷ []
 
--- What reading stands at behind the tokens of a piece so far.
-record At (tokens : List Spelled) (r : Reading) : Type 0 where
+-- What reading stands at behind the tokens of a piece so far, which the grammar saw so.
+record At (seen : List ℕ) (r : Reading) : Type 0 where
   reads : r.mode ≡ mode.Reads
-  is_read : OneMore grammar known piece (map atom_of tokens) r.stack
+  is_read : OneMore grammar known piece seen r.stack
 
-begins : (tokens : List Spelled) (r : Reading) → At tokens r → BeginsPiece tokens
-begins tokens r at = record {
-  begins = (bad_tokens_begin_nothing grammar known piece_rule (map atom_of tokens) language_is_decided).0 (ap is_some at.is_read.is_read);
+begins : (seen : List ℕ) (r : Reading) → At seen r → BeginsPiece seen
+begins seen r at = record {
+  begins = (bad_tokens_begin_nothing grammar known piece_rule seen language_is_decided).0 (ap is_some at.is_read.is_read);
 }
 
 -- a token that does not fit begins nothing behind them
-stops : (tokens : List Spelled) (r : Reading) (t : Spelled) → At tokens r → fits grammar known (atom_of t) r.stack ≡ false → BeginsPiece (tokens ++ t ∷ []) → ⊥
-stops tokens r t at out b = let absent : true ≡ false = sym some ∙ ap (λ atoms. is_some (read grammar known piece atoms)) (map-append atom_of tokens (t ∷ [])) ∙ ap is_some nothing in cc
+stops : (seen : List ℕ) (r : Reading) (a : ℕ) → At seen r → fits grammar known a r.stack ≡ false → BeginsPiece (seen ++ a ∷ []) → ⊥
+stops seen r a at out b = let absent : true ≡ false = sym some ∙ ap is_some nothing in cc
   where
-    some : is_some (read grammar known piece (map atom_of (tokens ++ t ∷ []))) ≡ true
-    some = (bad_tokens_begin_nothing grammar known piece_rule (map atom_of (tokens ++ t ∷ [])) language_is_decided).1 b.begins
+    some : is_some (read grammar known piece (seen ++ a ∷ [])) ≡ true
+    some = (bad_tokens_begin_nothing grammar known piece_rule (seen ++ a ∷ []) language_is_decided).1 b.begins
 
-    nothing : read grammar known piece (map atom_of tokens ++ map atom_of (t ∷ [])) ≡ None
-    nothing = reads_none grammar known piece (map atom_of tokens) (atom_of t) r.stack at.is_read out
+    nothing : read grammar known piece (seen ++ a ∷ []) ≡ None
+    nothing = reads_none grammar known piece seen a r.stack at.is_read out
 
 -- a token that is taken
-goes : (tokens : List Spelled) (r after : Reading) (t : Spelled) → At tokens r → fits grammar known (atom_of t) r.stack ≡ true
-    → after ≡ record { mode = r.mode; stack = (taken grammar known (atom_of t) r.stack).left } → At (tokens ++ t ∷ []) after
-goes tokens r after t at f same =
-    let now : Reading = record { mode = r.mode; stack = (taken grammar known (atom_of t) r.stack).left } in
-    let there : At (tokens ++ t ∷ []) now = record {
+goes : (seen : List ℕ) (r after : Reading) (a : ℕ) → At seen r → fits grammar known a r.stack ≡ true
+    → after ≡ record { mode = r.mode; stack = (taken grammar known a r.stack).left } → At (seen ++ a ∷ []) after
+goes seen r after a at f same =
+    let now : Reading = record { mode = r.mode; stack = (taken grammar known a r.stack).left } in
+    let there : At (seen ++ a ∷ []) now = record {
       reads = at.reads;
-      is_read = subst (λ atoms. OneMore grammar known piece atoms now.stack) (sym (map-append atom_of tokens (t ∷ [])))
-          (reads_one grammar known piece (map atom_of tokens) (atom_of t) r.stack at.is_read f);
+      is_read = reads_one grammar known piece seen a r.stack at.is_read f;
     } in
-    subst (At (tokens ++ t ∷ [])) (sym same) there
+    subst (At (seen ++ a ∷ [])) (sym same) there
 
 -- where the machine has nothing more to read the tokens are a piece
-ends : (tokens : List Spelled) (r : Reading) → At tokens r → r.stack ≡ [] → IsPiece tokens
-ends tokens r at empty =
+ends : (seen : List ℕ) (r : Reading) → At seen r → r.stack ≡ [] → IsPiece seen
+ends seen r at empty =
     let q : Read Action = at.is_read.r in
     let nothing_left : [] ≡ q.left = sym (at.is_read.leaves ∙ empty) in
     record {
       events = q.events ++ [];
-      is_text = (texts_are_taken grammar known piece_rule (map atom_of tokens) (q.events ++ []) language_is_decided).1
+      is_text = (texts_are_taken grammar known piece_rule seen (q.events ++ []) language_is_decided).1
           (q, [], at.is_read.is_read, refl, subst (λ symbols. IsText grammar symbols [] []) nothing_left here);
     }
 
@@ -83,24 +82,25 @@ first_taken : (files : FileNames) (n : ℕ) (s : State) → turn files s ≡ tak
 first_taken files n s takes all zero less = takes
 first_taken files n s takes all (suc m) less = all m (omega arith)
 
-extend : (files : FileNames) (tokens : List Spelled) (s : State) → turn files s ≡ taking files s → Leads files (tokens ++ (next_token s.cursor).0 ∷ []) (turn files s) → Leads files tokens s
-extend files tokens s takes (ToItsEnd n all reads empty cursor is) =
-    ToItsEnd (suc n) (first_taken files n s takes all) reads empty cursor (subst IsPiece (append_assoc tokens ((next_token s.cursor).0 ∷ []) (front n (next_token s.cursor).1)) is)
-extend files tokens s takes (ToABadToken n all told so_far unfit) =
+extend : (files : FileNames) (seen : List ℕ) (s : State) → turn files s ≡ taking files s → Leads files (seen ++ next_atom s ∷ []) (turn files s) → Leads files seen s
+extend files seen s takes (ToItsEnd n all reads empty cursor is) =
+    ToItsEnd (suc n) (first_taken files n s takes all) reads empty cursor
+    (subst IsPiece (append_assoc seen (next_atom s ∷ []) (atoms files n (turn files s))) is)
+extend files seen s takes (ToABadToken n all told so_far unfit) =
     ToABadToken (suc n) (first_taken files n s takes all) told
-    (subst BeginsPiece (append_assoc tokens ((next_token s.cursor).0 ∷ []) (front n (next_token s.cursor).1)) so_far)
-    (λ b. unfit (subst BeginsPiece (sym (append_assoc tokens ((next_token s.cursor).0 ∷ []) (front (suc n) (next_token s.cursor).1))) b))
+    (subst BeginsPiece (append_assoc seen (next_atom s ∷ []) (atoms files n (turn files s))) so_far)
+    (λ b. unfit (subst BeginsPiece (sym (append_assoc seen (next_atom s ∷ []) (atoms files (suc n) (turn files s)))) b))
 
 none_taken : (files : FileNames) (s : State) → AllAreTaken files 0 s
 none_taken files s m less = absurd (omega arith)
 
 -- one token is judged, if reading leads on from behind each token that is taken
-step : (files : FileNames) (tokens : List Spelled) (s : State)
+step : (files : FileNames) (seen : List ℕ) (s : State)
     → turn files s ≡ stand (record s { cursor = (next_token s.cursor).1 }) (judged files (next_token s.cursor).0 (at_hand s.reading) (work_at s))
-    → At tokens (at_hand s.reading)
-    → ((next : State) → next ≡ taking files s → fits grammar known (atom_of (next_token s.cursor).0) (at_hand s.reading).stack ≡ true → At (tokens ++ (next_token s.cursor).0 ∷ []) next.reading → Leads files (tokens ++ (next_token s.cursor).0 ∷ []) next)
-    → Leads files tokens s
-step files tokens s turns at later = by_fit (fits grammar known (atom_of t) r.stack) refl
+    → At seen (at_hand s.reading)
+    → ((next : State) → next ≡ taking files s → fits grammar known (next_atom s) (at_hand s.reading).stack ≡ true → At (seen ++ next_atom s ∷ []) next.reading → Leads files (seen ++ next_atom s ∷ []) next)
+    → Leads files seen s
+step files seen s turns at later = by_fit (fits grammar known (next_atom s) r.stack) refl
   where
     t : Spelled
     t = (next_token s.cursor).0
@@ -111,42 +111,43 @@ step files tokens s turns at later = by_fit (fits grammar known (atom_of t) r.st
     there : Stand → State
     there x = stand (record s { cursor = (next_token s.cursor).1 }) x
 
-    by_fit : (f : Bool) → fits grammar known (atom_of t) r.stack ≡ f → Leads files tokens s
+    by_fit : (f : Bool) → fits grammar known (next_atom s) r.stack ≡ f → Leads files seen s
     by_fit true f =
         let takes : turn files s ≡ taking files s = turns ∙ ap (λ b. there (cond b (took files t r (work_at s)) (bad files t r (work_at s)))) f in
         let standing : (turn files s).reading ≡ (taking files s).reading = ap (λ x. x.reading) takes in
-        extend files tokens s takes (later (turn files s) takes f (goes tokens r (turn files s).reading t at f standing))
+        extend files seen s takes (later (turn files s) takes f (goes seen r (turn files s).reading (next_atom s) at f standing))
     by_fit false f =
         ToABadToken 0 (none_taken files s) (turns ∙ ap (λ b. there (cond b (took files t r (work_at s)) (bad files t r (work_at s)))) f)
-        (subst BeginsPiece (sym (append-nil tokens)) (begins tokens r at)) (stops tokens r t at f)
+        (subst BeginsPiece (sym (append-nil seen)) (begins seen r at)) (stops seen r (next_atom s) at f)
 
 -- the end fits nowhere, so a token that fits leaves less of the source
-end_is : (k : TokenKind) (bytes : List ℕ) → is_end k ≡ true → atom_of_kind k bytes ≡ end_atom
-end_is kind.End bytes e = refl
-end_is (kind.Mark m) bytes e = cc
-end_is kind.Name bytes e = cc
-end_is (kind.Number n) bytes e = cc
-end_is kind.Text bytes e = cc
-end_is (kind.Char c) bytes e = cc
-end_is (kind.Word w) bytes e = cc
-end_is (kind.Bad b) bytes e = cc
+end_is : (c : Bool) (k : TokenKind) (bytes : List ℕ) → is_end k ≡ true → atom_of_kind c k bytes ≡ end_atom
+end_is c kind.End bytes e = refl
+end_is c (kind.Mark m) bytes e = cc
+end_is c kind.Name bytes e = cc
+end_is c (kind.Number n) bytes e = cc
+end_is c kind.Text bytes e = cc
+end_is c (kind.Char z) bytes e = cc
+end_is c (kind.Word w) bytes e = cc
+end_is c (kind.Bad b) bytes e = cc
 
-fits_no_end : (t : Spelled) (stack : List (Symbol Action)) → fits grammar known (atom_of t) stack ≡ true → is_end t.kind ≡ true → ⊥
-fits_no_end t stack f e =
-    let both : true ≡ false = sym f ∙ ap (λ atom. fits grammar known atom stack) (end_is t.kind t.bytes e) ∙ end_fits_nothing stack in cc
+fits_no_end : (c : Bool) (t : Spelled) (stack : List (Symbol Action)) → fits grammar known (atom_as c t) stack ≡ true → is_end t.kind ≡ true → ⊥
+fits_no_end c t stack f e =
+    let both : true ≡ false = sym f ∙ ap (λ atom. fits grammar known atom stack) (end_is c t.kind t.bytes e) ∙ end_fits_nothing stack in cc
 
-shorter : (files : FileNames) (m : ℕ) (s next : State) → length s.cursor.rest < suc m → next ≡ taking files s → fits grammar known (atom_of (next_token s.cursor).0) (at_hand s.reading).stack ≡ true → length next.cursor.rest < m
+shorter : (files : FileNames) (m : ℕ) (s next : State) → length s.cursor.rest < suc m → next ≡ taking files s → fits grammar known (next_atom s) (at_hand s.reading).stack ≡ true → length next.cursor.rest < m
 shorter files m s next less is f =
+    let t = (next_token s.cursor).0 in
     let fewer : length (next_token s.cursor).1.rest < length s.cursor.rest =
-    less_behind (length s.cursor.rest) (next_token s.cursor) (next_moves s.cursor) (fits_no_end (next_token s.cursor).0 (at_hand s.reading).stack f) in
+    less_behind (length s.cursor.rest) (next_token s.cursor) (next_moves s.cursor) (fits_no_end (is_class t (work_at s)) t (at_hand s.reading).stack f) in
     let same : length next.cursor.rest ≡ length (next_token s.cursor).1.rest = ap (λ x. length x.cursor.rest) is in
     omega (arith, fewer, same, less)
 
 -- inside of a piece
-inside : (files : FileNames) (m : ℕ) (tokens : List Spelled) (s : State) → At tokens s.reading → length s.cursor.rest < m → Leads files tokens s
-inside files zero tokens s at less = absurd (omega arith)
-inside files (suc m) tokens s at less =
-    by_stack (λ next is f on. inside files m (tokens ++ (next_token s.cursor).0 ∷ []) next on (shorter files m s next less is f)) s.reading.stack refl
+inside : (files : FileNames) (m : ℕ) (seen : List ℕ) (s : State) → At seen s.reading → length s.cursor.rest < m → Leads files seen s
+inside files zero seen s at less = absurd (omega arith)
+inside files (suc m) seen s at less =
+    by_stack (λ next is f on. inside files m (seen ++ next_atom s ∷ []) next on (shorter files m s next less is f)) s.reading.stack refl
   where
     t : Spelled
     t = (next_token s.cursor).0
@@ -154,9 +155,9 @@ inside files (suc m) tokens s at less =
     there : Stand → State
     there x = stand (record s { cursor = (next_token s.cursor).1 }) x
 
-    by_stack : ((next : State) → next ≡ taking files s → fits grammar known (atom_of t) (at_hand s.reading).stack ≡ true → At (tokens ++ t ∷ []) next.reading → Leads files (tokens ++ t ∷ []) next)
-        → (stack : List (Symbol Action)) → s.reading.stack ≡ stack → Leads files tokens s
-    by_stack later [] e = ToItsEnd 0 (none_taken files s) at.reads e refl (subst IsPiece (sym (append-nil tokens)) (ends tokens s.reading at e))
+    by_stack : ((next : State) → next ≡ taking files s → fits grammar known (next_atom s) (at_hand s.reading).stack ≡ true → At (seen ++ next_atom s ∷ []) next.reading → Leads files (seen ++ next_atom s ∷ []) next)
+        → (stack : List (Symbol Action)) → s.reading.stack ≡ stack → Leads files seen s
+    by_stack later [] e = ToItsEnd 0 (none_taken files s) at.reads e refl (subst IsPiece (sym (append-nil seen)) (ends seen s.reading at e))
     by_stack later (symbol ∷ symbols) e =
         let same : s.reading ≡ at_hand s.reading = sym (ap (λ stack. at_hand_by stack s.reading) e) in
         let worked : s.work ≡ work_at s = sym (ap (λ stack. work_by stack s.work) e) in
@@ -165,7 +166,7 @@ inside files (suc m) tokens s at less =
         ∙ ap (λ stack. there (read_at files t stack s.reading s.work)) e
         ∙ ap (λ r. there (judged files t r s.work)) same
         ∙ ap (λ w. there (judged files t (at_hand s.reading) w)) worked in
-        step files tokens s turns (subst (At tokens) same at) later
+        step files seen s turns (subst (At seen) same at) later
 
 -- between the pieces
 nothing_read : (r : Reading) → r.mode ≡ mode.Reads → At [] (piece_begun r)
@@ -188,46 +189,45 @@ pieces_are_read files s reads empty going =
     ∙ ap (λ r. stand behind_t (judged files t r (work_begun s.work))) same
     ∙ ap (λ w. stand behind_t (judged files t (at_hand s.reading) w)) worked in
     step files [] s turns (subst (At []) same (nothing_read s.reading reads))
-    (λ next is f on. inside files (length s.cursor.rest) (t ∷ []) next on (shorter files (length s.cursor.rest) s next (omega arith) is f))
+    (λ next is f on. inside files (length s.cursor.rest) (next_atom s ∷ []) next on (shorter files (length s.cursor.rest) s next (omega arith) is f))
 
 -- What pieces begin
 
 pub pieces_begin : PiecesBegin
-pieces_begin tokens p = record { begins = (p.events, [], p.is_text) }
+pieces_begin seen p = record { begins = (p.events, [], p.is_text) }
 
 -- what is read on is read up to there
-read_before : (o : Option (Read Action)) (atoms : List ℕ) → is_some (read_on grammar known o atoms) ≡ true → is_some o ≡ true
-read_before (Some r) atoms h = refl
-read_before None atoms h = h
+read_before : (o : Option (Read Action)) (behind : List ℕ) → is_some (read_on grammar known o behind) ≡ true → is_some o ≡ true
+read_before (Some r) behind h = refl
+read_before None behind h = h
 
 pub fronts_begin : FrontsBegin
-fronts_begin tokens n b = record {
-  begins = (bad_tokens_begin_nothing grammar known piece_rule (map atom_of (take n tokens)) language_is_decided).0
-      (read_before (read grammar known piece (map atom_of (take n tokens))) (map atom_of (drop n tokens)) whole);
+fronts_begin seen n b = record {
+  begins = (bad_tokens_begin_nothing grammar known piece_rule (take n seen) language_is_decided).0
+      (read_before (read grammar known piece (take n seen)) (drop n seen) whole);
 }
   where
-    all : is_some (read grammar known piece (map atom_of tokens)) ≡ true
-    all = (bad_tokens_begin_nothing grammar known piece_rule (map atom_of tokens) language_is_decided).1 b.begins
+    all : is_some (read grammar known piece seen) ≡ true
+    all = (bad_tokens_begin_nothing grammar known piece_rule seen language_is_decided).1 b.begins
 
-    whole : is_some (read_on grammar known (read grammar known piece (map atom_of (take n tokens))) (map atom_of (drop n tokens))) ≡ true
+    whole : is_some (read_on grammar known (read grammar known piece (take n seen)) (drop n seen)) ≡ true
     whole =
-        ap is_some (sym (read_append grammar known piece (map atom_of (take n tokens)) (map atom_of (drop n tokens))))
-        ∙ ap (λ atoms. is_some (read grammar known piece atoms)) (sym (map-append atom_of (take n tokens) (drop n tokens)))
-        ∙ ap (λ ts. is_some (read grammar known piece (map atom_of ts))) (take-append-drop n tokens)
+        ap is_some (sym (read_append grammar known piece (take n seen) (drop n seen)))
+        ∙ ap (λ ts. is_some (read grammar known piece ts)) (take-append-drop n seen)
         ∙ all
 
 -- What is faulty by itself
 
-faulty_is_bad : (k : TokenKind) (bytes : List ℕ) (m : Message) → fault_of_kind k ≡ Some m → atom_of_kind k bytes ≡ bad_atom
-faulty_is_bad (kind.Bad b) bytes m h = refl
-faulty_is_bad kind.Name bytes m h = cc
-faulty_is_bad (kind.Number n) bytes m h = cc
-faulty_is_bad kind.Text bytes m h = cc
-faulty_is_bad (kind.Char c) bytes m h = cc
-faulty_is_bad (kind.Word w) bytes m h = cc
-faulty_is_bad (kind.Mark mark) bytes m h = cc
-faulty_is_bad kind.End bytes m h = cc
+faulty_is_bad : (c : Bool) (k : TokenKind) (bytes : List ℕ) (m : Message) → fault_of_kind k ≡ Some m → atom_of_kind c k bytes ≡ bad_atom
+faulty_is_bad c (kind.Bad b) bytes m h = refl
+faulty_is_bad c kind.Name bytes m h = cc
+faulty_is_bad c (kind.Number n) bytes m h = cc
+faulty_is_bad c kind.Text bytes m h = cc
+faulty_is_bad c (kind.Char z) bytes m h = cc
+faulty_is_bad c (kind.Word w) bytes m h = cc
+faulty_is_bad c (kind.Mark mark) bytes m h = cc
+faulty_is_bad c kind.End bytes m h = cc
 
 pub faulty_tokens_fit_nothing : FaultyTokensFitNothing
-faulty_tokens_fit_nothing t m stack h =
-    ap (λ atom. fits grammar known atom stack) (faulty_is_bad t.kind t.bytes m h) ∙ bad_fits_nothing stack
+faulty_tokens_fit_nothing t c m stack h =
+    ap (λ atom. fits grammar known atom stack) (faulty_is_bad c t.kind t.bytes m h) ∙ bad_fits_nothing stack

@@ -1,6 +1,6 @@
 -- The pieces of a source, and how reading leads through one: what is told as bad is the first token with which a piece's tokens
 -- begin no piece.
-use Rattle.std.specs.Prelude.{◌≡◌, ℕ, ◌<◌, List, [], ◌∷◌, ◌++◌, map, take, true, false, zero, suc, Some}
+use Rattle.std.specs.Prelude.{◌≡◌, ℕ, ◌<◌, List, [], ◌∷◌, ◌++◌, take, Bool, false, zero, suc, Some}
 use Rattle.inf_unit.specs.Tokens.{Spelled, is_end}
 use Rattle.inf_sources.specs.Cursors.{Cursor}
 use Rattle.inf_reader.specs.Cursors.{next_token}
@@ -12,20 +12,20 @@ use Rattle.inf_machine.specs.declared.symbols.Symbol.TheVariants.{Rule}
 use Rattle.inf_machine.specs.Grammar.{Event, IsText, Begins}
 use Rattle.inf_grammar.specs.Language.{grammar, known}
 use Rattle.inf_machine.specs.Machine.{fits}
-use Rattle.inf_conditionals.specs.Atoms.{atom_of}
+use Rattle.inf_conditionals.specs.Atoms.{atom_as}
 use Rattle.inf_reader.specs.Tests.{fault_of}
-use Rattle.inf_work.specs.Actions.{Work, piece_begun as work_begun}
+use Rattle.inf_work.specs.Actions.{Work, is_class, piece_begun as work_begun}
 use Rattle.inf_reader.specs.Reading.{Reading, State, piece_rule, piece_begun, took, bad, stand, turn, run, has_ended}
 use Rattle.inf_reader.specs.declared.mode.Mode.TheVariants as mode
 
--- The tokens are a piece: a text of the grammar's rule for pieces.
-pub record IsPiece (tokens : List Spelled) : Type 0 where
+-- Tokens that the grammar sees so are a piece: a text of its rule for pieces.
+pub record IsPiece (atoms : List ℕ) : Type 0 where
   pub events : List (Event Action)
-  pub is_text : IsText grammar (Rule piece_rule ∷ []) (map atom_of tokens) events
+  pub is_text : IsText grammar (Rule piece_rule ∷ []) atoms events
 
 -- They begin one, as far as they go.
-pub record BeginsPiece (tokens : List Spelled) : Type 0 where
-  pub begins : Begins grammar (Rule piece_rule ∷ []) (map atom_of tokens)
+pub record BeginsPiece (atoms : List ℕ) : Type 0 where
+  pub begins : Begins grammar (Rule piece_rule ∷ []) atoms
 
 -- The tokens from a place on
 
@@ -60,6 +60,15 @@ work_by (_ ∷ _) w = w
 abbrev pub work_at : State → Work
 work_at s = work_by s.reading.stack s.work
 
+-- how the grammar sees the next token: a name is that of a class from where the class was declared
+abbrev pub next_atom : State → ℕ
+next_atom s = let t = (next_token s.cursor).0 in atom_as (is_class t (work_at s)) t
+
+-- and how it sees those that the next n turns read
+abbrev pub atoms : FileNames → ℕ → State → List ℕ
+atoms files zero s = []
+atoms files (suc n) s = next_atom s ∷ atoms files n (turn files s)
+
 -- the next token is taken: the actions on the way to it act, and the grammar's machine goes on behind it
 abbrev pub taking : FileNames → State → State
 taking files s = let t = next_token s.cursor in stand (record s { cursor = t.1 }) (took files t.0 (at_hand s.reading) (work_at s))
@@ -72,11 +81,11 @@ telling files s = let t = next_token s.cursor in stand (record s { cursor = t.1 
 abbrev pub AllAreTaken : FileNames → ℕ → State → Type 0
 AllAreTaken files n s = (m : ℕ) → m < n → turned files (suc m) s ≡ taking files (turned files m s)
 
--- Where reading leads, behind some tokens of a piece: all its other tokens are taken, to its end, where no piece is at hand; or the
+-- Where reading leads, behind tokens of a piece that the grammar saw so: all its other tokens are taken, to its end, where no piece is at hand; or the
 -- tokens up to the bad one are, which is told, and is the first with which the tokens begin no piece.
-pub data Leads (files : FileNames) (before : List Spelled) (s : State) : Type 0 where
-  ToItsEnd : (n : ℕ) → AllAreTaken files n s → (turned files n s).reading.mode ≡ mode.Reads → (turned files n s).reading.stack ≡ [] → (turned files n s).cursor ≡ behind n s.cursor → IsPiece (before ++ front n s.cursor) → Leads files before s
-  ToABadToken : (n : ℕ) → AllAreTaken files n s → turned files (suc n) s ≡ telling files (turned files n s) → BeginsPiece (before ++ front n s.cursor) → (BeginsPiece (before ++ front (suc n) s.cursor) → ⊥) → Leads files before s
+pub data Leads (files : FileNames) (before : List ℕ) (s : State) : Type 0 where
+  ToItsEnd : (n : ℕ) → AllAreTaken files n s → (turned files n s).reading.mode ≡ mode.Reads → (turned files n s).reading.stack ≡ [] → (turned files n s).cursor ≡ behind n s.cursor → IsPiece (before ++ atoms files n s) → Leads files before s
+  ToABadToken : (n : ℕ) → AllAreTaken files n s → turned files (suc n) s ≡ telling files (turned files n s) → BeginsPiece (before ++ atoms files n s) → (BeginsPiece (before ++ atoms files (suc n) s) → ⊥) → Leads files before s
 
 -- Between the pieces of a source, before its end, reading leads through a piece or to the bad token.
 abbrev pub PiecesAreRead : Type 0
@@ -86,14 +95,14 @@ PiecesAreRead =
 -- A token that is faulty by itself fits nowhere.
 abbrev pub FaultyTokensFitNothing : Type 0
 FaultyTokensFitNothing =
-    (t : Spelled) (m : Message) (stack : List (Symbol Action)) → fault_of t ≡ Some m → fits grammar known (atom_of t) stack ≡ false
+    (t : Spelled) (is_class : Bool) (m : Message) (stack : List (Symbol Action)) → fault_of t ≡ Some m → fits grammar known (atom_as is_class t) stack ≡ false
 
 -- A piece begins one, and so does each front of what begins one.
 abbrev pub PiecesBegin : Type 0
-PiecesBegin = (tokens : List Spelled) → IsPiece tokens → BeginsPiece tokens
+PiecesBegin = (seen : List ℕ) → IsPiece seen → BeginsPiece seen
 
 abbrev pub FrontsBegin : Type 0
-FrontsBegin = (tokens : List Spelled) (n : ℕ) → BeginsPiece tokens → BeginsPiece (take n tokens)
+FrontsBegin = (seen : List ℕ) (n : ℕ) → BeginsPiece seen → BeginsPiece (take n seen)
 
 -- The turns are those that reading makes, as long as it has not ended.
 abbrev pub TurnsAreRead : Type 0

@@ -21,11 +21,11 @@ use Rattle.inf_machine.specs.declared.symbols.Symbol.TheVariants.{Rule}
 use Rattle.inf_machine.specs.Machine.{fits, taken}
 use Rattle.inf_grammar.specs.Routines.{is_in_routine}
 use Rattle.inf_grammar.specs.Language.{grammar, known}
-use Rattle.inf_work.specs.Actions.{Work, cut, no_work, piece_begun as work_begun, took as work_took}
+use Rattle.inf_work.specs.Actions.{Work, cut, is_class, no_work, piece_begun as work_begun, took as work_took}
 use Rattle.inf_work.specs.Acting.{acted}
 use Rattle.inf_sources.specs.Cursors.{Cursor, front}
 use Rattle.inf_reader.specs.Cursors.{next_token}
-use Rattle.inf_conditionals.specs.Atoms.{atom_of}
+use Rattle.inf_conditionals.specs.Atoms.{atom_as}
 use Rattle.inf_reader.specs.Tests.{complaint_of}
 use Rattle.inf_reader.specs.declared.mode.Mode.{Mode}
 use Rattle.inf_reader.specs.declared.mode.Mode.TheVariants as mode
@@ -111,12 +111,12 @@ bad files t r w =
 -- A token that fits is taken: first the actions on the way to it act.
 abbrev pub took : FileNames → Spelled → Reading → Work → Stand
 took files t r w =
-    let n = taken grammar known (atom_of t) r.stack in
+    let n = taken grammar known (atom_as (is_class t w) t) r.stack in
     record { reading = record { mode = r.mode; stack = n.left }; work = work_took files t (acted files t.place n.actions w) }
 
 -- a token of a piece is taken where it fits; else it is the bad one
 abbrev pub judged : FileNames → Spelled → Reading → Work → Stand
-judged files t r w = if fits grammar known (atom_of t) r.stack then took files t r w else bad files t r w
+judged files t r w = if fits grammar known (atom_as (is_class t w) t) r.stack then took files t r w else bad files t r w
 
 -- the rule of the pieces
 abbrev pub piece_rule : ℕ

@@ -1,5 +1,5 @@
 //! What is read of a source, and what was compiled of it: token by token.
-ghost use Rattle.std.specs.Prelude.{◌≡◌, IfOk, OnOk};
+ghost use Rattle.std.specs.Prelude.{◌≡◌, [], IfOk, OnOk};
 ghost use Rattle.inf_report.specs.Meant.{located};
 ghost use Rattle.inf_unit.specs.Tokens.{spelled};
 ghost use Rattle.inf_reader.specs.Handing.{hash};
@@ -35,8 +35,9 @@ pub struct Progress {
 
 impl Progress {
     ghost use Rattle.inf_reader.specs.Handing.{handed_as, judged_taken, site_of};
-    ghost use Rattle.inf_reader.specs.Reading.{bad, begun_stand, has_ended_at, judged, read_at, step};
+    ghost use Rattle.inf_reader.specs.Reading.{bad, begun_stand, has_ended_at, judged, piece_begun, read_at, step};
     ghost use Rattle.inf_reader.specs.Standing.{reading, standing};
+    ghost use Rattle.inf_work.specs.Actions.{piece_begun as work_begun};
     ghost use Rattle.inf_work.specs.Works.{work};
 
     /// Before the first token of sources in a character set.
@@ -119,7 +120,7 @@ impl Progress {
     }
 
     /// A token of a piece, or the end between the pieces.
-    #[tactic(auto, using(crate::proofs::Inside::read_inside))]
+    #[tactic(auto, using(crate::proofs::Inside::read_first, crate::proofs::Inside::read_inside))]
     fn read_token(&mut self, files: &Stack, token: &Spelled<'_>) -> Result<(), AllocError>
         ensures { let before = reading self.old.reader in
             OnOk result (standing self.new
@@ -132,8 +133,27 @@ impl Progress {
             self.reader.mode = Mode::Ended;
             return Ok(());
         }
+        self.read_first(files, token)
+    }
+
+    /// A new piece is at hand, where none was.
+    fn begin_piece(&mut self) -> Result<(), AllocError>
+        requires { (reading self.old.reader).stack ≡ [] }
+        ensures reading { OnOk result (reading self.new.reader ≡ piece_begun (reading self.old.reader)) }
+        ensures work { OnOk result (work self.new.work ≡ work_begun (work self.old.work)) }
+    {
         self.reader.begin()?;
         self.work.begin_piece();
+        Ok(())
+    }
+
+    /// The first token of a new piece, where none was at hand.
+    fn read_first(&mut self, files: &Stack, token: &Spelled<'_>) -> Result<(), AllocError>
+        requires { (reading self.old.reader).stack ≡ [] }
+        ensures { OnOk result (standing self.new
+            ≡ judged files.now.names (spelled token.now) (piece_begun (reading self.old.reader)) (work_begun (work self.old.work))) }
+    {
+        self.begin_piece()?;
         self.judge(files, token)
     }
 
@@ -143,7 +163,11 @@ impl Progress {
             OnOk result (standing self.new
             ≡ judged files.now.names (spelled token.now) before (work self.old.work)) }
     {
-        if !self.reader.read(atom_at(token), &mut self.actions)? {
+        let is_class = self.work.is_class(token);
+        if !self
+            .reader
+            .read(atom_at(token, is_class), &mut self.actions)?
+        {
             return self.bad(files, token);
         }
         self.work

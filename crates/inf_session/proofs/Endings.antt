@@ -30,6 +30,14 @@ pub most_is_small : (s : Scale) → most_bytes s % 4294967296 ≡ most_bytes s
 most_is_small scale.Four = refl
 most_is_small scale.Eight = refl
 
+-- What a compilation ends with whose last names are told is what it ends with.
+pub told_is_finished : {E : Type 0} (serial : List ℕ) (files : FileNames) (w told : Work) (result : Result CodeEnding E)
+    → told ≡ record (begun_at files first_place w) { report = with_all_undeclared files (begun_at files first_place w).output.names.names (begun_at files first_place w).report }
+    → IfOk result (λ t. seen t ≡ begun serial files told.output told.report (main_of told.output.names))
+    → IfOk result (λ t. seen t ≡ finished serial files w)
+told_is_finished serial files w told result same given =
+    subst (λ v. IfOk result (λ t. seen t ≡ begun serial files v.output v.report (main_of v.output.names))) same given
+
 -- A story that would be too long for its version, as it is told.
 pub longest_told : {E : Type 0} (serial : List ℕ) (files : FileNames) (main : ℕ) (names : List Value) (code : Routines) (strings : StringArea) (tables : Tables) (r : Reported)
     (s : Scale) (bytes : List ℕ) (most : ℕ) (fault : LinkFault)

@@ -26,7 +26,7 @@ use Rattle.inf_output.specs.declared.veneer.Veneer.{Veneer}
 use Rattle.inf_output.specs.declared.veneer.Veneer.TheVariants as veneer
 use Rattle.inf_output.specs.Limits.{Keeps, SameLimits}
 use Rattle.inf_output.specs.Output.{Code, Out, apart, behind, instruction, items_of, jumped, laid_all, marked, naming, nothing, to, together, ◌▸◌}
-use Rattle.inf_output.proofs.Keeping.{apart_keeps, instruction_keeps, jumped_keeps, laid_all_keeps, laid_keeps, marked_keeps, naming_keeps, nothing_keeps, of_both_keeps, referred_keeps, same_then, then3_keeps, then4_keeps, then_keeps, together_keeps, with_label_keeps, with_text_keeps, with_word_keeps}
+use Rattle.inf_output.proofs.Keeping.{action_same, apart_keeps, instruction_keeps, jumped_keeps, laid_all_keeps, laid_keeps, marked_keeps, naming_keeps, nothing_keeps, of_both_keeps, referred_keeps, same_then, then3_keeps, then4_keeps, then_keeps, together_keeps, with_label_keeps, with_text_keeps, with_word_keeps}
 use Rattle.inf_templates.specs.Limits.{PartKeeps}
 use Rattle.inf_templates.specs.Meaning.{Meaning as Means, meaning, part}
 use Rattle.inf_templates.specs.Parts.{Part, SP, TEMP, is, worked}
@@ -44,16 +44,16 @@ use Rattle.inf_unit.specs.declared.items.PrintRule.{PrintRule}
 use Rattle.inf_unit.specs.declared.items.PrintRule.TheVariants as rule
 use Rattle.inf_statements.specs.Assembly.{branch_to, branched, branched_to, ends_of, fits, instructed, jumped_on, labelled, line_instructed, line_laid, line_laid_as, line_laid_by, named_first, operands_in, placed, printing_of, some_printed, store_of, text_printed, variable_of}
 use Rattle.inf_statements.specs.Cases.{beside, case_code, case_tested, group_behind, group_tested, grouped, is_empty, is_open, laid_before, operand_in, range_tested, value_grouped, value_laid, within}
-use Rattle.inf_statements.specs.Constructs.{Laying, begun, between, case_closed, changed, closed, ended, ending, entered, entered_by, front, joint, left_to, looped, looped_by, looped_on, looped_over, opened, over_all, over_children, stepped, tested_over, with_labels}
+use Rattle.inf_statements.specs.Constructs.{Laying, begun, between, case_closed, case_entered, cases_begun, changed, closed, ended, ending, entered, entered_by, front, joint, left_to, looped, looped_by, looped_on, looped_over, opened, over_all, over_children, stepped, tested_over, with_labels}
 use Rattle.inf_statements.specs.Effects.{Site, jump_laid, name_behind, place_laid, statement_code, statement_laid}
 use Rattle.inf_statements.specs.Labels.{NamedLabel}
 use Rattle.inf_statements.specs.Limits.{LayingKeeps}
-use Rattle.inf_statements.specs.Operands.{Settled, is_stack, leaf_added, settled, settled_by, settled_leaf, settled_name, settled_text, settled_word, with_settled}
+use Rattle.inf_statements.specs.Operands.{Settled, is_stack, leaf_added, one_added, settled, settled_action, settled_by, settled_leaf, settled_name, settled_text, settled_word, with_settled}
 use Rattle.inf_dictionary.specs.declared.uses.WordUse.TheVariants as word_use
 use Rattle.inf_scanner.specs.declared.tokens.DictionaryWord.{DictionaryWord}
 use Rattle.inf_text.specs.Packing.{packed}
 use Rattle.inf_statements.specs.Printing.{called_with, ended as items_ended, ends_behind, item_code, items_printed, rule_code, text_at, text_opcode, trees_behind, veneer_called}
-use Rattle.inf_statements.specs.Statements.{alone, are_several, attribute_code, attribute_opcode, attributes_changed, attributes_given, given_by, jumped_to, moved, one_worked, plain, printed, rest, returned, returned_by, returned_number, spaced, style_of, styled_by, switched, tested, unless}
+use Rattle.inf_statements.specs.Statements.{action_laid, action_on, alone, are_several, attribute_code, attribute_opcode, attributes_changed, attributes_given, given_by, jumped_to, moved, one_worked, plain, printed, rest, returned, returned_by, returned_number, spaced, style_of, styled_by, switched, tested, unless}
 use Rattle.inf_statements.specs.declared.constructs.Case.{Case}
 use Rattle.inf_statements.specs.declared.constructs.Case.TheVariants as case
 use Rattle.inf_statements.specs.declared.constructs.Construct.{Construct}
@@ -115,6 +115,16 @@ moved_keeps : (trees : List Tree) → Keeps (moved trees)
 moved_keeps [] = nothing_keeps
 moved_keeps (a ∷ []) = nothing_keeps
 moved_keeps (a ∷ b ∷ trees) = worked_keeps opcode.InsertObj (part (meaning a) ∷ part (meaning b) ∷ []) None None (part_keeps a, (part_keeps b, tt))
+
+action_on_keeps : (a : Tree) (trees : List Tree) → Keeps (action_on (part (meaning a)) trees)
+action_on_keeps a [] = call_routine_keeps veneer.Process (part (meaning a) ∷ []) None (part_keeps a, tt)
+action_on_keeps a (b ∷ []) = call_routine_keeps veneer.Process (part (meaning a) ∷ part (meaning b) ∷ []) None (part_keeps a, (part_keeps b, tt))
+action_on_keeps a (b ∷ c ∷ trees) =
+    call_routine_keeps veneer.Process (part (meaning a) ∷ part (meaning b) ∷ part (meaning c) ∷ []) None (part_keeps a, (part_keeps b, (part_keeps c, tt)))
+
+action_laid_keeps : (trees : List Tree) → Keeps (action_laid trees)
+action_laid_keeps [] = nothing_keeps
+action_laid_keeps (a ∷ trees) = action_on_keeps a trees
 
 spaced_keeps : (trees : List Tree) → Keeps (spaced trees)
 spaced_keeps [] = nothing_keeps
@@ -248,6 +258,7 @@ front_keeps kind.Do c = marked_keeps c.top
 front_keeps kind.For c = nothing_keeps
 front_keeps (kind.Objects how v) c = nothing_keeps
 front_keeps (kind.Switch old had) c = nothing_keeps
+front_keeps (kind.Cases old had) c = nothing_keeps
 
 opened_keeps : (k : Kind) → LayingKeeps (opened k)
 unfolding opened
@@ -269,6 +280,7 @@ joint_keeps c kind.Do = marked_keeps c.next
 joint_keeps c kind.For = marked_keeps c.top
 joint_keeps c (kind.Objects how v) = joint_objects_keeps c how v
 joint_keeps c (kind.Switch old had) = nothing_keeps
+joint_keeps c (kind.Cases old had) = nothing_keeps
 
 between_keeps : (c : Construct) → LayingKeeps (between c)
 unfolding between
@@ -329,6 +341,7 @@ ending_keeps c kind.For =
 ending_keeps c (kind.Objects how v) =
     then3_keeps (marked c.next) (looped_on how v c.top) (marked c.end) (marked_keeps c.next) (looped_on_keeps how v c.top) (marked_keeps c.end)
 ending_keeps c (kind.Switch old had) = then_keeps (case_closed old c.end) (marked c.end) (case_closed_keeps old c.end) (marked_keeps c.end)
+ending_keeps c (kind.Cases old had) = then_keeps (case_closed old c.end) (marked c.end) (case_closed_keeps old c.end) (marked_keeps c.end)
 
 closed_keeps : (c : Construct) → Keeps (closed c)
 unfolding closed
@@ -338,6 +351,10 @@ pub ended_keeps : (constructs : List Construct) → LayingKeeps (ended construct
 ended_keeps [] o = (refl, refl)
 ended_keeps (c ∷ constructs) o = closed_keeps c o
 
+case_entered_keeps : (are_own is_default : Bool) (old : Case) (had : Bool) (c : Construct) → LayingKeeps (case_entered are_own is_default old had c)
+case_entered_keeps are_own true old had c o = case_closed_keeps old c.end o
+case_entered_keeps are_own false old had c o = case_closed_keeps old c.end (record o { next = behind o.next })
+
 entered_by_keeps : (k : Kind) (is_default : Bool) (c : Construct) → LayingKeeps (entered_by k is_default c)
 entered_by_keeps kind.If is_default c o = (refl, refl)
 entered_by_keeps kind.Else is_default c o = (refl, refl)
@@ -345,12 +362,17 @@ entered_by_keeps kind.While is_default c o = (refl, refl)
 entered_by_keeps kind.Do is_default c o = (refl, refl)
 entered_by_keeps kind.For is_default c o = (refl, refl)
 entered_by_keeps (kind.Objects how v) is_default c o = (refl, refl)
-entered_by_keeps (kind.Switch old had) true c o = case_closed_keeps old c.end o
-entered_by_keeps (kind.Switch old had) false c o = case_closed_keeps old c.end (record o { next = behind o.next })
+entered_by_keeps (kind.Switch old had) is_default c o = case_entered_keeps false is_default old had c o
+entered_by_keeps (kind.Cases old had) is_default c o = case_entered_keeps true is_default old had c o
 
 entered_keeps : (is_default : Bool) (c : Construct) → LayingKeeps (entered is_default c)
 unfolding entered
 entered_keeps is_default c = entered_by_keeps c.kind is_default c
+
+-- the cases of a routine itself
+pub cases_begun_keeps : (constructs : List Construct) → LayingKeeps (cases_begun constructs)
+cases_begun_keeps [] o = begun_keeps (kind.Cases case.Nothing false) [] o
+cases_begun_keeps (c ∷ constructs) o = (refl, refl)
 
 pub cases_keep : (is_default : Bool) (constructs : List Construct) → LayingKeeps (changed (entered is_default) constructs)
 cases_keep is_default constructs = all_keep (entered is_default) (entered_keeps is_default) constructs
@@ -438,6 +460,8 @@ code_keeps s trees statement.Jump = nothing_keeps
 code_keeps s trees statement.Place = nothing_keeps
 code_keeps s trees statement.Give = changed_keeps s.items trees
 code_keeps s trees statement.Move = moved_keeps trees
+code_keeps s trees statement.Action = action_laid_keeps trees
+code_keeps s trees statement.ActionReturn = then_keeps (action_laid trees) (plain opcode.Rtrue) (action_laid_keeps trees) (plain_keeps opcode.Rtrue)
 code_keeps s trees statement.Remove = one_keeps opcode.RemoveObj trees
 code_keeps s trees statement.Spaces = spaced_keeps trees
 code_keeps s trees statement.Style = styled_keeps (style_of (name_behind s))
@@ -466,6 +490,8 @@ statement_keeps s statement.Jump trees labels = jump_laid_keeps (name_behind s) 
 statement_keeps s statement.Place trees labels = place_laid_keeps (name_behind s) labels
 statement_keeps s statement.Give trees labels = code_keeps s trees statement.Give
 statement_keeps s statement.Move trees labels = code_keeps s trees statement.Move
+statement_keeps s statement.Action trees labels = code_keeps s trees statement.Action
+statement_keeps s statement.ActionReturn trees labels = code_keeps s trees statement.ActionReturn
 statement_keeps s statement.Remove trees labels = code_keeps s trees statement.Remove
 statement_keeps s statement.Spaces trees labels = code_keeps s trees statement.Spaces
 statement_keeps s statement.Style trees labels = code_keeps s trees statement.Style
@@ -492,6 +518,10 @@ text_same (Some items) o = with_text_keeps (packed items []) o
 word_same : (word : DictionaryWord) (o : Out) → SameLimits o (settled_word word o).0
 word_same word o = with_word_keeps word.text word_use.Other word.is_plural o
 
+action_leaf_same : (n : Option Name) (o : Out) → SameLimits o (settled_action n o).0
+action_leaf_same None o = (refl, refl)
+action_leaf_same (Some n) o = action_same n.bytes n.place o
+
 leaf_same : (set : CharSet) (locals : List Local) (tokens : List Spelled) (l : Leaf) (o : Out) → SameLimits o (settled_leaf set locals tokens l o).0
 leaf_same set locals tokens (leaf.Name at) o = name_same locals (name_at tokens at) o
 leaf_same set locals tokens (leaf.Alone at) o =
@@ -501,7 +531,7 @@ leaf_same set locals tokens (leaf.Number number) o = (refl, refl)
 leaf_same set locals tokens (leaf.Char zscii) o = (refl, refl)
 leaf_same set locals tokens (leaf.Word word) o = word_same word o
 leaf_same set locals tokens (leaf.Text at) o = text_same (text_at set tokens at) o
-leaf_same set locals tokens (leaf.Action at) o = (refl, refl)
+leaf_same set locals tokens (leaf.Action at) o = action_leaf_same (name_at tokens at) o
 leaf_same set locals tokens (leaf.System at) o = (refl, refl)
 
 pub leaves_same : (set : CharSet) (locals : List Local) (tokens : List Spelled) (leaves : List Leaf) (s : Settled) → SameLimits s.out (settled set locals tokens leaves s).out
@@ -510,14 +540,19 @@ leaves_same set locals tokens (l ∷ leaves) s =
     let next = with_settled (settled_leaf set locals tokens l s.out) s.operands in
     same_then s.out next.out (settled set locals tokens leaves next).out (leaf_same set locals tokens l s.out) (leaves_same set locals tokens leaves next)
 
--- a leaf by itself
+-- leaves of a constant
+one_added_keeps : (set : CharSet) (tokens : List Spelled) (l : Leaf) → Keeps (one_added set tokens l)
+one_added_keeps set tokens (leaf.Text at) o = text_same (text_at set tokens at) o
+one_added_keeps set tokens (leaf.Word word) o = word_same word o
+one_added_keeps set tokens (leaf.Action at) o = action_leaf_same (name_at tokens at) o
+one_added_keeps set tokens (leaf.Name at) o = (refl, refl)
+one_added_keeps set tokens (leaf.Alone at) o = (refl, refl)
+one_added_keeps set tokens (leaf.Number number) o = (refl, refl)
+one_added_keeps set tokens (leaf.Char zscii) o = (refl, refl)
+one_added_keeps set tokens (leaf.System at) o = (refl, refl)
+
 pub leaf_added_keeps : (set : CharSet) (tokens : List Spelled) (leaves : List Leaf) → Keeps (leaf_added set tokens leaves)
 leaf_added_keeps set tokens [] o = (refl, refl)
-leaf_added_keeps set tokens ((leaf.Text at) ∷ leaves) o = text_same (text_at set tokens at) o
-leaf_added_keeps set tokens ((leaf.Word word) ∷ leaves) o = word_same word o
-leaf_added_keeps set tokens ((leaf.Name at) ∷ leaves) o = (refl, refl)
-leaf_added_keeps set tokens ((leaf.Alone at) ∷ leaves) o = (refl, refl)
-leaf_added_keeps set tokens ((leaf.Number number) ∷ leaves) o = (refl, refl)
-leaf_added_keeps set tokens ((leaf.Char zscii) ∷ leaves) o = (refl, refl)
-leaf_added_keeps set tokens ((leaf.Action at) ∷ leaves) o = (refl, refl)
-leaf_added_keeps set tokens ((leaf.System at) ∷ leaves) o = (refl, refl)
+leaf_added_keeps set tokens (l ∷ leaves) o =
+    let next = one_added set tokens l o in
+    same_then o next (leaf_added set tokens leaves next) (one_added_keeps set tokens l o) (leaf_added_keeps set tokens leaves next)

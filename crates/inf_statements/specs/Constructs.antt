@@ -1,6 +1,6 @@
 -- The statements that hold others: what each lays where it begins, between its parts, and where it ends. Designer's Manual, fourth edition, sections
 -- 1.7 to 1.9.
-use Rattle.std.specs.Prelude.{ℕ, Bool, true, false, List, [], ◌∷◌, Option, Some, None, unwrap_or}
+use Rattle.std.specs.Prelude.{ℕ, ◌-◌, Bool, true, false, if◌then◌else◌, List, [], ◌∷◌, length, Option, Some, None, unwrap_or}
 use Rattle.inf_opcode.specs.declared.instructions.Label.{Label}
 use Rattle.inf_opcode.specs.declared.opcodes.Opcode.TheVariants as opcode
 use Rattle.inf_area.specs.declared.targets.Target.TheVariants as target
@@ -104,16 +104,31 @@ ending c kind.Do = marked c.end
 ending c kind.For = marked c.next ▸ laid_all (items_of c.step) ▸ jumped c.top ▸ marked c.end
 ending c (kind.Objects how v) = marked c.next ▸ looped_on how v c.top ▸ marked c.end
 ending c (kind.Switch old had_default) = case_closed old c.end ▸ marked c.end
+ending c (kind.Cases old had_default) = case_closed old c.end ▸ marked c.end
 
 unfoldable pub closed : Construct → Code
 closed c = ending c c.kind
 
--- A case begins: what stands before it goes to the end of its `switch`.
-abbrev pub entered_by : Kind → Bool → Construct → Laying Construct
-entered_by (kind.Switch old had_default) true c o = (record c { kind = kind.Switch case.Default true }, case_closed old c.end o)
-entered_by (kind.Switch old had_default) false c o =
+-- A case begins, of a `switch` or of a routine itself: what stands before it goes to the end of that.
+abbrev pub with_case : Bool → Case → Bool → Kind
+with_case true open_case had_default = kind.Cases open_case had_default
+with_case false open_case had_default = kind.Switch open_case had_default
+
+abbrev pub default_entered : Bool → Case → Construct → Laying Construct
+default_entered are_own old c o = (record c { kind = with_case are_own case.Default true }, case_closed old c.end o)
+
+abbrev pub values_entered : Bool → Case → Bool → Construct → Laying Construct
+values_entered are_own old had_default c o =
     let next : Label = record { number = o.next } in
-    (record c { kind = kind.Switch (case.Values next) had_default }, case_closed old c.end (record o { next = behind o.next }))
+    (record c { kind = with_case are_own (case.Values next) had_default }, case_closed old c.end (record o { next = behind o.next }))
+
+abbrev pub case_entered : Bool → Bool → Case → Bool → Construct → Laying Construct
+case_entered are_own true old had_default c o = default_entered are_own old c o
+case_entered are_own false old had_default c o = values_entered are_own old had_default c o
+
+abbrev pub entered_by : Kind → Bool → Construct → Laying Construct
+entered_by (kind.Switch old had_default) is_default c o = case_entered false is_default old had_default c o
+entered_by (kind.Cases old had_default) is_default c o = case_entered true is_default old had_default c o
 entered_by _ is_default c o = (c, o)
 
 unfoldable pub entered : Bool → Construct → Laying Construct
@@ -122,6 +137,7 @@ entered is_default c o = entered_by c.kind is_default c o
 -- Nothing comes behind a default.
 abbrev pub is_late_in : Kind → Bool
 is_late_in (kind.Switch old had_default) = had_default
+is_late_in (kind.Cases old had_default) = had_default
 is_late_in _ = false
 
 abbrev pub is_late : List Construct → Bool
@@ -131,6 +147,7 @@ is_late (c ∷ constructs) = is_late_in c.kind
 -- the label behind a case of values, where one is open
 abbrev pub next_case_in : Kind → Option Label
 next_case_in (kind.Switch (case.Values next) had_default) = Some next
+next_case_in (kind.Cases (case.Values next) had_default) = Some next
 next_case_in _ = None
 
 abbrev pub next_case : List Construct → Option Label
@@ -147,6 +164,7 @@ abbrev pub continue_of : Construct → Kind → Option Label
 continue_of c kind.If = None
 continue_of c kind.Else = None
 continue_of c (kind.Switch old had_default) = None
+continue_of c (kind.Cases old had_default) = None
 continue_of c _ = Some c.next
 
 abbrev pub left_to_by : Bool → Construct → Option Label
@@ -169,6 +187,34 @@ begun k constructs o = let c = opened k o in (c.0 ∷ constructs, c.1)
 abbrev pub changed : (Construct → Laying Construct) → List Construct → Laying (List Construct)
 changed change [] o = ([], o)
 changed change (c ∷ constructs) o = let laid = change c o in (laid.0 ∷ constructs, laid.1)
+
+-- A case outside of any statement is one of the routine's own, whose values are actions. Designer's Manual, fourth edition, section 1.9.
+abbrev pub cases_begun : List Construct → Laying (List Construct)
+cases_begun [] o = begun (kind.Cases case.Nothing false) [] o
+cases_begun (c ∷ constructs) o = (c ∷ constructs, o)
+
+abbrev pub are_cases : Kind → Bool
+are_cases (kind.Cases old had_default) = true
+are_cases _ = false
+
+abbrev pub are_own : List Construct → Bool
+are_own [] = false
+are_own (c ∷ constructs) = are_cases c.kind
+
+-- How many statements are open: the cases of the routine itself, which hold all others, are none.
+abbrev pub outermost_from : List Construct → Option Kind → Option Kind
+outermost_from [] last = last
+outermost_from (c ∷ constructs) last = outermost_from constructs (Some c.kind)
+
+abbrev pub outermost : List Construct → Option Kind
+outermost constructs = outermost_from constructs None
+
+abbrev pub depth_by : Option Kind → ℕ → ℕ
+depth_by None count = count
+depth_by (Some k) count = if are_cases k then count - 1 else count
+
+abbrev pub depth : List Construct → ℕ
+depth constructs = depth_by (outermost constructs) (length constructs)
 
 -- The step of a `for` was laid apart, and is kept with the innermost.
 abbrev pub with_step : Option (List Item) → List Construct → List Construct

@@ -21,7 +21,7 @@ use Rattle.inf_statements.specs.Assembly.{ends_of, labelled, line_finding, line_
 use Rattle.inf_statements.specs.Constructs.{Laying, giving, left_to}
 use Rattle.inf_statements.specs.Labels.{NamedLabel, is_given}
 use Rattle.inf_statements.specs.Printing.{items_printed}
-use Rattle.inf_statements.specs.Statements.{alone, attributes_changed, jumped_to, moved, one_worked, plain, returned, spaced, style_of, styled}
+use Rattle.inf_statements.specs.Statements.{action_laid, alone, attributes_changed, jumped_to, moved, one_worked, plain, returned, spaced, style_of, styled}
 use Rattle.inf_statements.specs.declared.constructs.Construct.{Construct}
 use Rattle.inf_statements.specs.declared.statements.Statement.{Statement}
 use Rattle.inf_statements.specs.declared.statements.Statement.TheVariants as statement
@@ -92,6 +92,8 @@ statement_code s trees statement.Break = jumped_to (left_to false s.constructs)
 statement_code s trees statement.Continue = jumped_to (left_to true s.constructs)
 statement_code s trees statement.Give = attributes_changed s.items trees
 statement_code s trees statement.Move = moved trees
+statement_code s trees statement.Action = action_laid trees
+statement_code s trees statement.ActionReturn = action_laid trees ▸ plain opcode.Rtrue
 statement_code s trees statement.Remove = one_worked opcode.RemoveObj trees
 statement_code s trees statement.Spaces = spaced trees
 statement_code s trees statement.Style = styled (name_behind s)

@@ -1,5 +1,5 @@
 -- What the leaves of a unit stand for.
-use Rattle.std.specs.Prelude.{ℕ, List, [], ◌∷◌, ◌++◌, codes, Bool, false, if◌then◌else◌, Option, Some, None, unwrap_or}
+use Rattle.std.specs.Prelude.{ℕ, ◌+◌, ◌%◌, length, List, [], ◌∷◌, ◌++◌, codes, Bool, false, if◌then◌else◌, Option, Some, None, unwrap_or}
 use Rattle.std.specs.Str.{str_eq_ignore_ascii_case}
 use Rattle.inf_area.specs.declared.targets.AreaName.TheVariants as area
 use Rattle.inf_area.specs.declared.targets.Target.TheVariants as target
@@ -15,7 +15,7 @@ use Rattle.inf_expressions.specs.declared.operators.Operand.{Operand}
 use Rattle.inf_expressions.specs.declared.operators.Operand.TheVariants as operand
 use Rattle.inf_gathering.specs.declared.gathering.Leaf.{Leaf}
 use Rattle.inf_gathering.specs.declared.gathering.Leaf.TheVariants as leaf
-use Rattle.inf_names.specs.Symbols.{Table, found_in}
+use Rattle.inf_names.specs.Symbols.{Table, found_in, no_names, number_of as name_number, with_used}
 use Rattle.inf_names.specs.declared.meanings.Function.{Function as NamedFunction}
 use Rattle.inf_names.specs.declared.meanings.Function.TheVariants as named
 use Rattle.inf_names.specs.declared.meanings.Meaning.{Meaning}
@@ -28,6 +28,7 @@ use Rattle.inf_unit.specs.Tokens.{Spelled}
 use Rattle.inf_unit.specs.Units.{bytes_at, name_at}
 use Rattle.inf_unit.specs.declared.items.Item.{Item}
 use Rattle.inf_unit.specs.declared.items.Item.TheVariants as item
+use Rattle.inf_output.specs.Actions.{action_number, action_of, key_of}
 use Rattle.inf_output.specs.Output.{Code, Out, referred, referred_as, string_at, with_text, with_word}
 use Rattle.inf_statements.specs.Printing.{text_at}
 
@@ -94,7 +95,7 @@ looked_alone locals names name = if is_stack name (number_of name locals) then o
 abbrev pub word_operand : DictionaryWord → Operand
 word_operand word = operand.Later (target.Word word.text)
 
--- What a leaf stands for, where its name is only looked up: a text is some string. Actions and system constants are in no expression yet.
+-- What a leaf that is no action stands for, where its name is only looked up: a text is some string. System constants are in no expression yet.
 abbrev pub looked : List Local → Table Place → List Spelled → Leaf → Operand
 looked locals names tokens (leaf.Name at) = looked_name locals names (bytes_at tokens at)
 looked locals names tokens (leaf.Alone at) = looked_alone locals names (bytes_at tokens at)
@@ -105,12 +106,37 @@ looked locals names tokens (leaf.Text at) = operand.Later (target.Place area.Str
 looked locals names tokens (leaf.Action at) = operand.Unknown
 looked locals names tokens (leaf.System at) = operand.Unknown
 
-abbrev pub looked_from : List Local → Table Place → List Spelled → List Leaf → List Operand → List Operand
-looked_from locals names tokens [] operands = operands
-looked_from locals names tokens (l ∷ leaves) operands = looked_from locals names tokens leaves (operands ++ looked locals names tokens l ∷ [])
+-- An action that did not appear is the next one, where it would appear behind other new ones of its unit.
+abbrev pub word_sum : ℕ → ℕ → ℕ
+word_sum a b = (a % 65536 + b % 65536) % 65536
 
-abbrev pub all_looked : List Local → Table Place → List Spelled → List Leaf → List Operand
-all_looked locals names tokens leaves = looked_from locals names tokens leaves []
+abbrev pub new_action : Name → Out → Table Place → Table Place × ℕ
+new_action n o ahead =
+    let key = key_of n.bytes in (with_used key n.place ahead, word_sum (length o.seen.names) (unwrap_or (name_number key ahead) 0))
+
+abbrev pub as_known : {A : Type 0} → A × ℕ → A × Operand
+as_known s = (s.0, operand.Known s.1)
+
+abbrev pub looked_action_by : Option ℕ → Name → Out → Table Place → Table Place × Operand
+looked_action_by (Some number) n o ahead = (ahead, operand.Known number)
+looked_action_by None n o ahead = as_known (new_action n o ahead)
+
+abbrev pub looked_action : Option Name → Out → Table Place → Table Place × Operand
+looked_action None o ahead = (ahead, operand.Known 0)
+looked_action (Some n) o ahead = looked_action_by (action_number n.bytes o) n o ahead
+
+-- a leaf behind others with new actions, and all of them
+abbrev pub looked_leaf : List Local → Out → List Spelled → Leaf → Table Place → Table Place × Operand
+looked_leaf locals o tokens (leaf.Action at) ahead = looked_action (name_at tokens at) o ahead
+looked_leaf locals o tokens l ahead = (ahead, looked locals o.names tokens l)
+
+abbrev pub looked_from : List Local → Out → List Spelled → List Leaf → Table Place → List Operand → List Operand
+looked_from locals o tokens [] ahead operands = operands
+looked_from locals o tokens (l ∷ leaves) ahead operands =
+    let s = looked_leaf locals o tokens l ahead in looked_from locals o tokens leaves s.0 (operands ++ s.1 ∷ [])
+
+abbrev pub all_looked : List Local → Out → List Spelled → List Leaf → List Operand
+all_looked locals o tokens leaves = looked_from locals o tokens leaves (no_names 4294967295 false) []
 
 -- Settling
 
@@ -145,6 +171,11 @@ settled_text (Some items) o = (with_text (packed items []) o, operand.Later (str
 abbrev pub settled_word : DictionaryWord → Out → Out × Operand
 settled_word word o = (with_word word.text word_use.Other word.is_plural o, word_operand word)
 
+-- an action, which appears
+abbrev pub settled_action : Option Name → Out → Out × Operand
+settled_action None o = (o, operand.Known 0)
+settled_action (Some n) o = as_known (action_of n.bytes n.place o)
+
 -- a leaf, whose name is used where it is no local
 abbrev pub settled_leaf : CharSet → List Local → List Spelled → Leaf → Out → Out × Operand
 settled_leaf set locals tokens (leaf.Name at) o = settled_name locals (name_at tokens at) o
@@ -153,14 +184,19 @@ settled_leaf set locals tokens (leaf.Number number) o = (o, operand.Known number
 settled_leaf set locals tokens (leaf.Char zscii) o = (o, operand.Known zscii)
 settled_leaf set locals tokens (leaf.Word word) o = settled_word word o
 settled_leaf set locals tokens (leaf.Text at) o = settled_text (text_at set tokens at) o
-settled_leaf set locals tokens (leaf.Action at) o = (o, operand.Unknown)
+settled_leaf set locals tokens (leaf.Action at) o = settled_action (name_at tokens at) o
 settled_leaf set locals tokens (leaf.System at) o = (o, operand.Unknown)
 
--- what a leaf that is a text or a word by itself adds to a story
+-- what leaves add to a story that are texts, words or actions
+abbrev pub one_added : CharSet → List Spelled → Leaf → Code
+one_added set tokens (leaf.Text at) o = (settled_text (text_at set tokens at) o).0
+one_added set tokens (leaf.Word word) o = (settled_word word o).0
+one_added set tokens (leaf.Action at) o = (settled_action (name_at tokens at) o).0
+one_added set tokens _ o = o
+
 abbrev pub leaf_added : CharSet → List Spelled → List Leaf → Code
-leaf_added set tokens ((leaf.Text at) ∷ leaves) o = (settled_text (text_at set tokens at) o).0
-leaf_added set tokens ((leaf.Word word) ∷ leaves) o = (settled_word word o).0
-leaf_added set tokens _ o = o
+leaf_added set tokens [] o = o
+leaf_added set tokens (l ∷ leaves) o = leaf_added set tokens leaves (one_added set tokens l o)
 
 abbrev pub with_settled : Out × Operand → List Operand → Settled
 with_settled s operands = record { out = s.0; operands = operands ++ s.1 ∷ [] }

@@ -53,6 +53,8 @@ word_statement t =
 abbrev pub mark_statement : Mark → Statement
 mark_statement mark.Dot = statement.Place
 mark_statement mark.At = statement.Assembly
+mark_statement mark.Less = statement.Action
+mark_statement mark.DoubleLess = statement.ActionReturn
 mark_statement _ = statement.Expression
 
 -- a text alone is printed, and one with an operator behind it is an expression
@@ -129,6 +131,19 @@ moved _ = nothing
 abbrev pub spaced : List Tree → Code
 spaced [] = nothing
 spaced (e ∷ trees) = call_routine veneer.Spaces (part (meaning e) ∷ []) None
+
+-- an action, with a noun or two: a call of the routine that processes actions
+abbrev pub processed : List Part → Code
+processed parts = call_routine veneer.Process parts None
+
+abbrev pub action_on : Part → List Tree → Code
+action_on action [] = processed (action ∷ [])
+action_on action (a ∷ []) = processed (action ∷ part (meaning a) ∷ [])
+action_on action (a ∷ b ∷ trees) = processed (action ∷ part (meaning a) ∷ part (meaning b) ∷ [])
+
+abbrev pub action_laid : List Tree → Code
+action_laid [] = nothing
+action_laid (e ∷ trees) = action_on (part (meaning e)) trees
 
 -- a branch where the expression is not true
 abbrev pub unless : List Tree → Label → Code

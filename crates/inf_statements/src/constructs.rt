@@ -5,7 +5,7 @@ ghost use Rattle.inf_expressions.specs.Nodes.{tree_at};
 ghost use Rattle.inf_expressions.specs.Questions.{children_of};
 ghost use Rattle.inf_output.specs.Output.{items_of};
 ghost use Rattle.inf_templates.specs.Tasks.{at};
-ghost use Rattle.inf_statements.specs.Constructs.{begun, between, break_of, case_closed, changed, closed, condition_label, continue_of, ended, ending, entered, entered_by, front, is_late, is_late_in, joint, kind_behind, left_to, left_to_by, looped, looped_by, looped_on, looped_over, next_case, next_case_in, opened, otherwise, over_all, over_children, stepped, tested_over, with_labels};
+ghost use Rattle.inf_statements.specs.Constructs.{are_cases, are_own, begun, between, break_of, case_closed, case_entered, cases_begun, changed, closed, condition_label, continue_of, default_entered, depth, depth_by, ended, ending, entered, entered_by, front, is_late, is_late_in, joint, kind_behind, left_to, left_to_by, looped, looped_by, looped_on, looped_over, next_case, next_case_in, opened, otherwise, outermost, over_all, over_children, stepped, tested_over, values_entered, with_case, with_labels};
 
 use inf_area::{SystemConstant, Target};
 use inf_expressions::{Forest, Nodes, Root, children_of};
@@ -51,6 +51,8 @@ pub enum Kind {
     Objects(Over, u8),
     /// With its open case, and whether a default was among its cases.
     Switch(Case, bool),
+    /// The cases of a routine itself, with the same.
+    Cases(Case, bool),
 }
 
 /// A statement that is open.
@@ -294,34 +296,129 @@ fn close(construct: &Construct, out: &mut Output) -> Result<(), AllocError>
             lay_loop_end(over, variable, construct.top, out)?;
             out.mark(construct.end)
         }
-        Kind::Switch(case, _) => {
+        Kind::Switch(case, _) | Kind::Cases(case, _) => {
             close_case(case, construct.end, out)?;
             out.mark(construct.end)
         }
     }
 }
 
-/// A case begins, which is the default or not.
-#[tactic(auto, unfolding(crate::specs::Constructs::entered))]
-fn enter(
-    is_default: bool,
+/// What has an open case: the cases of a routine itself, or a `switch`.
+fn with_case(are_own: bool, case: Case, had_default: bool) -> Kind
+    ensures { result ≡ with_case are_own case had_default }
+{
+    if are_own {
+        Kind::Cases(case, had_default)
+    } else {
+        Kind::Switch(case, had_default)
+    }
+}
+
+/// A default begins behind an open case.
+fn enter_default(
+    are_own: bool,
+    case: Case,
     mut construct: Construct,
     out: &mut Output,
 ) -> Result<Construct, AllocError>
+    ensures { IfOk result (λ c. (c, out.new) ≡ default_entered are_own case construct out.old) }
+{
+    close_case(case, construct.end, out)?;
+    construct.kind = with_case(are_own, Case::Default, true);
+    Ok(construct)
+}
+
+/// A case of values begins behind an open case, behind a default or not.
+fn enter_values(
+    are_own: bool,
+    case: Case,
+    had_default: bool,
+    mut construct: Construct,
+    out: &mut Output,
+) -> Result<Construct, AllocError>
+    ensures { IfOk result (λ c. (c, out.new) ≡ values_entered are_own case had_default construct out.old) }
+{
+    let next = out.label();
+    close_case(case, construct.end, out)?;
+    construct.kind = with_case(are_own, Case::Values(next), had_default);
+    Ok(construct)
+}
+
+/// A case begins behind an open case, which is the default or not.
+fn enter_case(
+    are_own: bool,
+    is_default: bool,
+    case: Case,
+    had_default: bool,
+    construct: Construct,
+    out: &mut Output,
+) -> Result<Construct, AllocError>
+    ensures { IfOk result (λ c. (c, out.new) ≡ case_entered are_own is_default case had_default construct out.old) }
+{
+    if is_default {
+        enter_default(are_own, case, construct, out)
+    } else {
+        enter_values(are_own, case, had_default, construct, out)
+    }
+}
+
+/// A case begins, which is the default or not.
+#[tactic(auto, unfolding(crate::specs::Constructs::entered))]
+fn enter(is_default: bool, construct: Construct, out: &mut Output) -> Result<Construct, AllocError>
     ensures { IfOk result (λ c. (c, out.new) ≡ entered is_default construct out.old) }
 {
-    let Kind::Switch(case, had_default) = construct.kind else {
-        return Ok(construct);
-    };
-    if is_default {
-        close_case(case, construct.end, out)?;
-        construct.kind = Kind::Switch(Case::Default, true);
-    } else {
-        let next = out.label();
-        close_case(case, construct.end, out)?;
-        construct.kind = Kind::Switch(Case::Values(next), had_default);
+    match construct.kind {
+        Kind::Switch(case, had_default) => {
+            enter_case(false, is_default, case, had_default, construct, out)
+        }
+        Kind::Cases(case, had_default) => {
+            enter_case(true, is_default, case, had_default, construct, out)
+        }
+        _ => Ok(construct),
     }
-    Ok(construct)
+}
+
+/// Whether these are the cases of a routine itself.
+fn are_cases(kind: Kind) -> bool
+    ensures { result ≡ are_cases kind }
+{
+    matches!(kind, Kind::Cases(..))
+}
+
+/// How many of so many are statements, where the outermost is this.
+fn depth_by(outermost: Option<Kind>, count: usize) -> usize
+    ensures { result ≡ depth_by outermost count }
+{
+    match outermost {
+        Some(kind) => {
+            if are_cases(kind) {
+                count.saturating_sub(1)
+            } else {
+                count
+            }
+        }
+        None => count,
+    }
+}
+
+/// Whether a case of this would come behind its default.
+fn is_late_in(kind: Kind) -> bool
+    ensures { result ≡ is_late_in kind }
+{
+    match kind {
+        Kind::Switch(_, had_default) | Kind::Cases(_, had_default) => had_default,
+        _ => false,
+    }
+}
+
+/// The label behind its open case, if that is one of values.
+fn next_case_in(kind: Kind) -> Option<Label>
+    ensures { result ≡ next_case_in kind }
+{
+    match kind {
+        Kind::Switch(Case::Values(next), _) | Kind::Cases(Case::Values(next), _) => Some(next),
+        _ => None,
+    }
 }
 
 fn break_of(construct: &Construct) -> Option<Label>
@@ -337,7 +434,7 @@ fn continue_of(construct: &Construct) -> Option<Label>
     ensures { result ≡ continue_of construct.now construct.now.kind }
 {
     match construct.kind {
-        Kind::If | Kind::Else | Kind::Switch(..) => None,
+        Kind::If | Kind::Else | Kind::Switch(..) | Kind::Cases(..) => None,
         _ => Some(construct.next),
     }
 }
@@ -459,6 +556,44 @@ impl Constructs {
         Ok(())
     }
 
+    /// Before a case: one outside of any statement is one of the routine's own.
+    pub fn begin_cases(&mut self, out: &mut Output) -> Result<(), AllocError>
+        ensures { OnOk result ((self.new, out.new) ≡ cases_begun self.old out.old) }
+    {
+        match self.innermost() {
+            Some(_) => Ok(()),
+            None => self.begin(Kind::Cases(Case::Nothing, false), out),
+        }
+    }
+
+    /// Whether a case is one of the routine's own: its values are actions.
+    pub fn are_own(&self) -> bool
+        ensures { result ≡ are_own self.now }
+    {
+        match self.innermost() {
+            Some(construct) => are_cases(construct.kind),
+            None => false,
+        }
+    }
+
+    /// The kind of the outermost.
+    #[tactic(auto, using(crate::proofs::Outermost::outermost_none, crate::proofs::Outermost::outermost_some))]
+    fn outermost(&self) -> Option<Kind>
+        ensures { result ≡ outermost self.now }
+    {
+        match self.list.first() {
+            Some(construct) => Some(construct.kind),
+            None => None,
+        }
+    }
+
+    /// How many statements are open: the cases of a routine itself are none.
+    pub fn depth(&self) -> usize
+        ensures { result ≡ depth self.now }
+    {
+        depth_by(self.outermost(), self.len())
+    }
+
     /// A case of the innermost begins, which is the default or not.
     pub fn enter(&mut self, is_default: bool, out: &mut Output) -> Result<(), AllocError>
         ensures { OnOk result ((self.new, out.new) ≡ changed (entered is_default) self.old out.old) }
@@ -496,7 +631,7 @@ impl Constructs {
         ensures { result ≡ is_late self.now }
     {
         match self.innermost() {
-            Some(construct) => matches!(construct.kind, Kind::Switch(_, true)),
+            Some(construct) => is_late_in(construct.kind),
             None => false,
         }
     }
@@ -506,10 +641,7 @@ impl Constructs {
         ensures { result ≡ next_case self.now }
     {
         let construct = self.innermost()?;
-        match construct.kind {
-            Kind::Switch(Case::Values(next), _) => Some(next),
-            _ => None,
-        }
+        next_case_in(construct.kind)
     }
 
     /// Where `continue`, or `break`, goes: the innermost that there is.

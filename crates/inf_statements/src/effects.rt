@@ -14,8 +14,8 @@ use crate::constructs::Constructs;
 use crate::labels::Labels;
 use crate::printing::{Printing, print_items};
 use crate::statements::{
-    Statement, lay_expression, lay_give, lay_jump, lay_move, lay_one, lay_return, lay_spaces,
-    lay_style, plain, statement_in, style_of,
+    Statement, lay_action, lay_expression, lay_give, lay_jump, lay_move, lay_one, lay_return,
+    lay_spaces, lay_style, plain, statement_in, style_of,
 };
 use inf_expressions::{Finding, Forest, Nodes, Root, Wanted};
 use inf_names::symbols::Symbols;
@@ -192,6 +192,11 @@ impl Site<'_> {
             Statement::Continue => lay_jump(self.constructs.left_to(true), out),
             Statement::Give => lay_give(self.items, forest, tasks, out),
             Statement::Move => lay_move(forest, tasks, out),
+            Statement::Action => lay_action(forest, tasks, out),
+            Statement::ActionReturn => {
+                lay_action(forest, tasks, out)?;
+                plain(Opcode::Rtrue, out)
+            }
             Statement::Remove => {
                 lay_one(Opcode::RemoveObj, &forest.nodes, &forest.roots, tasks, out)
             }

@@ -2,7 +2,7 @@
 ghost use Rattle.std.specs.Prelude.{◌≡◌, ◌≤◌, [], ◌∷◌, ◌++◌, List, IfOk, IfSome, OnOk, length, option_map};
 ghost use Rattle.inf_symbol.specs.LocalList.{listed};
 ghost use Rattle.inf_unit.specs.NameTokens.{named};
-ghost use Rattle.inf_statements.specs.Operands.{Settled, all_looked, found_operand, function_of, is_stack, leaf_added, leaf_named, leaves_named, looked, looked_alone, looked_name, operand_by, referring, settled, settled_alone, settled_as, settled_leaf, settled_name, settled_text, settled_word, standing, stores_named, word_operand};
+ghost use Rattle.inf_statements.specs.Operands.{Settled, all_looked, found_operand, function_of, is_stack, leaf_added, leaf_named, leaves_named, looked, looked_action, looked_alone, looked_leaf, looked_name, new_action, one_added, operand_by, referring, settled, settled_action, settled_alone, settled_as, settled_leaf, settled_name, settled_text, settled_word, standing, stores_named, word_operand, word_sum};
 ghost use Rattle.inf_statements.specs.Printing.{text_at};
 
 use inf_area::{AreaName, Target};
@@ -10,7 +10,7 @@ use inf_expressions::{Function, Operand};
 use inf_gathering::gathering::Leaf;
 use inf_names::meanings::{Function as NamedFunction, Meaning};
 use inf_names::symbols::{Found, Symbols};
-use inf_output::Output;
+use inf_output::{Output, action_key};
 use inf_scanner::{DictionaryWord, Place};
 use inf_symbol::locals::Locals;
 use inf_tables::WordUse;
@@ -139,19 +139,88 @@ fn looked(locals: &Locals, names: &Symbols<Place>, tokens: &UnitTokens, leaf: Le
     }
 }
 
+/// The sum of two numbers, modulo 65536.
+fn word_sum(a: usize, b: usize) -> u16
+    ensures { result ≡ word_sum a b }
+{
+    ((a % 65536 + b % 65536) % 65536) as u16
+}
+
+/// The number of an action that did not appear and is only looked up, which other such ones may come ahead of.
+fn new_action(
+    name: NameToken<'_>,
+    out: &Output,
+    ahead: &mut Symbols<Place>,
+) -> Result<u16, AllocError>
+    requires { length name.bytes.now ≤ 32 }
+    ensures { IfOk result (λ number. (ahead.new, number) ≡ new_action (named name.entry) out.now ahead.old) }
+{
+    let key = action_key(name.bytes);
+    match ahead.refer(key.as_slice(), name.place) {
+        Ok(number) => Ok(word_sum(out.seen.len(), number.unwrap_or(0))),
+        Err(_) => Err(AllocError),
+    }
+}
+
+/// An action that is only looked up.
+fn looked_action(
+    name: Option<NameToken<'_>>,
+    out: &Output,
+    ahead: &mut Symbols<Place>,
+) -> Result<Operand, AllocError>
+    requires { IfSome name (λ n. length n.bytes.now ≤ 32) }
+    ensures { IfOk result (λ operand. (ahead.new, operand) ≡ looked_action (option_map named name.entry) out.now ahead.old) }
+{
+    let Some(name) = name else {
+        return Ok(Operand::Known(0));
+    };
+    match out.action_number(name.bytes) {
+        Some(number) => Ok(Operand::Known(number)),
+        None => Ok(Operand::Known(new_action(name, out, ahead)?)),
+    }
+}
+
+/// The number of an action, which appears.
+fn settled_action(name: Option<NameToken<'_>>, out: &mut Output) -> Result<Operand, AllocError>
+    requires { IfSome name (λ n. length n.bytes.now ≤ 32) }
+    ensures { IfOk result (λ operand. (out.new, operand) ≡ settled_action (option_map named name.entry) out.old) }
+{
+    match name {
+        Some(name) => Ok(Operand::Known(out.action(name.bytes, name.place)?)),
+        None => Ok(Operand::Known(0)),
+    }
+}
+
+/// What a leaf of a unit with these tokens stands for, where its name is only looked up, behind new actions.
+fn looked_leaf(
+    locals: &Locals,
+    out: &Output,
+    tokens: &UnitTokens,
+    leaf: Leaf,
+    ahead: &mut Symbols<Place>,
+) -> Result<Operand, AllocError>
+    ensures { IfOk result (λ operand. (ahead.new, operand) ≡ looked_leaf (listed locals.now) out.now tokens.now leaf ahead.old) }
+{
+    match leaf {
+        Leaf::Action(at) => looked_action(tokens.name_at(at), out, ahead),
+        _ => Ok(looked(locals, &out.names, tokens, leaf)),
+    }
+}
+
 /// What the leaves of a unit with these tokens stand for, where their names are only looked up.
 pub fn all_looked(
     alloc: Global,
     locals: &Locals,
-    names: &Symbols<Place>,
+    out: &Output,
     tokens: &UnitTokens,
     leaves: &[Leaf],
 ) -> Result<Vec<Operand>, AllocError>
-    ensures { IfOk result (λ operands. operands.items ≡ all_looked (listed locals.now) names.now tokens.now leaves.now) }
+    ensures { IfOk result (λ operands. operands.items ≡ all_looked (listed locals.now) out.now tokens.now leaves.now) }
 {
+    let mut ahead = Symbols::new(alloc, u32::MAX, false);
     let mut operands = Vec::with_capacity(alloc, leaves.len())?;
     for leaf in leaves {
-        operands.push(looked(locals, names, tokens, *leaf))?;
+        operands.push(looked_leaf(locals, out, tokens, *leaf, &mut ahead)?)?;
     }
     Ok(operands)
 }
@@ -229,7 +298,7 @@ fn settled_word(word: DictionaryWord, out: &mut Output) -> Result<Operand, Alloc
     Ok(word_operand(word))
 }
 
-/// What a leaf that is a text or a word by itself adds to a story.
+/// What leaves add to a story that are texts, words or actions.
 pub fn add_leaf(
     alloc: Global,
     set: CharSet,
@@ -239,12 +308,31 @@ pub fn add_leaf(
 ) -> Result<(), AllocError>
     ensures { OnOk result (out.new ≡ leaf_added set tokens.now leaves.now out.old) }
 {
-    match leaves.first() {
-        Some(Leaf::Text(at)) => {
-            settled_text(alloc, set, tokens, *at, out)?;
+    for leaf in leaves {
+        add_one(alloc, set, tokens, *leaf, out)?;
+    }
+    Ok(())
+}
+
+/// What a leaf adds to a story that is a text, a word or an action.
+fn add_one(
+    alloc: Global,
+    set: CharSet,
+    tokens: &UnitTokens,
+    leaf: Leaf,
+    out: &mut Output,
+) -> Result<(), AllocError>
+    ensures { OnOk result (out.new ≡ one_added set tokens.now leaf out.old) }
+{
+    match leaf {
+        Leaf::Text(at) => {
+            settled_text(alloc, set, tokens, at, out)?;
         }
-        Some(Leaf::Word(word)) => {
-            settled_word(*word, out)?;
+        Leaf::Word(word) => {
+            settled_word(word, out)?;
+        }
+        Leaf::Action(at) => {
+            settled_action(tokens.name_at(at), out)?;
         }
         _ => {}
     }
@@ -269,7 +357,8 @@ fn settled_leaf(
         Leaf::Char(zscii) => Ok(Operand::Known(u16::from(zscii.code()))),
         Leaf::Word(word) => settled_word(word, out),
         Leaf::Text(at) => settled_text(alloc, set, tokens, at, out),
-        Leaf::Action(_) | Leaf::System(_) => Ok(Operand::Unknown),
+        Leaf::Action(at) => settled_action(tokens.name_at(at), out),
+        Leaf::System(_) => Ok(Operand::Unknown),
     }
 }
 

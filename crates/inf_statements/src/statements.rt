@@ -5,9 +5,9 @@ ghost use Rattle.inf_expressions.specs.Nodes.{tree_at};
 ghost use Rattle.inf_expressions.specs.Trees.{Tree};
 ghost use Rattle.inf_output.specs.Output.{Takes};
 ghost use Rattle.inf_templates.specs.Meaning.{Meaning};
-ghost use Rattle.inf_templates.specs.Tasks.{part_of};
+ghost use Rattle.inf_templates.specs.Tasks.{part_of, parts_of};
 ghost use Rattle.inf_unit.specs.Tokens.{spelled};
-ghost use Rattle.inf_statements.specs.Statements.{alone, are_several, attribute_code, attribute_opcode, attributes_changed, attributes_given, jumped_to, mark_statement, moved, one_worked, plain, rest, returned, returned_by, spaced, statement_in, statement_of_kind, style_of, styled, styled_by, switched, tested, text_statement, tree_in, trees_from, unless, word_statement};
+ghost use Rattle.inf_statements.specs.Statements.{action_laid, action_on, alone, are_several, attribute_code, attribute_opcode, attributes_changed, attributes_given, jumped_to, mark_statement, moved, one_worked, plain, processed, rest, returned, returned_by, spaced, statement_in, statement_of_kind, style_of, styled, styled_by, switched, tested, text_statement, tree_in, trees_from, unless, word_statement};
 
 use crate::cases::SWITCHED;
 use inf_expressions::{Forest, Nodes, Root};
@@ -52,6 +52,9 @@ pub enum Statement {
     Style,
     /// A line of assembly, which begins with `@`.
     Assembly,
+    /// An action in angle brackets, and one that returns behind it.
+    Action,
+    ActionReturn,
 }
 
 /// What a statement is that begins with a token, by its word.
@@ -100,6 +103,8 @@ fn mark_statement(mark: Mark) -> Statement
     match mark {
         Mark::Dot => Statement::Place,
         Mark::At => Statement::Assembly,
+        Mark::Less => Statement::Action,
+        Mark::DoubleLess => Statement::ActionReturn,
         _ => Statement::Expression,
     }
 }
@@ -296,6 +301,54 @@ pub(crate) fn lay_spaces(
         Some(root) => {
             let argument = [Argument::Of(root.place)];
             lay_routine_call(tasks, &forest.nodes, Veneer::Spaces, &argument, None, out)
+        }
+        None => Ok(()),
+    }
+}
+
+/// A call of the routine that processes actions.
+fn lay_process(
+    arguments: &[Argument],
+    nodes: &Nodes,
+    tasks: &mut Tasks,
+    out: &mut Output,
+) -> Result<(), AllocError>
+    ensures { OnOk result (out.new ≡ processed (parts_of nodes.now arguments.now) out.old) }
+{
+    lay_routine_call(tasks, nodes, Veneer::Process, arguments, None, out)
+}
+
+/// An action with a noun, or with two.
+fn lay_action_on(
+    action: Argument,
+    nouns: &[Root],
+    nodes: &Nodes,
+    tasks: &mut Tasks,
+    out: &mut Output,
+) -> Result<(), AllocError>
+    ensures { OnOk result (out.new ≡ action_on (part_of nodes.now action) (trees_from nodes.now nouns.now) out.old) }
+{
+    match nouns {
+        [] => lay_process(&[action], nodes, tasks, out),
+        [noun] => lay_process(&[action, Argument::Of(noun.place)], nodes, tasks, out),
+        [noun, second, ..] => {
+            let arguments = [action, Argument::Of(noun.place), Argument::Of(second.place)];
+            lay_process(&arguments, nodes, tasks, out)
+        }
+    }
+}
+
+/// An action: a call of a routine of the veneer with the trees.
+pub(crate) fn lay_action(
+    forest: &Forest,
+    tasks: &mut Tasks,
+    out: &mut Output,
+) -> Result<(), AllocError>
+    ensures { OnOk result (out.new ≡ action_laid (map tree_in (trees_in forest.now)) out.old) }
+{
+    match forest.roots.as_slice().split_first() {
+        Some((root, nouns)) => {
+            lay_action_on(Argument::Of(root.place), nouns, &forest.nodes, tasks, out)
         }
         None => Ok(()),
     }

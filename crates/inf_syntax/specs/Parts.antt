@@ -404,6 +404,9 @@ abbrev pub !end_header : Symbol Action
 abbrev pub !end_text : Symbol Action
 !end_text = Act action.EndText
 
+abbrev pub !end_body : Symbol Action
+!end_body = Act action.EndBody
+
 abbrev pub !end_directive : Symbol Action
 !end_directive = Act action.EndDirective
 
@@ -415,6 +418,12 @@ abbrev pub !name : Symbol Action
 
 abbrev pub !end_entry : Symbol Action
 !end_entry = Act action.EndEntry
+
+abbrev pub !end_alone : Symbol Action
+!end_alone = Act action.EndAlone
+
+abbrev pub !hold : Symbol Action
+!hold = Act action.Hold
 
 abbrev pub !end_class : Symbol Action
 !end_class = Act action.EndClass
@@ -737,692 +746,707 @@ directive_12 = Rule 14
 abbrev pub directive_13 : Symbol Action
 directive_13 = Rule 15
 
-abbrev pub directive_14 : Symbol Action
-directive_14 = Rule 16
-
-abbrev pub directive_15 : Symbol Action
-directive_15 = Rule 17
-
 abbrev pub whole_directive : Symbol Action
-whole_directive = Rule 18
+whole_directive = Rule 16
 
 abbrev pub whole_directive_1 : Symbol Action
-whole_directive_1 = Rule 19
+whole_directive_1 = Rule 17
 
 abbrev pub whole_directive_2 : Symbol Action
-whole_directive_2 = Rule 20
+whole_directive_2 = Rule 18
 
 abbrev pub whole_directive_3 : Symbol Action
-whole_directive_3 = Rule 21
+whole_directive_3 = Rule 19
 
 abbrev pub whole_directive_4 : Symbol Action
-whole_directive_4 = Rule 22
+whole_directive_4 = Rule 20
 
 abbrev pub whole_directive_5 : Symbol Action
-whole_directive_5 = Rule 23
+whole_directive_5 = Rule 21
 
 abbrev pub whole_directive_6 : Symbol Action
-whole_directive_6 = Rule 24
+whole_directive_6 = Rule 22
 
 abbrev pub initial : Symbol Action
-initial = Rule 25
+initial = Rule 23
 
 abbrev pub initial_1 : Symbol Action
-initial_1 = Rule 26
+initial_1 = Rule 24
+
+abbrev pub plain_entries : Symbol Action
+plain_entries = Rule 25
+
+abbrev pub plain_entries_1 : Symbol Action
+plain_entries_1 = Rule 26
+
+abbrev pub plain_entries_2 : Symbol Action
+plain_entries_2 = Rule 27
+
+abbrev pub listed_entries : Symbol Action
+listed_entries = Rule 28
+
+abbrev pub first_listed : Symbol Action
+first_listed = Rule 29
+
+abbrev pub held : Symbol Action
+held = Rule 30
+
+abbrev pub more_listed : Symbol Action
+more_listed = Rule 31
 
 abbrev pub array_entry : Symbol Action
-array_entry = Rule 27
+array_entry = Rule 32
 
 abbrev pub object : Symbol Action
-object = Rule 28
+object = Rule 33
 
 abbrev pub object_1 : Symbol Action
-object_1 = Rule 29
+object_1 = Rule 34
 
 abbrev pub object_2 : Symbol Action
-object_2 = Rule 30
+object_2 = Rule 35
 
 abbrev pub object_3 : Symbol Action
-object_3 = Rule 31
+object_3 = Rule 36
 
 abbrev pub object_4 : Symbol Action
-object_4 = Rule 32
+object_4 = Rule 37
 
 abbrev pub body : Symbol Action
-body = Rule 33
+body = Rule 38
 
 abbrev pub part : Symbol Action
-part = Rule 34
+part = Rule 39
 
 abbrev pub part_1 : Symbol Action
-part_1 = Rule 35
+part_1 = Rule 40
 
 abbrev pub part_2 : Symbol Action
-part_2 = Rule 36
+part_2 = Rule 41
 
 abbrev pub properties : Symbol Action
-properties = Rule 37
+properties = Rule 42
 
 abbrev pub properties_1 : Symbol Action
-properties_1 = Rule 38
+properties_1 = Rule 43
 
 abbrev pub property : Symbol Action
-property = Rule 39
+property = Rule 44
 
 abbrev pub property_1 : Symbol Action
-property_1 = Rule 40
+property_1 = Rule 45
 
 abbrev pub property_2 : Symbol Action
-property_2 = Rule 41
+property_2 = Rule 46
 
 abbrev pub value : Symbol Action
-value = Rule 42
+value = Rule 47
 
 abbrev pub value_1 : Symbol Action
-value_1 = Rule 43
+value_1 = Rule 48
 
 abbrev pub value_2 : Symbol Action
-value_2 = Rule 44
+value_2 = Rule 49
 
 abbrev pub value_3 : Symbol Action
-value_3 = Rule 45
+value_3 = Rule 50
 
 abbrev pub bare_prim : Symbol Action
-bare_prim = Rule 46
+bare_prim = Rule 51
 
 abbrev pub attribute : Symbol Action
-attribute = Rule 47
+attribute = Rule 52
 
 abbrev pub attribute_1 : Symbol Action
-attribute_1 = Rule 48
+attribute_1 = Rule 53
 
 abbrev pub line : Symbol Action
-line = Rule 49
+line = Rule 54
 
 abbrev pub line_1 : Symbol Action
-line_1 = Rule 50
+line_1 = Rule 55
 
 abbrev pub line_2 : Symbol Action
-line_2 = Rule 51
+line_2 = Rule 56
 
 abbrev pub line_3 : Symbol Action
-line_3 = Rule 52
+line_3 = Rule 57
 
 abbrev pub line_4 : Symbol Action
-line_4 = Rule 53
+line_4 = Rule 58
 
 abbrev pub expression : Symbol Action
-expression = Rule 54
+expression = Rule 59
 
 abbrev pub expression_tail : Symbol Action
-expression_tail = Rule 55
+expression_tail = Rule 60
 
 abbrev pub assign : Symbol Action
-assign = Rule 56
+assign = Rule 61
 
 abbrev pub other_assign : Symbol Action
-other_assign = Rule 57
+other_assign = Rule 62
 
 abbrev pub prefixed : Symbol Action
-prefixed = Rule 58
+prefixed = Rule 63
 
 abbrev pub assign_tail : Symbol Action
-assign_tail = Rule 59
+assign_tail = Rule 64
 
 abbrev pub assign_tail_1 : Symbol Action
-assign_tail_1 = Rule 60
+assign_tail_1 = Rule 65
 
 abbrev pub logic : Symbol Action
-logic = Rule 61
+logic = Rule 66
 
 abbrev pub logic_tail : Symbol Action
-logic_tail = Rule 62
+logic_tail = Rule 67
 
 abbrev pub logic_operator : Symbol Action
-logic_operator = Rule 63
+logic_operator = Rule 68
 
 abbrev pub negated : Symbol Action
-negated = Rule 64
+negated = Rule 69
 
 abbrev pub test_tail : Symbol Action
-test_tail = Rule 65
+test_tail = Rule 70
 
 abbrev pub test_tail_1 : Symbol Action
-test_tail_1 = Rule 66
+test_tail_1 = Rule 71
 
 abbrev pub test : Symbol Action
-test = Rule 67
+test = Rule 72
 
 abbrev pub tested : Symbol Action
-tested = Rule 68
+tested = Rule 73
 
 abbrev pub tested_1 : Symbol Action
-tested_1 = Rule 69
+tested_1 = Rule 74
 
 abbrev pub sum : Symbol Action
-sum = Rule 70
+sum = Rule 75
 
 abbrev pub sum_tail : Symbol Action
-sum_tail = Rule 71
+sum_tail = Rule 76
 
 abbrev pub sum_operator : Symbol Action
-sum_operator = Rule 72
+sum_operator = Rule 77
 
 abbrev pub term : Symbol Action
-term = Rule 73
+term = Rule 78
 
 abbrev pub term_tail : Symbol Action
-term_tail = Rule 74
+term_tail = Rule 79
 
 abbrev pub term_operator : Symbol Action
-term_operator = Rule 75
+term_operator = Rule 80
 
 abbrev pub bit : Symbol Action
-bit = Rule 76
+bit = Rule 81
 
 abbrev pub array_tail : Symbol Action
-array_tail = Rule 77
+array_tail = Rule 82
 
 abbrev pub array_operator : Symbol Action
-array_operator = Rule 78
+array_operator = Rule 83
 
 abbrev pub neg : Symbol Action
-neg = Rule 79
+neg = Rule 84
 
 abbrev pub inc : Symbol Action
-inc = Rule 80
+inc = Rule 85
 
 abbrev pub step_prefix : Symbol Action
-step_prefix = Rule 81
+step_prefix = Rule 86
 
 abbrev pub step_tail : Symbol Action
-step_tail = Rule 82
+step_tail = Rule 87
 
 abbrev pub step_operator : Symbol Action
-step_operator = Rule 83
+step_operator = Rule 88
 
 abbrev pub address_tail : Symbol Action
-address_tail = Rule 84
+address_tail = Rule 89
 
 abbrev pub address_operator : Symbol Action
-address_operator = Rule 85
+address_operator = Rule 90
 
 abbrev pub post : Symbol Action
-post = Rule 86
+post = Rule 91
 
 abbrev pub post_tail : Symbol Action
-post_tail = Rule 87
+post_tail = Rule 92
 
 abbrev pub call : Symbol Action
-call = Rule 88
+call = Rule 93
 
 abbrev pub call_1 : Symbol Action
-call_1 = Rule 89
+call_1 = Rule 94
 
 abbrev pub call_2 : Symbol Action
-call_2 = Rule 90
+call_2 = Rule 95
 
 abbrev pub prim : Symbol Action
-prim = Rule 91
+prim = Rule 96
 
 abbrev pub other_prim : Symbol Action
-other_prim = Rule 92
+other_prim = Rule 97
 
 abbrev pub bracketed : Symbol Action
-bracketed = Rule 93
+bracketed = Rule 98
 
 abbrev pub plain_prim : Symbol Action
-plain_prim = Rule 94
+plain_prim = Rule 99
 
 abbrev pub entry : Symbol Action
-entry = Rule 95
+entry = Rule 100
 
 abbrev pub after_prim : Symbol Action
-after_prim = Rule 96
+after_prim = Rule 101
 
 abbrev pub after_unary : Symbol Action
-after_unary = Rule 97
+after_unary = Rule 102
 
 abbrev pub operator : Symbol Action
-operator = Rule 98
+operator = Rule 103
 
 abbrev pub other_operator : Symbol Action
-other_operator = Rule 99
+other_operator = Rule 104
 
 abbrev pub inner_operator : Symbol Action
-inner_operator = Rule 100
+inner_operator = Rule 105
 
 abbrev pub member_operator : Symbol Action
-member_operator = Rule 101
+member_operator = Rule 106
 
 abbrev pub outer_operator : Symbol Action
-outer_operator = Rule 102
+outer_operator = Rule 107
 
 abbrev pub statement : Symbol Action
-statement = Rule 103
+statement = Rule 108
 
 abbrev pub statement_1 : Symbol Action
-statement_1 = Rule 104
+statement_1 = Rule 109
 
 abbrev pub statement_2 : Symbol Action
-statement_2 = Rule 105
+statement_2 = Rule 110
 
 abbrev pub statement_3 : Symbol Action
-statement_3 = Rule 106
+statement_3 = Rule 111
 
 abbrev pub statement_4 : Symbol Action
-statement_4 = Rule 107
+statement_4 = Rule 112
 
 abbrev pub statement_5 : Symbol Action
-statement_5 = Rule 108
+statement_5 = Rule 113
 
 abbrev pub plain_word : Symbol Action
-plain_word = Rule 109
+plain_word = Rule 114
 
 abbrev pub end : Symbol Action
-end = Rule 110
+end = Rule 115
 
 abbrev pub statement_end : Symbol Action
-statement_end = Rule 111
+statement_end = Rule 116
 
 abbrev pub mark_statement : Symbol Action
-mark_statement = Rule 112
+mark_statement = Rule 117
 
 abbrev pub mark_statement_1 : Symbol Action
-mark_statement_1 = Rule 113
+mark_statement_1 = Rule 118
 
 abbrev pub text_statement : Symbol Action
-text_statement = Rule 114
+text_statement = Rule 119
 
 abbrev pub text_statement_1 : Symbol Action
-text_statement_1 = Rule 115
+text_statement_1 = Rule 120
 
 abbrev pub text_more : Symbol Action
-text_more = Rule 116
+text_more = Rule 121
 
 abbrev pub if_rest : Symbol Action
-if_rest = Rule 117
+if_rest = Rule 122
 
 abbrev pub else_part : Symbol Action
-else_part = Rule 118
+else_part = Rule 123
 
 abbrev pub while_rest : Symbol Action
-while_rest = Rule 119
+while_rest = Rule 124
 
 abbrev pub do_rest : Symbol Action
-do_rest = Rule 120
+do_rest = Rule 125
 
 abbrev pub for_rest : Symbol Action
-for_rest = Rule 121
+for_rest = Rule 126
 
 abbrev pub for_rest_1 : Symbol Action
-for_rest_1 = Rule 122
+for_rest_1 = Rule 127
 
 abbrev pub for_rest_2 : Symbol Action
-for_rest_2 = Rule 123
+for_rest_2 = Rule 128
 
 abbrev pub for_rest_3 : Symbol Action
-for_rest_3 = Rule 124
+for_rest_3 = Rule 129
 
 abbrev pub objectloop_rest : Symbol Action
-objectloop_rest = Rule 125
+objectloop_rest = Rule 130
 
 abbrev pub switch_rest : Symbol Action
-switch_rest = Rule 126
+switch_rest = Rule 131
 
 abbrev pub switch_rest_1 : Symbol Action
-switch_rest_1 = Rule 127
+switch_rest_1 = Rule 132
 
 abbrev pub switch_rest_2 : Symbol Action
-switch_rest_2 = Rule 128
+switch_rest_2 = Rule 133
 
 abbrev pub print_rest : Symbol Action
-print_rest = Rule 129
+print_rest = Rule 134
 
 abbrev pub print_rest_1 : Symbol Action
-print_rest_1 = Rule 130
+print_rest_1 = Rule 135
 
 abbrev pub return_rest : Symbol Action
-return_rest = Rule 131
+return_rest = Rule 136
 
 abbrev pub return_rest_1 : Symbol Action
-return_rest_1 = Rule 132
+return_rest_1 = Rule 137
 
 abbrev pub jump_rest : Symbol Action
-jump_rest = Rule 133
+jump_rest = Rule 138
 
 abbrev pub give_rest : Symbol Action
-give_rest = Rule 134
+give_rest = Rule 139
 
 abbrev pub give_rest_1 : Symbol Action
-give_rest_1 = Rule 135
+give_rest_1 = Rule 140
 
 abbrev pub move_rest : Symbol Action
-move_rest = Rule 136
+move_rest = Rule 141
 
 abbrev pub of_expression : Symbol Action
-of_expression = Rule 137
+of_expression = Rule 142
 
 abbrev pub string_rest : Symbol Action
-string_rest = Rule 138
+string_rest = Rule 143
 
 abbrev pub style_rest : Symbol Action
-style_rest = Rule 139
+style_rest = Rule 144
 
 abbrev pub act : Symbol Action
-act = Rule 140
+act = Rule 145
 
 abbrev pub act_1 : Symbol Action
-act_1 = Rule 141
+act_1 = Rule 146
 
 abbrev pub act_2 : Symbol Action
-act_2 = Rule 142
+act_2 = Rule 147
 
 abbrev pub act_3 : Symbol Action
-act_3 = Rule 143
+act_3 = Rule 148
 
 abbrev pub assembly : Symbol Action
-assembly = Rule 144
+assembly = Rule 149
 
 abbrev pub assembly_1 : Symbol Action
-assembly_1 = Rule 145
+assembly_1 = Rule 150
 
 abbrev pub assembly_2 : Symbol Action
-assembly_2 = Rule 146
+assembly_2 = Rule 151
 
 abbrev pub assembly_3 : Symbol Action
-assembly_3 = Rule 147
+assembly_3 = Rule 152
 
 abbrev pub operands : Symbol Action
-operands = Rule 148
+operands = Rule 153
 
 abbrev pub operands_1 : Symbol Action
-operands_1 = Rule 149
+operands_1 = Rule 154
 
 abbrev pub operands_2 : Symbol Action
-operands_2 = Rule 150
+operands_2 = Rule 155
 
 abbrev pub store_or_branch : Symbol Action
-store_or_branch = Rule 151
+store_or_branch = Rule 156
 
 abbrev pub store_or_branch_1 : Symbol Action
-store_or_branch_1 = Rule 152
+store_or_branch_1 = Rule 157
 
 abbrev pub branch : Symbol Action
-branch = Rule 153
+branch = Rule 158
 
 abbrev pub branch_1 : Symbol Action
-branch_1 = Rule 154
+branch_1 = Rule 159
 
 abbrev pub item : Symbol Action
-item = Rule 155
+item = Rule 160
 
 abbrev pub item_1 : Symbol Action
-item_1 = Rule 156
+item_1 = Rule 161
 
 abbrev pub item_2 : Symbol Action
-item_2 = Rule 157
+item_2 = Rule 162
 
 abbrev pub bracket_item : Symbol Action
-bracket_item = Rule 158
+bracket_item = Rule 163
 
 abbrev pub bracket_name : Symbol Action
-bracket_name = Rule 159
+bracket_name = Rule 164
 
 abbrev pub bracket_name_1 : Symbol Action
-bracket_name_1 = Rule 160
+bracket_name_1 = Rule 165
 
 abbrev pub bracket_name_2 : Symbol Action
-bracket_name_2 = Rule 161
+bracket_name_2 = Rule 166
 
 abbrev pub ruled : Symbol Action
-ruled = Rule 162
+ruled = Rule 167
 
 abbrev pub top_item : Symbol Action
-top_item = Rule 163
+top_item = Rule 168
 
 abbrev pub top_item_1 : Symbol Action
-top_item_1 = Rule 164
+top_item_1 = Rule 169
 
 abbrev pub top_item_2 : Symbol Action
-top_item_2 = Rule 165
+top_item_2 = Rule 170
 
 abbrev pub top_item_3 : Symbol Action
-top_item_3 = Rule 166
+top_item_3 = Rule 171
 
 abbrev pub top_item_4 : Symbol Action
-top_item_4 = Rule 167
+top_item_4 = Rule 172
 
 abbrev pub top_item_5 : Symbol Action
-top_item_5 = Rule 168
+top_item_5 = Rule 173
 
 abbrev pub top_item_6 : Symbol Action
-top_item_6 = Rule 169
+top_item_6 = Rule 174
 
 abbrev pub top_item_7 : Symbol Action
-top_item_7 = Rule 170
+top_item_7 = Rule 175
 
 abbrev pub top_item_8 : Symbol Action
-top_item_8 = Rule 171
+top_item_8 = Rule 176
 
 abbrev pub top_item_9 : Symbol Action
-top_item_9 = Rule 172
+top_item_9 = Rule 177
 
 abbrev pub top_item_10 : Symbol Action
-top_item_10 = Rule 173
+top_item_10 = Rule 178
 
 abbrev pub top_item_11 : Symbol Action
-top_item_11 = Rule 174
+top_item_11 = Rule 179
 
 abbrev pub top_item_12 : Symbol Action
-top_item_12 = Rule 175
+top_item_12 = Rule 180
 
 abbrev pub top_item_13 : Symbol Action
-top_item_13 = Rule 176
+top_item_13 = Rule 181
 
 abbrev pub top_item_14 : Symbol Action
-top_item_14 = Rule 177
+top_item_14 = Rule 182
 
 abbrev pub top_item_15 : Symbol Action
-top_item_15 = Rule 178
+top_item_15 = Rule 183
 
 abbrev pub top_item_16 : Symbol Action
-top_item_16 = Rule 179
+top_item_16 = Rule 184
 
 abbrev pub top_item_17 : Symbol Action
-top_item_17 = Rule 180
+top_item_17 = Rule 185
 
 abbrev pub top_item_18 : Symbol Action
-top_item_18 = Rule 181
+top_item_18 = Rule 186
 
 abbrev pub top_item_19 : Symbol Action
-top_item_19 = Rule 182
+top_item_19 = Rule 187
 
 abbrev pub top_item_20 : Symbol Action
-top_item_20 = Rule 183
+top_item_20 = Rule 188
 
 abbrev pub top_item_21 : Symbol Action
-top_item_21 = Rule 184
+top_item_21 = Rule 189
 
 abbrev pub case_end : Symbol Action
-case_end = Rule 185
+case_end = Rule 190
 
 abbrev pub top_word : Symbol Action
-top_word = Rule 186
+top_word = Rule 191
 
 abbrev pub top_word_1 : Symbol Action
-top_word_1 = Rule 187
+top_word_1 = Rule 192
 
 abbrev pub top_range : Symbol Action
-top_range = Rule 188
+top_range = Rule 193
 
 abbrev pub top_values : Symbol Action
-top_values = Rule 189
+top_values = Rule 194
 
 abbrev pub top_values_1 : Symbol Action
-top_values_1 = Rule 190
+top_values_1 = Rule 195
 
 abbrev pub top_values_2 : Symbol Action
-top_values_2 = Rule 191
+top_values_2 = Rule 196
 
 abbrev pub top_more : Symbol Action
-top_more = Rule 192
+top_more = Rule 197
 
 abbrev pub top_next : Symbol Action
-top_next = Rule 193
+top_next = Rule 198
 
 abbrev pub top_following : Symbol Action
-top_following = Rule 194
+top_following = Rule 199
 
 abbrev pub top_following_1 : Symbol Action
-top_following_1 = Rule 195
+top_following_1 = Rule 200
 
 abbrev pub first_case : Symbol Action
-first_case = Rule 196
+first_case = Rule 201
 
 abbrev pub first_case_1 : Symbol Action
-first_case_1 = Rule 197
+first_case_1 = Rule 202
 
 abbrev pub first_case_2 : Symbol Action
-first_case_2 = Rule 198
+first_case_2 = Rule 203
 
 abbrev pub first_case_3 : Symbol Action
-first_case_3 = Rule 199
+first_case_3 = Rule 204
 
 abbrev pub first_case_4 : Symbol Action
-first_case_4 = Rule 200
+first_case_4 = Rule 205
 
 abbrev pub values : Symbol Action
-values = Rule 201
+values = Rule 206
 
 abbrev pub values_1 : Symbol Action
-values_1 = Rule 202
+values_1 = Rule 207
 
 abbrev pub case_value : Symbol Action
-case_value = Rule 203
+case_value = Rule 208
 
 abbrev pub case_value_1 : Symbol Action
-case_value_1 = Rule 204
+case_value_1 = Rule 209
 
 abbrev pub range : Symbol Action
-range = Rule 205
+range = Rule 210
 
 abbrev pub switch_item : Symbol Action
-switch_item = Rule 206
+switch_item = Rule 211
 
 abbrev pub switch_item_1 : Symbol Action
-switch_item_1 = Rule 207
+switch_item_1 = Rule 212
 
 abbrev pub switch_item_2 : Symbol Action
-switch_item_2 = Rule 208
+switch_item_2 = Rule 213
 
 abbrev pub switch_item_3 : Symbol Action
-switch_item_3 = Rule 209
+switch_item_3 = Rule 214
 
 abbrev pub switch_item_4 : Symbol Action
-switch_item_4 = Rule 210
+switch_item_4 = Rule 215
 
 abbrev pub switch_item_5 : Symbol Action
-switch_item_5 = Rule 211
+switch_item_5 = Rule 216
 
 abbrev pub switch_item_6 : Symbol Action
-switch_item_6 = Rule 212
+switch_item_6 = Rule 217
 
 abbrev pub switch_item_7 : Symbol Action
-switch_item_7 = Rule 213
+switch_item_7 = Rule 218
 
 abbrev pub switch_item_8 : Symbol Action
-switch_item_8 = Rule 214
+switch_item_8 = Rule 219
 
 abbrev pub switch_item_9 : Symbol Action
-switch_item_9 = Rule 215
+switch_item_9 = Rule 220
 
 abbrev pub switch_item_10 : Symbol Action
-switch_item_10 = Rule 216
+switch_item_10 = Rule 221
 
 abbrev pub switch_item_11 : Symbol Action
-switch_item_11 = Rule 217
+switch_item_11 = Rule 222
 
 abbrev pub switch_item_12 : Symbol Action
-switch_item_12 = Rule 218
+switch_item_12 = Rule 223
 
 abbrev pub switch_item_13 : Symbol Action
-switch_item_13 = Rule 219
+switch_item_13 = Rule 224
 
 abbrev pub switch_item_14 : Symbol Action
-switch_item_14 = Rule 220
+switch_item_14 = Rule 225
 
 abbrev pub switch_item_15 : Symbol Action
-switch_item_15 = Rule 221
+switch_item_15 = Rule 226
 
 abbrev pub switch_item_16 : Symbol Action
-switch_item_16 = Rule 222
+switch_item_16 = Rule 227
 
 abbrev pub switch_item_17 : Symbol Action
-switch_item_17 = Rule 223
+switch_item_17 = Rule 228
 
 abbrev pub switch_item_18 : Symbol Action
-switch_item_18 = Rule 224
+switch_item_18 = Rule 229
 
 abbrev pub switch_item_19 : Symbol Action
-switch_item_19 = Rule 225
+switch_item_19 = Rule 230
 
 abbrev pub switch_item_20 : Symbol Action
-switch_item_20 = Rule 226
+switch_item_20 = Rule 231
 
 abbrev pub switch_item_21 : Symbol Action
-switch_item_21 = Rule 227
+switch_item_21 = Rule 232
 
 abbrev pub switch_item_22 : Symbol Action
-switch_item_22 = Rule 228
+switch_item_22 = Rule 233
 
 abbrev pub switch_item_23 : Symbol Action
-switch_item_23 = Rule 229
+switch_item_23 = Rule 234
 
 abbrev pub switch_item_24 : Symbol Action
-switch_item_24 = Rule 230
+switch_item_24 = Rule 235
 
 abbrev pub switch_item_25 : Symbol Action
-switch_item_25 = Rule 231
+switch_item_25 = Rule 236
 
 abbrev pub switch_item_26 : Symbol Action
-switch_item_26 = Rule 232
+switch_item_26 = Rule 237
 
 abbrev pub switch_word : Symbol Action
-switch_word = Rule 233
+switch_word = Rule 238
 
 abbrev pub switch_word_1 : Symbol Action
-switch_word_1 = Rule 234
+switch_word_1 = Rule 239
 
 abbrev pub minus_more : Symbol Action
-minus_more = Rule 235
+minus_more = Rule 240
 
 abbrev pub minus_more_1 : Symbol Action
-minus_more_1 = Rule 236
+minus_more_1 = Rule 241
 
 abbrev pub switch_more : Symbol Action
-switch_more = Rule 237
+switch_more = Rule 242
 
 abbrev pub outer_more : Symbol Action
-outer_more = Rule 238
+outer_more = Rule 243
 
 abbrev pub switch_next : Symbol Action
-switch_next = Rule 239
+switch_next = Rule 244
 
 abbrev pub switch_next_1 : Symbol Action
-switch_next_1 = Rule 240
+switch_next_1 = Rule 245
 
 abbrev pub switch_next_2 : Symbol Action
-switch_next_2 = Rule 241
+switch_next_2 = Rule 246
 
 abbrev pub minus_following : Symbol Action
-minus_following = Rule 242
+minus_following = Rule 247
 
 abbrev pub switch_following : Symbol Action
-switch_following = Rule 243
+switch_following = Rule 248
 
 abbrev pub outer_following : Symbol Action
-outer_following = Rule 244
+outer_following = Rule 249
 
 abbrev pub outer_following_1 : Symbol Action
-outer_following_1 = Rule 245
+outer_following_1 = Rule 250

@@ -3,7 +3,7 @@ use Rattle.std.specs.Prelude.{List, [], ◌∷◌}
 use Rattle.inf_machine.specs.Grammar.{Row}
 use Rattle.inf_syntax.specs.declared.actions.Action.{Action}
 use Rattle.inf_syntax.specs.Rows.{row}
-use Rattle.inf_syntax.specs.Parts.{ !and, !assign, !bit_and, !bit_not, !bit_or, !byte_entry, !comma, !count, !divide, !end_attribute, !end_class, !end_directive, !end_embedded, !end_entry, !end_header, !end_line, !end_locals, !end_property, !end_routine, !end_text, !end_value, !equal, !greater, !greater_or_equal, !has, !has_not, !in, !less, !less_or_equal, !minus, !name, !negate, !not, !not_in, !of_class, !or, !outer, !part, !plus, !provides, !remainder, !routine, !times, !unequal, !word_entry, 'additive', 'alias', 'arrow', 'assign', 'attribute', 'bit_and', 'bit_not', 'bit_or', 'class', 'close_bracket', 'comma', 'constant', 'default', 'divide', 'end', 'equal', 'error', 'fatalerror', 'first', 'global', 'greater', 'greater_or_equal', 'has', 'hash', 'hasnt', 'iffalse', 'iftrue', 'in', 'include', 'last', 'less', 'less_or_equal', 'logical_and', 'logical_not', 'logical_or', 'long_arrow', 'message', 'meta', 'minus', 'not_equal', 'notin', 'ofclass', 'open_bracket', 'or', 'plus', 'property', 'provides', 'remainder', 'replace', 'reverse', 'semicolon', 'string', 'stub', 'system_file', 'table', 'times', 'warning', 'with', BARENAME, BODYNAME, NAME, NOTADDITIVE, NOTALIAS, NUMBER, TEXT, WORD, after_prim, after_unary, array_entry, array_operator, array_tail, assign, assign_tail, assign_tail_1, attribute, attribute_1, bare_prim, bit, body, directive, directive_1, directive_11, directive_13, directive_15, directive_2, directive_3, directive_6, directive_7, directive_8, directive_9, entry, expression_tail, file, inc, initial, initial_1, line, line_1, line_2, line_3, line_4, logic, logic_operator, logic_tail, neg, negated, object_1, object_2, object_3, object_4, other_assign, other_prim, part, part_1, part_2, piece, prefixed, prim, properties, properties_1, property, property_1, property_2, step_prefix, sum, sum_operator, sum_tail, term, term_operator, term_tail, test, test_tail, test_tail_1, tested, tested_1, top_item, value, value_1, value_2, value_3, whole_directive, whole_directive_1, whole_directive_2, whole_directive_3, whole_directive_4, whole_directive_5, whole_directive_6}
+use Rattle.inf_syntax.specs.Parts.{ !and, !assign, !bit_not, !comma, !count, !end_alone, !end_attribute, !end_body, !end_class, !end_directive, !end_embedded, !end_entry, !end_header, !end_line, !end_locals, !end_property, !end_routine, !end_text, !end_value, !equal, !greater, !greater_or_equal, !has, !has_not, !hold, !in, !less, !less_or_equal, !minus, !name, !negate, !not, !not_in, !of_class, !or, !outer, !part, !plus, !provides, !routine, !unequal, 'additive', 'alias', 'array', 'arrow', 'assign', 'attribute', 'bit_not', 'class', 'close_bracket', 'comma', 'constant', 'default', 'divide', 'end', 'equal', 'error', 'extend', 'fake_action', 'fatalerror', 'first', 'global', 'greater', 'greater_or_equal', 'has', 'hash', 'hasnt', 'iffalse', 'iftrue', 'in', 'include', 'last', 'less', 'less_or_equal', 'logical_and', 'logical_not', 'logical_or', 'long_arrow', 'message', 'meta', 'minus', 'nearby', 'not_equal', 'notin', 'object', 'ofclass', 'open_bracket', 'or', 'plus', 'property', 'provides', 'replace', 'reverse', 'semicolon', 'string', 'stub', 'system_file', 'table', 'times', 'verb', 'warning', 'with', BARENAME, BODYNAME, NAME, NOTADDITIVE, NOTALIAS, NUMBER, OFCLASS, TEXT, WORD, after_prim, after_unary, array_entry, assign, assign_tail, assign_tail_1, attribute, attribute_1, bare_prim, bit, body, directive, directive_1, directive_10, directive_11, directive_12, directive_13, directive_2, directive_3, directive_4, directive_5, directive_6, directive_7, directive_8, directive_9, entry, expression_tail, file, first_listed, held, initial, initial_1, line, line_1, line_2, line_3, line_4, listed_entries, logic, logic_operator, logic_tail, more_listed, neg, negated, object, object_1, object_2, object_3, object_4, other_assign, other_prim, part, part_1, part_2, piece, plain_entries, plain_entries_1, plain_entries_2, prefixed, prim, properties, properties_1, property, property_1, property_2, step_prefix, sum, sum_operator, sum_tail, term, term_operator, term_tail, test, test_tail, test_tail_1, tested, tested_1, top_item, value, value_1, value_2, value_3, whole_directive, whole_directive_1, whole_directive_2, whole_directive_3, whole_directive_4, whole_directive_5, whole_directive_6}
 
 abbrev pub rules_1 : List (List (Row Action))
 rules_1 =
@@ -18,6 +18,13 @@ rules_1 =
     ∷ [])
     -- directive
     ∷ (row (!routine ∷ 'open_bracket' ∷ NAME ∷ directive_1 ∷ !end_locals ∷ 'semicolon' ∷ directive_2 ∷ !end_routine ∷ 'close_bracket' ∷ 'semicolon' ∷ [])
+    ∷ row ('array' ∷ NAME ∷ directive_4 ∷ !end_header ∷ directive_5 ∷ 'semicolon' ∷ [])
+    ∷ row ('class' ∷ BODYNAME ∷ !end_header ∷ body ∷ !end_body ∷ 'semicolon' ∷ [])
+    ∷ row ('object' ∷ directive_6 ∷ object ∷ [])
+    ∷ row ('nearby' ∷ object ∷ [])
+    ∷ row (OFCLASS ∷ directive_7 ∷ object ∷ [])
+    ∷ row ('extend' ∷ WORD ∷ directive_8 ∷ !end_header ∷ directive_9 ∷ 'semicolon' ∷ [])
+    ∷ row ('verb' ∷ directive_10 ∷ WORD ∷ directive_11 ∷ directive_12 ∷ 'semicolon' ∷ [])
     ∷ row (whole_directive ∷ !end_directive ∷ 'semicolon' ∷ [])
     ∷ [])
     -- directive_1
@@ -39,56 +46,48 @@ rules_1 =
     ∷ row ('table' ∷ [])
     ∷ [])
     -- directive_5
-    ∷ (row (array_entry ∷ directive_6 ∷ [])
-    ∷ row ('open_bracket' ∷ directive_7 ∷ 'close_bracket' ∷ [])
+    ∷ (row (plain_entries ∷ [])
+    ∷ row ('open_bracket' ∷ listed_entries ∷ 'close_bracket' ∷ [])
     ∷ [])
     -- directive_6
-    ∷ (row (array_entry ∷ directive_6 ∷ [])
+    ∷ (row ('arrow' ∷ directive_6 ∷ [])
     ∷ row []
     ∷ [])
     -- directive_7
-    ∷ (row (array_entry ∷ directive_7 ∷ [])
-    ∷ row ('semicolon' ∷ directive_7 ∷ [])
+    ∷ (row ('arrow' ∷ directive_7 ∷ [])
     ∷ row []
     ∷ [])
     -- directive_8
-    ∷ (row ('arrow' ∷ directive_8 ∷ [])
-    ∷ row []
-    ∷ [])
-    -- directive_9
-    ∷ (row ('arrow' ∷ directive_9 ∷ [])
-    ∷ row []
-    ∷ [])
-    -- directive_10
     ∷ (row ('first' ∷ [])
     ∷ row ('last' ∷ [])
     ∷ row ('replace' ∷ [])
     ∷ row []
     ∷ [])
-    -- directive_11
-    ∷ (row (line ∷ directive_11 ∷ [])
+    -- directive_9
+    ∷ (row (line ∷ directive_9 ∷ [])
     ∷ row []
     ∷ [])
-    -- directive_12
+    -- directive_10
     ∷ (row ('meta' ∷ [])
     ∷ row []
     ∷ [])
-    -- directive_13
-    ∷ (row (WORD ∷ directive_13 ∷ [])
+    -- directive_11
+    ∷ (row (WORD ∷ directive_11 ∷ [])
     ∷ row []
     ∷ [])
-    -- directive_14
-    ∷ (row (!end_header ∷ line ∷ directive_15 ∷ [])
+    -- directive_12
+    ∷ (row (!end_header ∷ line ∷ directive_13 ∷ [])
     ∷ row ('assign' ∷ WORD ∷ !end_header ∷ [])
     ∷ [])
-    -- directive_15
-    ∷ (row (line ∷ directive_15 ∷ [])
+    -- directive_13
+    ∷ (row (line ∷ directive_13 ∷ [])
     ∷ row []
     ∷ [])
     -- whole_directive
     ∷ (row ('attribute' ∷ NAME ∷ whole_directive_1 ∷ [])
     ∷ row (whole_directive_2 ∷ NAME ∷ whole_directive_3 ∷ [])
     ∷ row ('property' ∷ whole_directive_4 ∷ whole_directive_5 ∷ [])
+    ∷ row ('fake_action' ∷ NAME ∷ [])
     ∷ row ('iftrue' ∷ !outer ∷ logic ∷ [])
     ∷ row ('iffalse' ∷ !outer ∷ logic ∷ [])
     ∷ row ('end' ∷ [])
@@ -134,11 +133,42 @@ rules_1 =
     ∷ (row (NOTALIAS ∷ !name ∷ after_prim ∷ [])
     ∷ row (other_assign ∷ [])
     ∷ [])
+    -- plain_entries
+    ∷ (row (!outer ∷ entry ∷ plain_entries_1 ∷ [])
+    ∷ [])
+    -- plain_entries_1
+    ∷ (row (!end_entry ∷ array_entry ∷ plain_entries_2 ∷ [])
+    ∷ row (!end_alone ∷ [])
+    ∷ [])
+    -- plain_entries_2
+    ∷ (row (array_entry ∷ plain_entries_2 ∷ [])
+    ∷ row []
+    ∷ [])
+    -- listed_entries
+    ∷ (row ('semicolon' ∷ listed_entries ∷ [])
+    ∷ row (!outer ∷ entry ∷ first_listed ∷ [])
+    ∷ row []
+    ∷ [])
+    -- first_listed
+    ∷ (row (!end_entry ∷ array_entry ∷ more_listed ∷ [])
+    ∷ row (!end_alone ∷ [])
+    ∷ row (!hold ∷ 'semicolon' ∷ held ∷ [])
+    ∷ [])
+    -- held
+    ∷ (row ('semicolon' ∷ held ∷ [])
+    ∷ row (!end_entry ∷ array_entry ∷ more_listed ∷ [])
+    ∷ row (!end_alone ∷ [])
+    ∷ [])
+    -- more_listed
+    ∷ (row (array_entry ∷ more_listed ∷ [])
+    ∷ row ('semicolon' ∷ more_listed ∷ [])
+    ∷ row []
+    ∷ [])
     -- array_entry
     ∷ (row (!outer ∷ entry ∷ !end_entry ∷ [])
     ∷ [])
     -- object
-    ∷ (row (object_1 ∷ !end_header ∷ body ∷ 'semicolon' ∷ [])
+    ∷ (row (object_1 ∷ !end_header ∷ body ∷ !end_body ∷ 'semicolon' ∷ [])
     ∷ [])
     -- object_1
     ∷ (row (BODYNAME ∷ object_2 ∷ object_3 ∷ [])
@@ -331,28 +361,5 @@ rules_1 =
     -- term_tail
     ∷ (row (term_operator ∷ term_tail ∷ [])
     ∷ row []
-    ∷ [])
-    -- term_operator
-    ∷ (row ('times' ∷ bit ∷ !times ∷ [])
-    ∷ row ('divide' ∷ bit ∷ !divide ∷ [])
-    ∷ row ('remainder' ∷ bit ∷ !remainder ∷ [])
-    ∷ row ('bit_and' ∷ bit ∷ !bit_and ∷ [])
-    ∷ row ('bit_or' ∷ bit ∷ !bit_or ∷ [])
-    ∷ [])
-    -- bit
-    ∷ (row ('bit_not' ∷ bit ∷ !bit_not ∷ [])
-    ∷ row (neg ∷ array_tail ∷ [])
-    ∷ [])
-    -- array_tail
-    ∷ (row (array_operator ∷ array_tail ∷ [])
-    ∷ row []
-    ∷ [])
-    -- array_operator
-    ∷ (row ('arrow' ∷ neg ∷ !byte_entry ∷ [])
-    ∷ row ('long_arrow' ∷ neg ∷ !word_entry ∷ [])
-    ∷ [])
-    -- neg
-    ∷ (row ('minus' ∷ neg ∷ !negate ∷ [])
-    ∷ row (inc ∷ [])
     ∷ [])
     ∷ []

@@ -3,12 +3,35 @@ use Rattle.std.specs.Prelude.{List, [], ◌∷◌}
 use Rattle.inf_machine.specs.Grammar.{Row}
 use Rattle.inf_syntax.specs.declared.actions.Action.{Action}
 use Rattle.inf_syntax.specs.Rows.{row, row_unless}
-use Rattle.inf_syntax.specs.Parts.{ !action, !asm_text, !assign, !begin, !bracket, !bracketed, !branch, !branch_not, !call, !char, !clear, !close, !comma, !count, !decrement_after, !decrement_before, !deeper, !else, !end_for_start, !end_for_step, !end_for_test, !end_if, !end_objectloop, !end_statement, !end_switch, !end_until, !end_while, !for_top, !increment_after, !increment_before, !loop, !member, !member_address, !member_length, !name, !negate, !number, !open_do, !open_for, !open_if, !open_objectloop, !open_switch, !open_while, !outer, !outer_end, !outer_maybe, !outer_sure, !part, !print_text, !print_value, !set, !store, !text, !until, !word, 'arrow', 'assign', 'at', 'bit_not', 'break', 'close_brace', 'close_parenthesis', 'colon', 'comma', 'continue', 'decrement', 'do', 'dot', 'dot_and', 'dot_hash', 'else', 'for', 'give', 'if', 'increment', 'jump', 'minus', 'move', 'new_line', 'objectloop', 'open_brace', 'open_parenthesis', 'print', 'print_ret', 'question', 'quit', 'remove', 'return', 'rfalse', 'rtrue', 'semicolon', 'spaces', 'style', 'switch', 'to', 'until', 'while', BEGINNAME, CHAR, NAME, NUMBER, OPERAND, RESERVED, TEXT, WORD, act_1, act_2, act_3, address_operator, address_tail, after_prim, after_unary, array_operator, array_tail, assembly, assembly_1, assembly_2, assembly_3, assign, assign_tail, bracket_item, bracket_name, bracket_name_1, bracket_name_2, bracketed, branch, branch_1, call, call_1, call_2, do_rest, else_part, end, entry, expression, expression_tail, first_case, for_rest, for_rest_1, for_rest_2, for_rest_3, give_rest, give_rest_1, if_rest, inc, item, item_1, item_2, jump_rest, logic_operator, logic_tail, mark_statement, mark_statement_1, member_operator, move_rest, neg, objectloop_rest, of_expression, operands, operands_1, operands_2, operator, other_assign, other_operator, other_prim, outer_operator, plain_prim, plain_word, post, post_tail, prefixed, prim, print_rest, print_rest_1, return_rest, return_rest_1, ruled, statement, statement_1, statement_2, statement_3, statement_4, statement_5, statement_end, step_operator, step_prefix, step_tail, store_or_branch, store_or_branch_1, style_rest, sum_operator, sum_tail, switch_item, switch_rest, switch_rest_1, switch_rest_2, term_operator, term_tail, test, test_tail, text_more, text_statement, text_statement_1, while_rest}
+use Rattle.inf_syntax.specs.Parts.{ !action, !asm_text, !assign, !begin, !bit_and, !bit_not, !bit_or, !bracket, !bracketed, !branch, !branch_not, !byte_entry, !call, !char, !clear, !close, !comma, !count, !decrement_after, !decrement_before, !deeper, !divide, !else, !end_for_start, !end_for_step, !end_for_test, !end_if, !end_objectloop, !end_statement, !end_switch, !end_until, !end_while, !for_top, !increment_after, !increment_before, !loop, !member, !member_address, !member_length, !name, !negate, !number, !open_do, !open_for, !open_if, !open_objectloop, !open_switch, !open_while, !outer, !outer_end, !outer_maybe, !outer_sure, !part, !print_text, !remainder, !set, !store, !text, !times, !until, !word, !word_entry, 'arrow', 'assign', 'at', 'bit_and', 'bit_not', 'bit_or', 'break', 'close_brace', 'close_parenthesis', 'colon', 'comma', 'continue', 'decrement', 'divide', 'do', 'dot', 'dot_and', 'dot_hash', 'double_greater', 'double_hash', 'double_less', 'else', 'for', 'give', 'greater', 'if', 'increment', 'jump', 'less', 'long_arrow', 'minus', 'move', 'new_line', 'objectloop', 'open_brace', 'open_parenthesis', 'print', 'print_ret', 'question', 'quit', 'remainder', 'remove', 'return', 'rfalse', 'rtrue', 'semicolon', 'spaces', 'style', 'switch', 'times', 'to', 'until', 'while', BEGINNAME, CHAR, NAME, NUMBER, OPERAND, TEXT, WORD, act, act_1, act_2, act_3, address_operator, address_tail, after_prim, after_unary, array_operator, array_tail, assembly, assembly_1, assembly_2, assembly_3, assign, assign_tail, bit, bracketed, branch, branch_1, call, call_1, call_2, do_rest, else_part, end, entry, expression, expression_tail, first_case, for_rest, for_rest_1, for_rest_2, for_rest_3, give_rest, give_rest_1, if_rest, inc, item, jump_rest, logic_operator, logic_tail, mark_statement, mark_statement_1, member_operator, move_rest, neg, objectloop_rest, of_expression, operands, operands_1, operands_2, operator, other_operator, other_prim, outer_operator, plain_prim, plain_word, post, post_tail, prefixed, prim, print_rest, print_rest_1, return_rest, return_rest_1, statement, statement_1, statement_2, statement_3, statement_4, statement_5, statement_end, step_operator, step_prefix, step_tail, store_or_branch, store_or_branch_1, style_rest, sum_operator, sum_tail, switch_item, switch_rest, switch_rest_1, switch_rest_2, term_operator, term_tail, test, test_tail, text_more, text_statement, text_statement_1, while_rest}
 
 abbrev pub rules_2 : List (List (Row Action))
 rules_2 =
+    -- term_operator
+    (row ('times' ∷ bit ∷ !times ∷ [])
+    ∷ row ('divide' ∷ bit ∷ !divide ∷ [])
+    ∷ row ('remainder' ∷ bit ∷ !remainder ∷ [])
+    ∷ row ('bit_and' ∷ bit ∷ !bit_and ∷ [])
+    ∷ row ('bit_or' ∷ bit ∷ !bit_or ∷ [])
+    ∷ [])
+    -- bit
+    ∷ (row ('bit_not' ∷ bit ∷ !bit_not ∷ [])
+    ∷ row (neg ∷ array_tail ∷ [])
+    ∷ [])
+    -- array_tail
+    ∷ (row (array_operator ∷ array_tail ∷ [])
+    ∷ row []
+    ∷ [])
+    -- array_operator
+    ∷ (row ('arrow' ∷ neg ∷ !byte_entry ∷ [])
+    ∷ row ('long_arrow' ∷ neg ∷ !word_entry ∷ [])
+    ∷ [])
+    -- neg
+    ∷ (row ('minus' ∷ neg ∷ !negate ∷ [])
+    ∷ row (inc ∷ [])
+    ∷ [])
     -- inc
-    (row (step_prefix ∷ [])
+    ∷ (row (step_prefix ∷ [])
     ∷ row (post ∷ address_tail ∷ step_tail ∷ [])
     ∷ [])
     -- step_prefix
@@ -66,6 +89,7 @@ rules_2 =
     ∷ (row (NUMBER ∷ !number ∷ [])
     ∷ row (CHAR ∷ !char ∷ [])
     ∷ row (WORD ∷ !word ∷ [])
+    ∷ row ('double_hash' ∷ OPERAND ∷ !action ∷ [])
     ∷ [])
     -- entry
     ∷ (row ('minus' ∷ prim ∷ !negate ∷ [])
@@ -160,6 +184,8 @@ rules_2 =
     ∷ (row (!begin ∷ end ∷ [])
     ∷ row ('open_brace' ∷ mark_statement_1 ∷ 'close_brace' ∷ [])
     ∷ row (!begin ∷ 'dot' ∷ NAME ∷ end ∷ [])
+    ∷ row (!begin ∷ 'less' ∷ act ∷ 'greater' ∷ end ∷ [])
+    ∷ row (!begin ∷ 'double_less' ∷ act ∷ 'double_greater' ∷ end ∷ [])
     ∷ row (!begin ∷ 'at' ∷ NAME ∷ assembly ∷ end ∷ [])
     ∷ [])
     -- mark_statement_1
@@ -316,29 +342,5 @@ rules_2 =
     -- branch_1
     ∷ (row (NAME ∷ !branch ∷ [])
     ∷ row ('bit_not' ∷ NAME ∷ !branch_not ∷ [])
-    ∷ [])
-    -- item
-    ∷ (row (!outer_maybe ∷ TEXT ∷ item_1 ∷ [])
-    ∷ row (!outer_maybe ∷ 'open_parenthesis' ∷ !bracket ∷ bracket_item ∷ [])
-    ∷ row (!outer ∷ item_2 ∷ !print_value ∷ [])
-    ∷ [])
-    -- item_1
-    ∷ (row (!outer_sure ∷ !text ∷ operator ∷ !print_value ∷ [])
-    ∷ row (!print_text ∷ [])
-    ∷ [])
-    -- item_2
-    ∷ (row (OPERAND ∷ !name ∷ after_prim ∷ [])
-    ∷ row (plain_prim ∷ after_prim ∷ [])
-    ∷ row (prefixed ∷ [])
-    ∷ row ('minus' ∷ neg ∷ !negate ∷ after_unary ∷ [])
-    ∷ [])
-    -- bracket_item
-    ∷ (row (!outer_end ∷ RESERVED ∷ !name ∷ 'close_parenthesis' ∷ ruled ∷ [])
-    ∷ row (OPERAND ∷ !name ∷ bracket_name ∷ [])
-    ∷ row (!outer_sure ∷ other_assign ∷ expression_tail ∷ !bracketed ∷ 'close_parenthesis' ∷ after_prim ∷ !print_value ∷ [])
-    ∷ [])
-    -- bracket_name
-    ∷ (row ('close_parenthesis' ∷ bracket_name_1 ∷ [])
-    ∷ row (!outer_sure ∷ bracket_name_2 ∷ !bracketed ∷ 'close_parenthesis' ∷ after_prim ∷ !print_value ∷ [])
     ∷ [])
     ∷ []

@@ -3,12 +3,36 @@ use Rattle.std.specs.Prelude.{List, [], ◌∷◌}
 use Rattle.inf_machine.specs.Grammar.{Row}
 use Rattle.inf_syntax.specs.declared.actions.Action.{Action}
 use Rattle.inf_syntax.specs.Rows.{row}
-use Rattle.inf_syntax.specs.Parts.{ !begin, !bracketed, !comma, !default, !end_case, !name, !negate, !outer, !outer_maybe, !outer_sure, !outer_word, !print_rule, !print_text, !print_value, !rule, !text, !to, 'colon', 'comma', 'default', 'do', 'else', 'for', 'give', 'if', 'jump', 'minus', 'move', 'objectloop', 'print', 'print_ret', 'remove', 'return', 'spaces', 'style', 'switch', 'to', 'while', CASENAME, NOTDEFAULT, NOTTO, OPERAND, TEXT, after_prim, after_unary, assign, bracketed, case_end, case_value, case_value_1, do_rest, end, entry, expression_tail, first_case_1, first_case_2, first_case_3, first_case_4, for_rest, give_rest, if_rest, inner_operator, jump_rest, mark_statement, minus_more, minus_more_1, move_rest, neg, objectloop_rest, of_expression, operator, other_assign, other_operator, other_prim, outer_more, outer_operator, plain_prim, plain_word, prefixed, prim, print_rest, range, return_rest, ruled, statement_end, step_prefix, string_rest, switch_following, switch_item_1, switch_item_10, switch_item_11, switch_item_12, switch_item_13, switch_item_14, switch_item_15, switch_item_16, switch_item_17, switch_item_18, switch_item_19, switch_item_2, switch_item_20, switch_item_21, switch_item_22, switch_item_23, switch_item_24, switch_item_26, switch_item_3, switch_item_4, switch_item_5, switch_item_6, switch_item_7, switch_item_8, switch_item_9, switch_more, switch_next, switch_next_1, switch_rest, switch_word, switch_word_1, text_statement, top_following, top_following_1, top_item_1, top_item_10, top_item_11, top_item_12, top_item_13, top_item_14, top_item_15, top_item_16, top_item_17, top_item_18, top_item_19, top_item_2, top_item_21, top_item_3, top_item_4, top_item_5, top_item_6, top_item_7, top_item_8, top_item_9, top_more, top_next, top_range, top_values, top_values_1, top_values_2, top_word, top_word_1, values, values_1, while_rest}
+use Rattle.inf_syntax.specs.Parts.{ !begin, !bracket, !bracketed, !comma, !default, !end_case, !name, !negate, !outer, !outer_end, !outer_maybe, !outer_sure, !outer_word, !print_rule, !print_text, !print_value, !rule, !text, !to, 'close_parenthesis', 'colon', 'comma', 'default', 'do', 'else', 'for', 'give', 'if', 'jump', 'minus', 'move', 'objectloop', 'open_parenthesis', 'print', 'print_ret', 'remove', 'return', 'spaces', 'style', 'switch', 'to', 'while', CASENAME, NOTDEFAULT, NOTTO, OPERAND, RESERVED, TEXT, after_prim, after_unary, assign, bracket_item, bracket_name, bracket_name_1, bracket_name_2, bracketed, case_end, case_value, case_value_1, do_rest, end, entry, expression_tail, first_case_1, first_case_2, first_case_3, first_case_4, for_rest, give_rest, if_rest, item_1, item_2, jump_rest, mark_statement, minus_more, move_rest, neg, objectloop_rest, of_expression, operator, other_assign, other_operator, other_prim, plain_prim, plain_word, prefixed, prim, print_rest, range, return_rest, ruled, statement_end, step_prefix, string_rest, switch_item_1, switch_item_10, switch_item_11, switch_item_12, switch_item_13, switch_item_14, switch_item_15, switch_item_16, switch_item_17, switch_item_18, switch_item_19, switch_item_2, switch_item_20, switch_item_21, switch_item_22, switch_item_23, switch_item_24, switch_item_26, switch_item_3, switch_item_4, switch_item_5, switch_item_6, switch_item_7, switch_item_8, switch_item_9, switch_more, switch_rest, switch_word, switch_word_1, text_statement, top_following, top_following_1, top_item_1, top_item_10, top_item_11, top_item_12, top_item_13, top_item_14, top_item_15, top_item_16, top_item_17, top_item_18, top_item_19, top_item_2, top_item_21, top_item_3, top_item_4, top_item_5, top_item_6, top_item_7, top_item_8, top_item_9, top_more, top_next, top_range, top_values, top_values_1, top_values_2, top_word, top_word_1, values, values_1, while_rest}
 
 abbrev pub rules_3 : List (List (Row Action))
 rules_3 =
+    -- item
+    (row (!outer_maybe ∷ TEXT ∷ item_1 ∷ [])
+    ∷ row (!outer_maybe ∷ 'open_parenthesis' ∷ !bracket ∷ bracket_item ∷ [])
+    ∷ row (!outer ∷ item_2 ∷ !print_value ∷ [])
+    ∷ [])
+    -- item_1
+    ∷ (row (!outer_sure ∷ !text ∷ operator ∷ !print_value ∷ [])
+    ∷ row (!print_text ∷ [])
+    ∷ [])
+    -- item_2
+    ∷ (row (OPERAND ∷ !name ∷ after_prim ∷ [])
+    ∷ row (plain_prim ∷ after_prim ∷ [])
+    ∷ row (prefixed ∷ [])
+    ∷ row ('minus' ∷ neg ∷ !negate ∷ after_unary ∷ [])
+    ∷ [])
+    -- bracket_item
+    ∷ (row (!outer_end ∷ RESERVED ∷ !name ∷ 'close_parenthesis' ∷ ruled ∷ [])
+    ∷ row (OPERAND ∷ !name ∷ bracket_name ∷ [])
+    ∷ row (!outer_sure ∷ other_assign ∷ expression_tail ∷ !bracketed ∷ 'close_parenthesis' ∷ after_prim ∷ !print_value ∷ [])
+    ∷ [])
+    -- bracket_name
+    ∷ (row ('close_parenthesis' ∷ bracket_name_1 ∷ [])
+    ∷ row (!outer_sure ∷ bracket_name_2 ∷ !bracketed ∷ 'close_parenthesis' ∷ after_prim ∷ !print_value ∷ [])
+    ∷ [])
     -- bracket_name_1
-    (row (ruled ∷ [])
+    ∷ (row (ruled ∷ [])
     ∷ row (!outer_sure ∷ !bracketed ∷ other_operator ∷ !print_value ∷ [])
     ∷ row (!outer_sure ∷ !bracketed ∷ !print_value ∷ [])
     ∷ [])
@@ -40,12 +64,15 @@ rules_3 =
     ∷ row (!begin ∷ 'move' ∷ top_item_17 ∷ [])
     ∷ row (!begin ∷ top_item_18 ∷ top_item_19 ∷ [])
     ∷ row (!begin ∷ 'style' ∷ top_item_21 ∷ [])
+    ∷ row (!outer ∷ 'else' ∷ top_word ∷ [])
     ∷ [])
     -- top_item_1
-    ∷ (row (top_more ∷ [])
+    ∷ (row (case_end ∷ [])
+    ∷ row (top_more ∷ [])
     ∷ [])
     -- top_item_2
-    ∷ (row (!name ∷ top_more ∷ [])
+    ∷ (row (!default ∷ case_end ∷ [])
+    ∷ row (!name ∷ top_more ∷ [])
     ∷ [])
     -- top_item_3
     ∷ (row (plain_prim ∷ [])
@@ -57,21 +84,27 @@ rules_3 =
     ∷ [])
     -- top_item_5
     ∷ (row (if_rest ∷ [])
+    ∷ row (top_word ∷ [])
     ∷ [])
     -- top_item_6
     ∷ (row (while_rest ∷ [])
+    ∷ row (top_word ∷ [])
     ∷ [])
     -- top_item_7
     ∷ (row (do_rest ∷ [])
+    ∷ row (top_word ∷ [])
     ∷ [])
     -- top_item_8
     ∷ (row (for_rest ∷ [])
+    ∷ row (top_word ∷ [])
     ∷ [])
     -- top_item_9
     ∷ (row (objectloop_rest ∷ [])
+    ∷ row (top_word ∷ [])
     ∷ [])
     -- top_item_10
     ∷ (row (switch_rest ∷ [])
+    ∷ row (top_word ∷ [])
     ∷ [])
     -- top_item_11
     ∷ (row ('print' ∷ [])
@@ -79,21 +112,27 @@ rules_3 =
     ∷ [])
     -- top_item_12
     ∷ (row (print_rest ∷ [])
+    ∷ row (top_word ∷ [])
     ∷ [])
     -- top_item_13
     ∷ (row (return_rest ∷ [])
+    ∷ row (top_word ∷ [])
     ∷ [])
     -- top_item_14
     ∷ (row (end ∷ [])
+    ∷ row (top_word ∷ [])
     ∷ [])
     -- top_item_15
     ∷ (row (jump_rest ∷ [])
+    ∷ row (!outer_word ∷ !name ∷ top_values ∷ [])
     ∷ [])
     -- top_item_16
     ∷ (row (give_rest ∷ [])
+    ∷ row (top_word ∷ [])
     ∷ [])
     -- top_item_17
     ∷ (row (move_rest ∷ [])
+    ∷ row (top_word ∷ [])
     ∷ [])
     -- top_item_18
     ∷ (row ('remove' ∷ [])
@@ -101,6 +140,7 @@ rules_3 =
     ∷ [])
     -- top_item_19
     ∷ (row (of_expression ∷ [])
+    ∷ row (top_word ∷ [])
     ∷ [])
     -- top_item_20
     ∷ (row (string_rest ∷ [])
@@ -108,6 +148,7 @@ rules_3 =
     ∷ [])
     -- top_item_21
     ∷ (row (NOTTO ∷ end ∷ [])
+    ∷ row (top_word ∷ [])
     ∷ [])
     -- case_end
     ∷ (row (!end_case ∷ 'colon' ∷ [])
@@ -135,6 +176,7 @@ rules_3 =
     ∷ [])
     -- top_more
     ∷ (row (operator ∷ statement_end ∷ [])
+    ∷ row (top_range ∷ [])
     ∷ row ('comma' ∷ top_next ∷ [])
     ∷ row (end ∷ [])
     ∷ [])
@@ -144,10 +186,12 @@ rules_3 =
     ∷ [])
     -- top_following
     ∷ (row (operator ∷ !comma ∷ statement_end ∷ [])
+    ∷ row ('to' ∷ OPERAND ∷ !name ∷ !to ∷ !comma ∷ top_values ∷ [])
     ∷ row (!comma ∷ top_following_1 ∷ [])
     ∷ [])
     -- top_following_1
-    ∷ (row ('comma' ∷ top_next ∷ [])
+    ∷ (row (case_end ∷ [])
+    ∷ row ('comma' ∷ top_next ∷ [])
     ∷ row (end ∷ [])
     ∷ [])
     -- first_case
@@ -324,28 +368,5 @@ rules_3 =
     -- switch_word_1
     ∷ (row (range ∷ values ∷ [])
     ∷ row (values ∷ [])
-    ∷ [])
-    -- minus_more
-    ∷ (row (inner_operator ∷ !negate ∷ after_unary ∷ statement_end ∷ [])
-    ∷ row (!negate ∷ minus_more_1 ∷ [])
-    ∷ [])
-    -- minus_more_1
-    ∷ (row (case_end ∷ [])
-    ∷ row (end ∷ [])
-    ∷ row (outer_more ∷ [])
-    ∷ [])
-    -- switch_more
-    ∷ (row (inner_operator ∷ after_unary ∷ statement_end ∷ [])
-    ∷ row (outer_more ∷ [])
-    ∷ [])
-    -- outer_more
-    ∷ (row (outer_operator ∷ statement_end ∷ [])
-    ∷ row (range ∷ values ∷ [])
-    ∷ row ('comma' ∷ switch_next ∷ [])
-    ∷ [])
-    -- switch_next
-    ∷ (row (prim ∷ switch_following ∷ [])
-    ∷ row ('minus' ∷ switch_next_1 ∷ [])
-    ∷ row (prefixed ∷ !comma ∷ statement_end ∷ [])
     ∷ [])
     ∷ []

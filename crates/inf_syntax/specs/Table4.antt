@@ -3,12 +3,35 @@ use Rattle.std.specs.Prelude.{List, [], ◌∷◌}
 use Rattle.inf_machine.specs.Grammar.{Row}
 use Rattle.inf_syntax.specs.declared.actions.Action.{Action}
 use Rattle.inf_syntax.specs.Rows.{row}
-use Rattle.inf_syntax.specs.Parts.{ !comma, !negate, 'comma', 'minus', after_unary, case_end, end, inner_operator, minus_following, neg, outer_following, outer_following_1, outer_operator, prim, range, statement_end, step_prefix, switch_next, switch_next_2, values}
+use Rattle.inf_syntax.specs.Parts.{ !comma, !negate, 'comma', 'minus', after_unary, case_end, end, inner_operator, minus_following, minus_more_1, neg, outer_following, outer_following_1, outer_more, outer_operator, prefixed, prim, range, statement_end, step_prefix, switch_following, switch_next, switch_next_1, switch_next_2, values}
 
 abbrev pub rules_4 : List (List (Row Action))
 rules_4 =
+    -- minus_more
+    (row (inner_operator ∷ !negate ∷ after_unary ∷ statement_end ∷ [])
+    ∷ row (!negate ∷ minus_more_1 ∷ [])
+    ∷ [])
+    -- minus_more_1
+    ∷ (row (case_end ∷ [])
+    ∷ row (end ∷ [])
+    ∷ row (outer_more ∷ [])
+    ∷ [])
+    -- switch_more
+    ∷ (row (inner_operator ∷ after_unary ∷ statement_end ∷ [])
+    ∷ row (outer_more ∷ [])
+    ∷ [])
+    -- outer_more
+    ∷ (row (outer_operator ∷ statement_end ∷ [])
+    ∷ row (range ∷ values ∷ [])
+    ∷ row ('comma' ∷ switch_next ∷ [])
+    ∷ [])
+    -- switch_next
+    ∷ (row (prim ∷ switch_following ∷ [])
+    ∷ row ('minus' ∷ switch_next_1 ∷ [])
+    ∷ row (prefixed ∷ !comma ∷ statement_end ∷ [])
+    ∷ [])
     -- switch_next_1
-    (row (prim ∷ minus_following ∷ [])
+    ∷ (row (prim ∷ minus_following ∷ [])
     ∷ row (switch_next_2 ∷ !negate ∷ after_unary ∷ !comma ∷ statement_end ∷ [])
     ∷ [])
     -- switch_next_2

@@ -5,7 +5,7 @@
 
 mod tables;
 
-pub use inf_arrays::{ArrayFault, ArrayKind, Arrays, GlobalFault, Globals};
+pub use inf_arrays::{ArrayFault, ArrayKind, Arrays, Entries, GlobalFault, Globals};
 pub use inf_dictionary::{AddFault as WordFault, Dictionary, Places, Word, WordUse};
 pub use inf_verbs::{
     ActionFault, Actions, LineFault, LineToken, Noun, ParsingRoutines, VerbFault, Verbs,

@@ -35,7 +35,7 @@ limits = record { labels = 1000; code = 262144; refs = 50000 }
 -- a routine of so many locals is open
 abbrev begun : ℕ → Out
 begun locals =
-    record { code = with_opened locals false (no_routines limits Four); strings = no_strings 262144 Four; tables = no_tables defaults; names = no_names 10000 false; first = record { file = 0; line = 1 }; next = 0; past = None; kept = None }
+    record { code = with_opened locals false (no_routines limits Four); strings = no_strings 262144 Four; tables = no_tables defaults; names = no_names 10000 false; seen = no_names 4294967295 false; first = record { file = 0; line = 1 }; next = 0; past = None; kept = None }
 
 -- its bytes, where names stand for these numbers
 abbrev cell_bytes : List ℕ → Cell → List ℕ

@@ -132,6 +132,12 @@ impl Laying {
         self.out.append(&items)
     }
 
+    /// Lays the expressions in a way, in a routine that begins.
+    fn begin(&mut self, alloc: Global, way: &str, forest: &Forest) -> Result<(), AllocError> {
+        self.out.open(alloc, 15, false)?;
+        self.lay(alloc, way, forest)
+    }
+
     /// Expressions are laid in a way.
     fn lay(&mut self, alloc: Global, way: &str, forest: &Forest) -> Result<(), AllocError> {
         let variable = word(way, 1).parse();
@@ -203,41 +209,74 @@ fn filled(alloc: Global, code: Code, numbers: &[u16]) -> Result<PagedArea, Alloc
     Ok(area)
 }
 
-/// Closes the routine, and tells of its bytes and names.
-fn told_of(alloc: Global, out: Output) -> Result<String, AllocError> {
-    if let Some(limit) = out.full() {
-        return format!(in alloc; "Full({limit:?})");
-    }
-    let names = out.names;
-    let mut code = out.code;
-    if let Err(fault) = code.close(RoutineKind::Plain) {
-        return format!(in alloc; "{fault:?}");
-    }
-    let area = filled(alloc, code, &numbers(alloc, &names)?)?;
+/// Tells of some bytes and names.
+fn told_bytes(
+    alloc: Global,
+    names: &Symbols<Place>,
+    area: &PagedArea,
+) -> Result<String, AllocError> {
     let mut told = String::from_str(alloc, "bytes")?;
-    add_bytes(alloc, &mut told, &area)?;
-    add_names(alloc, &mut told, &names)?;
+    add_bytes(alloc, &mut told, area)?;
+    add_names(alloc, &mut told, names)?;
     Ok(told)
 }
 
-/// What comes of some expressions that are laid in a way.
-pub(crate) fn answer(alloc: Global, way: &str, spelled: &str) -> Result<String, AllocError> {
-    let most_names = word(way, 2).parse().unwrap_or(10_000);
+/// Tells of the bytes of closed routines, and of their names.
+fn told_area(alloc: Global, names: &Symbols<Place>, code: Code) -> Result<String, AllocError> {
+    let numbers = numbers(alloc, names)?;
+    let area = filled(alloc, code, &numbers)?;
+    told_bytes(alloc, names, &area)
+}
+
+/// Closes the routine, and tells of its bytes and names.
+fn told_closed(alloc: Global, names: Symbols<Place>, mut code: Code) -> Result<String, AllocError> {
+    match code.close(RoutineKind::Plain) {
+        Ok(()) => told_area(alloc, &names, code),
+        Err(fault) => format!(in alloc; "{fault:?}"),
+    }
+}
+
+/// The same, unless a limit was passed.
+fn told_of(alloc: Global, out: Output) -> Result<String, AllocError> {
+    match out.full() {
+        Some(limit) => format!(in alloc; "Full({limit:?})"),
+        None => told_closed(alloc, out.names, out.code),
+    }
+}
+
+/// An output with some names, for as many labels, bytes and references as a way says.
+fn output_for(alloc: Global, way: &str, names: Symbols<Place>) -> Result<Output, AllocError> {
     let limits = CodeLimits {
         labels: number_or(way, 3, 1_000),
         code: number_or(way, 4, 262_144),
         refs: number_or(way, 5, 50_000),
     };
-    let mut names = Symbols::new(alloc, most_names, false);
-    let forest = trees(alloc, &mut names, spelled)?;
     let code = Code::new(alloc, limits, Scale::Four)?;
     let strings = Strings::new(alloc, 262_144, Scale::Four);
     let tables = Tables::new(alloc, &Settings::new());
-    let mut laying = Laying {
-        tasks: Tasks::new(alloc),
-        out: Output::new(code, strings, tables, names, HERE),
-    };
-    laying.out.open(alloc, 15, false)?;
-    laying.lay(alloc, way, &forest)?;
+    let seen = Symbols::new(alloc, u32::MAX, false);
+    Ok(Output::new(code, strings, tables, names, seen, HERE))
+}
+
+/// What comes of some expressions that are laid in a way.
+fn told_by(
+    alloc: Global,
+    way: &str,
+    forest: &Forest,
+    mut laying: Laying,
+) -> Result<String, AllocError> {
+    laying.begin(alloc, way, forest)?;
     told_of(alloc, laying.out)
+}
+
+/// The same of some that are spelled.
+pub(crate) fn answer(alloc: Global, way: &str, spelled: &str) -> Result<String, AllocError> {
+    let most_names = word(way, 2).parse().unwrap_or(10_000);
+    let mut names = Symbols::new(alloc, most_names, false);
+    let forest = trees(alloc, &mut names, spelled)?;
+    let laying = Laying {
+        tasks: Tasks::new(alloc),
+        out: output_for(alloc, way, names)?,
+    };
+    told_by(alloc, way, &forest, laying)
 }

@@ -1,2 +1,3 @@
+pub mod KeptOnes
 pub mod Cases
 pub mod NameSteps

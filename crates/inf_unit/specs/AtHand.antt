@@ -12,4 +12,5 @@ unit u = record {
   is_sure = u.is_sure;
   is_over = u.is_over;
   depth = u.depth;
+  held = u.held;
 }

@@ -38,7 +38,8 @@ declaration_of bytes =
     if is_directive (codes "default") bytes then directive.Default else
     if is_directive (codes "attribute") bytes then directive.Attribute else
     if is_directive (codes "property") bytes then directive.Property else
-    if is_directive (codes "global") bytes then directive.Global else directive.SystemFile
+    if is_directive (codes "global") bytes then directive.Global else
+    if is_directive (codes "fake_action") bytes then directive.FakeAction else directive.SystemFile
 
 abbrev pub directive_of : List ℕ → Directive
 directive_of bytes =

@@ -24,6 +24,7 @@ step_of action.Number = Some step.Leaf
 step_of action.Char = Some step.Leaf
 step_of action.Word = Some step.Leaf
 step_of action.Text = Some step.Leaf
+step_of action.Action = Some step.Action
 step_of action.Negate = Some (step.Prefix unary.Negate)
 step_of action.BitNot = Some (step.Prefix (unary.Single single.Complement))
 step_of action.Not = Some (step.Prefix unary.Not)

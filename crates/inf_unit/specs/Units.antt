@@ -1,5 +1,5 @@
 -- The unit at hand: its tokens, and what the grammar's actions gather of them.
-use Rattle.std.specs.Prelude.{ℕ, ◌+◌, ◌-◌, ◌==◌, List, [], ◌∷◌, ◌++◌, length, min, slice_get, take, nat_le, nat_lt, Bool, true, false, ◌&&◌, if◌then◌else◌, Option, Some, None, option_map, unwrap_or}
+use Rattle.std.specs.Prelude.{ℕ, ◌+◌, ◌-◌, ◌==◌, List, [], ◌∷◌, ◌++◌, length, drop, min, slice_get, take, nat_le, nat_lt, Bool, true, false, ◌&&◌, if◌then◌else◌, Option, Some, None, option_map, unwrap_or}
 use Rattle.inf_scanner.specs.declared.tokens.Mark.{Mark}
 use Rattle.inf_scanner.specs.declared.tokens.Mark.TheVariants as mark
 use Rattle.inf_scanner.specs.declared.tokens.Place.{Place}
@@ -25,7 +25,8 @@ use Rattle.inf_unit.specs.Opcodes.{opcode_of, takes_text}
 
 -- Its tokens so far, before which the first of those between the unit before and its beginning stands, where there are such; where among them it begins;
 -- what is gathered of its expressions; what it has beside them, in order; where among its tokens its outermost expression begins, if one is
--- open, and whether that surely is one; whether the unit has ended, but for its last token; and how many brackets and braces of its piece are open.
+-- open, and whether that surely is one; whether the unit has ended, but for its last token; how many brackets and braces of its piece are open; and how many
+-- tokens it has, where it is whole and waits for what follows it.
 pub record Unit : Type 0 where
   pub tokens : List Spelled
   pub begun : ℕ
@@ -35,18 +36,27 @@ pub record Unit : Type 0 where
   pub is_sure : Bool
   pub is_over : Bool
   pub depth : ℕ
+  pub held : Option ℕ
 
 -- at the front of a piece
 abbrev pub no_unit : Unit
-no_unit = record { tokens = []; begun = 0; gathering = nothing_gathered; items = []; outer = None; is_sure = false; is_over = false; depth = 0 }
+no_unit = record { tokens = []; begun = 0; gathering = nothing_gathered; items = []; outer = None; is_sure = false; is_over = false; depth = 0; held = None }
 
 -- The next token is the first of a unit. Of those before it the first is kept.
 abbrev pub begun : Unit → Unit
 begun u = record no_unit { tokens = take 1 u.tokens; begun = length (take 1 u.tokens); depth = u.depth }
 
--- the unit has ended, and its last token is still to come, or not
+-- nothing is gathered
+abbrev pub forgotten : Unit → Unit
+forgotten u = record no_unit { tokens = u.tokens; begun = u.begun; depth = u.depth }
+
+-- The unit has ended, and its last token is still to come, or not. Where it waited, the first of the tokens behind it stays.
+abbrev pub behind_held : Option ℕ → List Spelled → List Spelled
+behind_held None tokens = []
+behind_held (Some count) tokens = take 1 (drop count tokens)
+
 abbrev pub over : Bool → Unit → Unit
-over has_last u = record no_unit { is_over = has_last; depth = u.depth }
+over has_last u = record no_unit { tokens = behind_held u.held u.tokens; is_over = has_last; depth = u.depth }
 
 -- Tokens
 
@@ -136,6 +146,17 @@ names_from (t ∷ tokens) names = names_from tokens (with_name (short_name_of t)
 abbrev pub names_in : List Spelled → List Name
 names_in tokens = names_from tokens []
 
+-- the names behind the last mark of a kind
+abbrev pub names_step : Mark → Spelled → List Name → List Name
+names_step m t names = if is_mark m t.kind then [] else with_name (short_name_of t) names
+
+abbrev pub names_behind_from : Mark → List Spelled → List Name → List Name
+names_behind_from m [] names = names
+names_behind_from m (t ∷ tokens) names = names_behind_from m tokens (names_step m t names)
+
+abbrev pub names_behind : Mark → List Spelled → List Name
+names_behind m tokens = names_behind_from m tokens []
+
 -- Where the first token stands by which the outermost expression is too long, if it may have so many and surely is one.
 abbrev pub long_from : List Spelled → ℕ → ℕ → Bool → Option Place
 long_from tokens most outer is_sure = if is_sure && nat_lt most (length tokens - outer) then place_at tokens (outer + most) else None
@@ -192,9 +213,24 @@ with_last at is_alone (Some k) g = with_leaf (order at) (order at) (told_leaf is
 abbrev pub leaf_gathered : Unit → Unit
 leaf_gathered u = let at = last_leaf u in record u { gathering = with_last at (is_alone at u) (kind_at u.tokens at) u.gathering }
 
+-- An action is named by its token. It begins at the sign before that, if one is there.
+abbrev pub is_sign : Option TokenKind → Bool
+is_sign (Some (kind.Mark mark.DoubleHash)) = true
+is_sign (Some (kind.Mark mark.Hash)) = true
+is_sign _ = false
+
+abbrev pub marked_from : List Spelled → ℕ → ℕ
+marked_from tokens at = if is_sign (kind_at tokens (at - 1)) then at - 1 else at
+
+abbrev pub action_gathered : Unit → Unit
+action_gathered u =
+    let at = last_leaf u in
+    record u { gathering = with_leaf (order (marked_from u.tokens at)) (order at) (leaf.Action at) u.gathering }
+
 -- what is gathered of an operator behind some tokens
 abbrev pub gathered : Step → List Spelled → Gathering → Gathering
 gathered step.Leaf tokens g = g
+gathered step.Action tokens g = g
 gathered (step.Prefix op) tokens g = with_prefix op g
 gathered (step.Suffix op) tokens g = with_suffix op g
 gathered (step.Two op) tokens g = with_two op g
@@ -209,6 +245,7 @@ gathered step.Bracketed tokens g = with_closed_bracket g
 abbrev pub stepped : Option Step → Unit → Unit
 stepped None u = u
 stepped (Some step.Leaf) u = leaf_gathered u
+stepped (Some step.Action) u = action_gathered u
 stepped (Some s) u = record u { gathering = gathered s u.tokens u.gathering }
 
 -- one thing more beside its expressions
@@ -237,6 +274,7 @@ acted action.Outer u = record u { outer = Some (length u.tokens); is_sure = true
 acted action.OuterMaybe u = record u { outer = Some (length u.tokens); is_sure = false }
 acted action.OuterWord u = record u { outer = Some (last_leaf u); is_sure = true }
 acted action.OuterSure u = record u { is_sure = true }
+acted action.Hold u = record u { held = Some (length u.tokens); outer = None }
 acted action.OuterEnd u = record u { outer = None }
 acted action.PrintRule u = record u { outer = None }
 acted action.PrintText u = printed (item.Text (last_leaf u)) u

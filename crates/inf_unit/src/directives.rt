@@ -21,6 +21,7 @@ pub enum Directive {
     Attribute,
     Property,
     Global,
+    FakeAction,
 }
 
 /// What a finished directive asks of the reading.
@@ -66,6 +67,8 @@ fn declaration_of(word: &[u8]) -> Directive
         Directive::Property
     } else if word.eq_ignore_ascii_case(b"global") {
         Directive::Global
+    } else if word.eq_ignore_ascii_case(b"fake_action") {
+        Directive::FakeAction
     } else {
         Directive::SystemFile
     }

@@ -10,6 +10,8 @@ use inf_syntax::Action;
 pub enum Step {
     /// The last token is a leaf.
     Leaf,
+    /// The last token names an action.
+    Action,
     /// An operator of the latest expression, in front of it.
     Prefix(Unary),
     /// An operator of the latest expression, behind it.
@@ -46,6 +48,7 @@ pub fn step_of(action: Action) -> Option<Step>
         Action::Name | Action::Number | Action::Char | Action::Word | Action::Text => Some(
             Step::Leaf,
         ),
+        Action::Action => Some(Step::Action),
         Action::Negate => Some(Step::Prefix(Unary::Negate)),
         Action::BitNot => Some(Step::Prefix(Unary::Single(Single::Complement))),
         Action::Not => Some(Step::Prefix(Unary::Not)),

@@ -3,7 +3,7 @@ ghost use Rattle.std.specs.Prelude.{◌≡◌, ◌≤◌, ◌++◌, ◌∷◌, [
 ghost use Rattle.inf_unit.specs.AtHand.{unit};
 ghost use Rattle.inf_unit.specs.Steps.{step_of};
 ghost use Rattle.inf_unit.specs.Tokens.{spelled};
-ghost use Rattle.inf_unit.specs.Units.{acted, begun, depth_behind, first_place, is_alone, is_assembly, jump_label, jump_of, last_leaf, leaf_of, long_at, next_place, no_unit, opcode_text, order, over, own_place, prepared, ruled, stepped, taken, told_leaf, with_item};
+ghost use Rattle.inf_unit.specs.Units.{acted, begun, depth_behind, first_place, forgotten, is_alone, is_assembly, is_sign, jump_label, jump_of, last_leaf, leaf_of, long_at, marked_from, next_place, no_unit, opcode_text, order, over, own_place, prepared, ruled, stepped, taken, told_leaf, with_item};
 
 use crate::items::{Item, rule_of};
 use crate::opcodes::{opcode_of, takes_text};
@@ -33,6 +33,8 @@ pub struct Unit {
     pub is_over: bool,
     /// How many brackets and braces of its piece are open.
     pub depth: u32,
+    /// How many tokens it has, where it is whole and waits for what follows it.
+    pub held: Option<usize>,
 }
 
 /// The leaf that a token at a place of its unit is.
@@ -95,6 +97,25 @@ fn depth_behind(kind: TokenKind, depth: u32) -> u32
     }
 }
 
+/// Whether a token is a sign before what it names, if there is one.
+fn is_sign(kind: Option<TokenKind>) -> bool
+    ensures { result ≡ is_sign kind }
+{
+    matches!(kind, Some(TokenKind::Mark(Mark::DoubleHash | Mark::Hash)))
+}
+
+/// Where what the token at a place names begins: at the sign before it, if one is there.
+fn marked_from(tokens: &UnitTokens, at: usize) -> usize
+    ensures { result ≡ marked_from tokens.now at }
+{
+    let before = at.saturating_sub(1);
+    if is_sign(tokens.kind(before)) {
+        before
+    } else {
+        at
+    }
+}
+
 impl Unit {
     /// At the front of a piece. It takes no memory until a token comes.
     pub fn new(alloc: Global) -> Unit
@@ -109,6 +130,7 @@ impl Unit {
             is_sure: false,
             is_over: false,
             depth: 0,
+            held: None,
         }
     }
 
@@ -127,19 +149,31 @@ impl Unit {
     {
         self.tokens.keep_first();
         self.begun = self.tokens.len();
+        self.forget();
+    }
+
+    /// Nothing is gathered.
+    fn forget(&mut self)
+        ensures { unit self.new ≡ forgotten (unit self.old) }
+    {
         self.gathering.clear();
         self.items.clear();
         self.outer = None;
         self.is_sure = false;
         self.is_over = false;
+        self.held = None;
     }
 
-    /// It has ended, but for its last token, if it has one still.
+    /// It has ended, but for its last token, if it has one still. Where it waited, the first of the tokens behind it stays.
     pub fn end(&mut self, has_last: bool)
         ensures { unit self.new ≡ over has_last (unit self.old) }
     {
-        self.tokens.clear();
-        self.begin();
+        match self.held {
+            Some(count) => self.tokens.keep_one(count),
+            None => self.tokens.clear(),
+        }
+        self.begun = 0;
+        self.forget();
         self.is_over = has_last;
     }
 
@@ -169,6 +203,10 @@ impl Unit {
                 self.is_sure = true;
             }
             Action::OuterSure => self.is_sure = true,
+            Action::Hold => {
+                self.held = Some(self.tokens.len());
+                self.outer = None;
+            }
             Action::OuterEnd => self.outer = None,
             Action::PrintRule => self.outer = None,
             Action::PrintText => return self.print(Item::Text(last)),
@@ -295,6 +333,7 @@ impl Unit {
         let last = order(self.last());
         match step {
             Step::Leaf => self.leaf(),
+            Step::Action => self.action(),
             Step::Prefix(op) => self.gathering.prefix(op),
             Step::Suffix(op) => self.gathering.suffix(op),
             Step::Two(op) => self.gathering.two(op),
@@ -309,6 +348,16 @@ impl Unit {
             Step::Bracket => self.gathering.open_bracket(last),
             Step::Bracketed => self.gathering.close_bracket(),
         }
+    }
+
+    /// The last token names an action.
+    fn action(&mut self) -> Result<(), AllocError>
+        ensures { OnOk result (unit self.new ≡ stepped (Some Step.Action) (unit self.old)) }
+    {
+        let at = self.last();
+        let first = marked_from(&self.tokens, at);
+        self.gathering
+            .leaf(order(first), order(at), Leaf::Action(at))
     }
 
     /// The last token is a leaf.

@@ -1,10 +1,10 @@
 //! The tokens of a unit.
-ghost use Rattle.std.specs.Prelude.{◌≡◌, ◌≤◌, [], ◌∷◌, ◌++◌, IfOk, IfSome, OnOk, length, map, option_map, slice_get, take};
+ghost use Rattle.std.specs.Prelude.{◌≡◌, ◌≤◌, [], ◌∷◌, ◌++◌, drop, IfOk, IfSome, OnOk, length, map, option_map, slice_get, take};
 ghost use Rattle.inf_symbol.specs.Spellings.{as_name};
 ghost use Rattle.inf_unit.specs.Kept.{as_spelled};
 ghost use Rattle.inf_unit.specs.NameTokens.{named};
 ghost use Rattle.inf_unit.specs.Tokens.{spelled};
-ghost use Rattle.inf_unit.specs.Units.{bytes_at, kind_at, last_place, name_at, name_order, names_in, place_at, quoted_in, short_name_of, with_name};
+ghost use Rattle.inf_unit.specs.Units.{bytes_at, kind_at, last_place, name_at, name_order, names_behind, names_in, place_at, quoted_in, short_name_of, with_name};
 
 use crate::tokens::{Spelled, is_mark};
 use inf_scanner::{Mark, Place, TokenKind};
@@ -95,6 +95,18 @@ impl UnitTokens {
         ensures { self.new ≡ take 1 self.old }
     {
         self.kept.truncate(1);
+    }
+
+    /// Keeps the one at a place alone, where there is one.
+    pub fn keep_one(&mut self, at: usize)
+        ensures { self.new ≡ take 1 (drop at self.old) }
+    {
+        if at < self.kept.len() {
+            self.kept.swap(0, at);
+            self.kept.truncate(1);
+        } else {
+            self.kept.clear();
+        }
     }
 
     /// How many there are.
@@ -193,6 +205,21 @@ impl UnitTokens {
             Some(kind) if is_mark(kind, Mark::Hash) => 2,
             _ => 1,
         }
+    }
+
+    /// The names behind the last mark of a kind, in order; all, where there is no such mark.
+    pub fn names_behind(&self, alloc: Global, mark: Mark) -> Result<Vec<Name>, AllocError>
+        ensures { IfOk result (λ names. map as_name names.items ≡ names_behind mark self.now) }
+    {
+        let mut names = Vec::new(alloc);
+        for token in &self.kept {
+            if is_mark(token.kind, mark) {
+                names.clear();
+            } else {
+                add_name(name_of(&token.spelled()), &mut names)?;
+            }
+        }
+        Ok(names)
     }
 
     /// The names among them, in order.

@@ -1,1 +1,5 @@
+pub mod ArrayLimits
+pub mod Bounds
+pub mod KindSteps
 pub mod Limits
+pub mod VerbLimits

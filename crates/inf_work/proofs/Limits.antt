@@ -34,7 +34,7 @@ use Rattle.inf_unit.specs.Messages.{Blame, FileNames}
 use Rattle.inf_unit.specs.Tokens.{Spelled}
 use Rattle.inf_unit.specs.Units.{acted as unit_acted, bytes_at, first_place, last_place, long_at, name_order, names_in, taken as unit_taken}
 use Rattle.inf_unit.proofs.Cases.{of_both}
-use Rattle.inf_statements.specs.Constructs.{Laying, begun as construct_begun, between, changed, condition_label, ended, entered, looped_over, next_case, stepped}
+use Rattle.inf_statements.specs.Constructs.{Laying, are_own, begun as construct_begun, between, cases_begun, changed, condition_label, ended, entered, looped_over, next_case, stepped}
 use Rattle.inf_statements.specs.Limits.{LayingKeeps}
 use Rattle.inf_statements.specs.Statements.{alone, switched, tested, tree_in}
 use Rattle.inf_statements.specs.Cases.{case_code}
@@ -43,15 +43,19 @@ use Rattle.inf_statements.specs.declared.constructs.Construct.{Construct}
 use Rattle.inf_statements.specs.declared.constructs.Kind.{Kind}
 use Rattle.inf_statements.specs.declared.constructs.Kind.TheVariants as kind
 use Rattle.inf_statements.specs.declared.constructs.Over.TheVariants as over
-use Rattle.inf_statements.proofs.Keeping.{alone_keep, begun_keeps as begun_construct_keeps, case_keeps, cases_keep, ended_keeps, joined_keeps, leaf_added_keeps, leaves_same, looped_over_keeps, statement_keeps, stepped_keeps, switched_keeps, tested_keeps}
-use Rattle.inf_work.specs.Actions.{Work, begun_at, close, close_open, constant, constant_added, constant_finding, constant_meaning, constant_of, constant_with, cut, finding_at, header_end, header_of, header_with, is_deep, is_first_declared, is_replaced, name_finding, named, nested, new_stub, opened_with, opens, operands_of, passed, replace, routine_declared, settled_of, sized, stopped, stub, stub_code, stub_locals, stubbed, token_checked, told, took, trees_at, unit_ended}
+use Rattle.inf_statements.proofs.Keeping.{alone_keep, begun_keeps as begun_construct_keeps, case_keeps, cases_begun_keeps, cases_keep, ended_keeps, joined_keeps, leaf_added_keeps, leaves_same, looped_over_keeps, statement_keeps, stepped_keeps, switched_keeps, tested_keeps}
+use Rattle.inf_work.specs.Actions.{Work, begun_at, body_ended, cases_ended, close, close_open, constant, constant_added, constant_finding, constant_meaning, constant_of, constant_with, cut, finding_at, header_end, header_of, header_with, is_deep, is_first_declared, is_replaced, kind_ended, name_finding, named, nested, new_stub, opened_with, opens, operands_of, passed, replace, routine_declared, settled_of, sized, stopped, stub, stub_code, stub_locals, stubbed, token_checked, told, took, trees_at, unit_ended}
 use Rattle.inf_work.specs.Declarations.{alias_by, is_alias, alias_finding, alias_meaning, alias_told, alias_with, aliased, attribute, attribute_added, attribute_number, attribute_with, global_added, global_variable, global_with, is_additive, last_meaning, new_attribute, new_attribute_by, new_global, new_property, new_property_by, nothing_of, name_known, property, property_added, property_named, property_names, property_number, property_order, property_with, value_of, valued, with_variable}
+use Rattle.inf_work.proofs.Bounds.{attribute_read_same, body_ended_same, class_read_same, embedded_read_same, property_read_same, value_read_same}
 use Rattle.inf_work.specs.Directives.{carried_out, default, directive_end, directive_of_names}
 use Rattle.inf_work.specs.declared.declarations.Declared.{Declared}
 use Rattle.inf_work.specs.Acting.{act, acted}
 use Rattle.inf_work.specs.Findings.{header_fault, name_fault}
 use Rattle.inf_work.specs.Limits.{LimitsStay, SameLimits}
 use Rattle.inf_work.specs.Parts.{constructs_laid, construct_ended, construct_joined, construct_opened, found_in as found_in_part, has_last, is_default, order_of, part_begun, part_carried, part_effect, part_ended, part_finished, part_prepared, place_of, site_of, statement_at, wanted_of}
+use Rattle.inf_work.proofs.ArrayLimits.{entry_same, header_same}
+use Rattle.inf_work.specs.Parts.{actions_named, case_prepared, constructs_laid, construct_ended, construct_joined, construct_opened, found_in as found_in_part, has_last, is_default, order_of, part_begun, part_carried, part_effect, part_ended, part_finished, part_prepared, place_of, site_of, statement_at, wanted_of}
+use Rattle.inf_work.proofs.VerbLimits.{fake_same, line_same}
 use Rattle.inf_work.specs.declared.parts.Part.{Part}
 use Rattle.inf_work.specs.declared.parts.Part.TheVariants as part
 
@@ -72,6 +76,16 @@ effect_same part.Step trees w = stepped_keeps w.constructs (alone (map tree_in t
 effect_same part.Loop trees w = looped_over_keeps trees w.constructs w.output
 effect_same part.Switched trees w = switched_keeps (map tree_in trees) w.output
 effect_same part.Case trees w = case_keeps (next_case w.constructs) (map tree_in trees) w.output
+
+actions_named_same : (b : Bool) (w : Work) → SameLimits w (actions_named b w)
+actions_named_same true w = (refl, refl)
+actions_named_same false w = (refl, refl)
+
+prepared_same : (p : Part) (w : Work) → SameLimits w (case_prepared p w)
+prepared_same part.Case w =
+    let begun = constructs_laid (cases_begun w.constructs) w in
+    same_then w begun (actions_named (are_own begun.constructs) begun) (cases_begun_keeps w.constructs w.output) (actions_named_same (are_own begun.constructs) begun)
+prepared_same _ w = (refl, refl)
 
 carried_part_same : (files : FileNames) (first : Place) (p : Part) (f : Option Finding) (w : Work) → SameLimits w (part_carried files first p f w)
 carried_part_same files first p (Some f) w = (refl, refl)
@@ -99,9 +113,10 @@ finished_same files first p w =
 
 part_same : (files : FileNames) (place : Place) (p : Part) (w : Work) → SameLimits w (part_ended files place p w)
 part_same files place p w =
-    let ready = part_prepared w in
+    let ready = case_prepared p (part_prepared w) in
     of_both (SameLimits w) w.is_passed_over (passed (has_last p) w) (part_finished files (place_of p place ready) p ready)
-    (λ _. (refl, refl)) (λ _. finished_same files (place_of p place ready) p ready)
+    (λ _. (refl, refl))
+    (λ _. same_then w ready (part_finished files (place_of p place ready) p ready) (prepared_same p (part_prepared w)) (finished_same files (place_of p place ready) p ready))
 
 nested_same : (files : FileNames) (place : Place) (b : Bool) (w : Work) → SameLimits w (nested files place b w)
 nested_same files place true w = (refl, refl)
@@ -132,13 +147,16 @@ header_with_same files first name h w =
 header_of_same : (files : FileNames) (first : Place) (names : List Name) (w : Work) → SameLimits w (header_of files first names w)
 header_of_same files first [] w = (refl, refl)
 header_of_same files first (name ∷ locals) w =
-    of_both (SameLimits w) (is_replaced name w) (passed true (record w { is_passed_over = true; constructs = [] }))
-    (header_with files first name (with_locals locals no_locals) (record w { is_passed_over = false }))
-    (λ _. (refl, refl)) (λ _. header_with_same files first name (with_locals locals no_locals) (record w { is_passed_over = false }))
+    of_both (SameLimits w) (is_replaced name w) (passed true (record w { is_passed_over = true; is_embedded = false; constructs = [] }))
+    (header_with files first name (with_locals locals no_locals) (record w { is_passed_over = false; is_embedded = false }))
+    (λ _. (refl, refl)) (λ _. header_with_same files first name (with_locals locals no_locals) (record w { is_passed_over = false; is_embedded = false }))
 
 close_same : (files : FileNames) (place : Place) (w : Work) → SameLimits w (close files place w)
 close_same files place w =
-    of_both (SameLimits w) w.is_passed_over (passed true w) (close_open files place w) (λ _. (refl, refl)) (λ _. closed_keeps routine_kind.Plain w.output)
+    let ended = cases_ended w in
+    of_both (SameLimits w) w.is_passed_over (passed true w) (close_open files place w) (λ _. (refl, refl))
+    (λ _. out_same_then w.output ended.output (closed (kind_ended w.is_embedded) ended.output) (ended_keeps w.constructs w.output)
+    (closed_keeps (kind_ended w.is_embedded) ended.output))
 
 -- Directives
 
@@ -155,8 +173,8 @@ constant_with_same files first name m found w =
     let of_name = name_fault files name (declare_fault name.bytes w.output.names) in
     let finding = constant_finding m found in
     let least = least_of_both (name_finding (name_order w.unit.tokens) of_name) finding in
-    let d = record w { output = declared name.bytes name.place (constant_meaning m (least_of_both finding (name_finding 0 of_name))) w.output } in
-    same_then w d (constant_added least d) (declared_keeps name.bytes name.place (constant_meaning m (least_of_both finding (name_finding 0 of_name))) w.output)
+    let d = record w { output = declared name.bytes name.place (constant_meaning m finding) w.output } in
+    same_then w d (constant_added least d) (declared_keeps name.bytes name.place (constant_meaning m finding) w.output)
     (constant_added_same least d)
 
 constant_same : (files : FileNames) (first : Place) (names : List Name) (w : Work) → SameLimits w (constant files first names w)
@@ -279,6 +297,7 @@ carried_same directive.Default files first names w = default_same files first na
 carried_same directive.Attribute files first names w = attribute_same files first names w
 carried_same directive.Property files first names w = property_same files first names w
 carried_same directive.Global files first names w = global_same files first names w
+carried_same directive.FakeAction files first names w = fake_same files first names w
 carried_same directive.SystemFile files first names w = (refl, refl)
 
 names_same : (files : FileNames) (first : Place) (names : List Name) (w : Work) → SameLimits w (directive_of_names files first names w)
@@ -301,18 +320,21 @@ act_same files place action.Else w = joined_keeps w.constructs w.output
 act_same files place action.Close w = ended_keeps w.constructs w.output
 act_same files place action.OuterSure w = sized_same files (record w { unit = unit_acted action.OuterSure w.unit })
 act_same files place action.Routine w = (refl, refl)
-act_same files place action.EndHeader w = (refl, refl)
+act_same files place action.EndHeader w = header_same files place w
 act_same files place action.EndText w = (refl, refl)
 act_same files place action.Outer w = (refl, refl)
 act_same files place action.Name w = (refl, refl)
-act_same files place action.EndEntry w = (refl, refl)
-act_same files place action.EndClass w = (refl, refl)
-act_same files place action.EndProperty w = (refl, refl)
-act_same files place action.EndValue w = (refl, refl)
-act_same files place action.EndEmbedded w = (refl, refl)
+act_same files place action.EndEntry w = entry_same files place false w
+act_same files place action.EndAlone w = entry_same files place true w
+act_same files place action.Hold w = (refl, refl)
+act_same files place action.EndBody w = body_ended_same w
+act_same files place action.EndClass w = class_read_same files place w
+act_same files place action.EndProperty w = property_read_same files place w
+act_same files place action.EndValue w = value_read_same files place w
+act_same files place action.EndEmbedded w = embedded_read_same files place w
 act_same files place action.Negate w = (refl, refl)
-act_same files place action.EndAttribute w = (refl, refl)
-act_same files place action.EndLine w = (refl, refl)
+act_same files place action.EndAttribute w = attribute_read_same files place w
+act_same files place action.EndLine w = line_same files place w
 act_same files place action.Comma w = (refl, refl)
 act_same files place action.Not w = (refl, refl)
 act_same files place action.BitNot w = (refl, refl)
@@ -406,4 +428,6 @@ took_same files t w =
     same_then taken s (token_checked files t s) (sized_same files taken) (nested_same files t.place (opens t.kind && is_deep s 0) s)
 
 pub cut_same : (files : FileNames) (w : Work) → SameLimits w (cut files w)
-cut_same files w = sized_same files (record w { unit = record w.unit { is_sure = true } })
+cut_same files w =
+    let sure = record w { unit = record w.unit { is_sure = true } } in
+    let c = body_ended sure in same_then w c (sized files c) (body_ended_same sure) (sized_same files c)

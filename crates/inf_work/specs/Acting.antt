@@ -1,5 +1,5 @@
 -- What each action of the grammar does.
-use Rattle.std.specs.Prelude.{List, [], ◌∷◌, false}
+use Rattle.std.specs.Prelude.{List, [], ◌∷◌, false, true}
 use Rattle.inf_scanner.specs.declared.tokens.Place.{Place}
 use Rattle.inf_syntax.specs.declared.actions.Action.{Action}
 use Rattle.inf_syntax.specs.declared.actions.Action.TheVariants as action
@@ -8,15 +8,29 @@ use Rattle.inf_unit.specs.Units.{acted as unit_acted}
 use Rattle.inf_statements.specs.declared.constructs.Case.TheVariants as case
 use Rattle.inf_statements.specs.declared.constructs.Kind.TheVariants as kind
 use Rattle.inf_statements.specs.declared.constructs.Over.TheVariants as over
-use Rattle.inf_work.specs.Actions.{Work, close, header_end, is_deep, nested, sized}
+use Rattle.inf_work.specs.Actions.{Work, body_ended, close, header_end, is_deep, nested, sized}
 use Rattle.inf_work.specs.Directives.{directive_end}
+use Rattle.inf_work.specs.Arrays.{entry_ended, header_ended}
+use Rattle.inf_work.specs.Bodies.{attribute_read, class_read, property_read}
+use Rattle.inf_work.specs.Values.{embedded_read, value_read}
 use Rattle.inf_work.specs.Parts.{construct_ended, construct_joined, construct_opened, part_ended, statement_at}
+use Rattle.inf_work.specs.Verbs.{line_ended}
 use Rattle.inf_work.specs.declared.parts.Part.TheVariants as part
 
 -- what an action does before a token at a place
 abbrev pub act : FileNames → Place → Action → Work → Work
 act files place action.EndLocals w = header_end files place w
 act files place action.EndDirective w = directive_end files place w
+act files place action.EndHeader w = header_ended files place w
+act files place action.EndBody w = body_ended w
+act files place action.EndClass w = class_read files place w
+act files place action.EndAttribute w = attribute_read files place w
+act files place action.EndProperty w = property_read files place w
+act files place action.EndValue w = value_read files place w
+act files place action.EndEmbedded w = embedded_read files place w
+act files place action.EndLine w = line_ended files place w
+act files place action.EndEntry w = entry_ended files place false w
+act files place action.EndAlone w = entry_ended files place true w
 act files place action.EndRoutine w = close files place w
 act files place action.EndStatement w = part_ended files place (part.Statement (statement_at w)) w
 act files place action.EndIf w = part_ended files place part.Condition w

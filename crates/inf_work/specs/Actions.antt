@@ -6,6 +6,7 @@ use Rattle.inf_scanner.specs.declared.tokens.Mark.TheVariants as mark
 use Rattle.inf_scanner.specs.declared.tokens.Place.{Place}
 use Rattle.inf_scanner.specs.declared.tokens.TokenKind.{TokenKind}
 use Rattle.inf_scanner.specs.declared.tokens.TokenKind.TheVariants as kind
+use Rattle.inf_assembler.specs.declared.routines.RoutineKind.{RoutineKind}
 use Rattle.inf_assembler.specs.declared.routines.RoutineKind.TheVariants as routine_kind
 use Rattle.inf_assembler.specs.declared.routines.CloseFault.{CloseFault}
 use Rattle.inf_assembler.specs.declared.routines.CloseFault.TheVariants as close_fault
@@ -26,7 +27,7 @@ use Rattle.inf_gathering.specs.declared.gathering.Leaf.TheVariants as leaf
 use Rattle.inf_cells.specs.declared.scale.Scale.TheVariants as scale
 use Rattle.inf_code.specs.declared.code.CodeLimits.{CodeLimits}
 use Rattle.inf_code.specs.Code.{fault_closed, no_routines, place_behind}
-use Rattle.inf_names.specs.Symbols.{Table, declare_fault, found_in, refer_fault, with_used}
+use Rattle.inf_names.specs.Symbols.{Table, declare_fault, found_in, no_names, refer_fault, with_used}
 use Rattle.inf_names.specs.declared.symbols.DeclareFault.{DeclareFault}
 use Rattle.inf_names.specs.declared.symbols.DeclareFault.TheVariants as declaring
 use Rattle.inf_names.specs.declared.symbols.Found.{Found}
@@ -45,16 +46,23 @@ use Rattle.inf_unit.specs.declared.directives.Directive.TheVariants as directive
 use Rattle.inf_unit.specs.Messages.{FileNames, Blame, Reported, location, nothing_reported, with_error, with_fatal, with_fault, with_full, with_warning, with_words}
 use Rattle.inf_unit.specs.Names.{no_symbols}
 use Rattle.inf_unit.specs.Tokens.{Spelled, is_mark, number_of}
-use Rattle.inf_unit.specs.Units.{Unit, acted as unit_acted, bytes_at, first_place, kind_at, long_at, name_order, names_in, no_unit, over, quoted_in, taken as unit_taken}
+use Rattle.inf_unit.specs.Units.{Unit, acted as unit_acted, bytes_at, first_place, kind_at, long_at, name_order, names_in, no_unit, over, quoted_in, short_name_of, taken as unit_taken}
 use Rattle.inf_output.specs.Strings.{no_strings}
 use Rattle.inf_tables.specs.Tables.{no_tables}
 use Rattle.inf_output.specs.Output.{Code, Out, begun, closed, declared, full, opened, referred}
 use Rattle.inf_work.specs.Findings.{blame_of, header_fault, name_fault}
+use Rattle.inf_arrays.specs.Arrays.{AllArrays, no_arrays}
+use Rattle.inf_work.specs.declared.arrays.Listing.{Listing}
+use Rattle.inf_work.specs.declared.verbs.Extending.{Extending}
 use Rattle.inf_work.specs.Words.{nowhere}
+use Rattle.inf_verbs.specs.declared.verbs.Place.TheVariants as line_place
+use Rattle.inf_statements.specs.Constructs.{depth, ended}
 use Rattle.inf_statements.specs.declared.constructs.Construct.{Construct}
 use Rattle.inf_statements.specs.Labels.{NamedLabel, missing}
 use Rattle.inf_statements.specs.Operands.{Settled, all_looked, leaf_added, leaves_named, settled, stores_named, word_operand}
 use Rattle.inf_statements.specs.Statements.{tree_in}
+use Rattle.inf_world.specs.declared.faults.AddFault.{AddFault}
+use Rattle.inf_world.specs.World.{WorldOf, no_body_fault, with_end}
 
 -- what code may hold, as the settings say: the labels, branches and jumps of a routine, bytes, and references
 abbrev pub limits_of : Settings → CodeLimits
@@ -70,6 +78,7 @@ no_output settings = record {
   strings = no_strings (setting_number setting.Strings settings) scale.Four;
   tables = no_tables settings;
   names = no_symbols settings;
+  seen = no_names 4294967295 false;
   first = nowhere;
   next = 0;
   past = None;
@@ -78,8 +87,9 @@ no_output settings = record {
 
 -- What was compiled so far: the character set of the sources; how many tokens an expression may have; the unit at hand; the statements that are open, the
 -- innermost first; the labels with names and the locals of the open routine; the code and the names of the source; the messages; what a directive asks of the reading; the names of
--- routines that are to be replaced, whether those of the file at hand may be, and those of the files that wait, the inner files first; and whether the
--- routine at hand is passed over for that.
+-- routines that are to be replaced, whether those of the file at hand may be, and those of the files that wait, the inner files first; whether the
+-- routine at hand is passed over for that; the array whose entries are read, and where they go if its header had an error; whether the
+-- values that are read are those of the property `name`, and whether the open routine is a value of a property.
 pub record Work : Type 0 where
   pub set : CharSet
   pub longest : ℕ
@@ -94,6 +104,11 @@ pub record Work : Type 0 where
   pub is_system : Bool
   pub waiting : List Bool
   pub is_passed_over : Bool
+  pub listing : Listing
+  pub lost : AllArrays
+  pub is_name : Bool
+  pub is_embedded : Bool
+  pub extending : Extending
 
 -- before the first unit of sources in a character set
 abbrev pub no_work : CharSet → Settings → Work
@@ -111,6 +126,11 @@ no_work set settings = record {
   is_system = false;
   waiting = [];
   is_passed_over = false;
+  listing = record { is_lost = false; has_entries = false };
+  lost = no_arrays 18446744073709551615;
+  is_name = false;
+  is_embedded = false;
+  extending = record { verb = None; place = line_place.Last };
 }
 
 -- Units
@@ -149,7 +169,7 @@ abbrev pub most_nested : ℕ
 most_nested = 64
 
 abbrev pub is_deep : Work → ℕ → Bool
-is_deep w more = nat_lt most_nested (w.unit.depth + length w.constructs + more)
+is_deep w more = nat_lt most_nested (w.unit.depth + depth w.constructs + more)
 
 abbrev pub nested : FileNames → Place → Bool → Work → Work
 nested files place is_deep w = if is_deep then record w { report = with_fatal (location files place) DeepNesting w.report } else w
@@ -166,14 +186,43 @@ token_checked files t w = nested files t.place (opens t.kind && is_deep w 0) w
 abbrev pub took : FileNames → Spelled → Work → Work
 took files t w = token_checked files t (sized files (record w { unit = unit_taken t w.unit }))
 
--- a bad token cuts the unit at hand, which surely was an expression
+-- The body of an object or a class ends, if one is open.
+abbrev pub world_ended_by : Option AddFault → WorldOf → WorldOf
+world_ended_by None world = with_end world
+world_ended_by (Some f) world = world
+
+abbrev pub world_ended : Code
+world_ended o = record o { tables = record o.tables { world = world_ended_by (no_body_fault o.tables.world) o.tables.world } }
+
+abbrev pub body_ended : Work → Work
+body_ended w = record w { output = world_ended w.output }
+
+-- a bad token cuts the unit at hand, which surely was an expression, and the body in which it stands
 abbrev pub cut : FileNames → Work → Work
-cut files w = sized files (record w { unit = record w.unit { is_sure = true } })
+cut files w = sized files (body_ended (record w { unit = record w.unit { is_sure = true } }))
+
+-- whether a token is the name of a class
+abbrev pub names_class_of : Meaning → Bool
+names_class_of (meaning.Class number) = true
+names_class_of _ = false
+
+abbrev pub names_class : Found Place → Bool
+names_class (found.Declared m first) = names_class_of m
+names_class (found.System m) = false
+names_class found.Used = false
+names_class found.Unknown = false
+
+abbrev pub is_class_name : Option Name → Table Place → Bool
+is_class_name None names = false
+is_class_name (Some n) names = names_class (found_in n.bytes names)
+
+abbrev pub is_class : Spelled → Work → Bool
+is_class t w = is_class_name (short_name_of t) w.output.names
 
 -- Expressions of the unit at hand
 
 abbrev pub operands_of : Work → List Operand
-operands_of w = all_looked w.locals w.output.names w.unit.tokens w.unit.gathering.leaves
+operands_of w = all_looked w.locals w.output w.unit.tokens w.unit.gathering.leaves
 
 -- the least of what is wrong with them, in a unit whose first token has an order
 abbrev pub finding_at : ℕ → Wanted → Work → Option Finding
@@ -226,8 +275,8 @@ is_replaced n w = w.is_system && is_kept (found_in n.bytes w.replaced)
 abbrev pub header_of : FileNames → Place → List Name → Work → Work
 header_of files first [] w = passed true w
 header_of files first (name ∷ locals) w =
-    if is_replaced name w then passed true (record w { is_passed_over = true; constructs = [] })
-    else header_with files first name (with_locals locals no_locals) (record w { is_passed_over = false })
+    if is_replaced name w then passed true (record w { is_passed_over = true; is_embedded = false; constructs = [] })
+    else header_with files first name (with_locals locals no_locals) (record w { is_passed_over = false; is_embedded = false })
 
 abbrev pub header_end : FileNames → Place → Work → Work
 header_end files place w = header_of files (first_place w.unit.tokens place) (names_in w.unit.tokens) w
@@ -254,14 +303,30 @@ with_fault_or None files place fault r = with_branch_fault files place fault r
 abbrev pub with_routine_fault : FileNames → Place → List NamedLabel → Option CloseFault → Reported → Reported
 with_routine_fault files place labels fault r = with_fault_or (missing labels) files place fault r
 
--- The end of a routine, at a place: what is wrong with it is told, and its unused locals. Of one that is passed over nothing is.
-abbrev pub close_open : FileNames → Place → Work → Work
-close_open files place w =
-    let fault = fault_closed routine_kind.Plain w.output.code in
+-- A routine that stands in a list of values is embedded.
+abbrev pub kind_ended : Bool → RoutineKind
+kind_ended is_embedded = if is_embedded then routine_kind.Embedded else routine_kind.Plain
+
+-- The end of a routine of a kind, at a place: what is wrong with it is told, and its unused locals, which are not known behind it.
+abbrev pub close_as : RoutineKind → FileNames → Place → Work → Work
+close_as how files place w =
+    let fault = fault_closed how w.output.code in
     unit_ended files place true None (record w {
-      output = closed routine_kind.Plain w.output;
+      output = closed how w.output;
       report = with_all_unused files place w.locals (with_routine_fault files place w.labels fault w.report);
+      locals = [];
+      is_embedded = false;
     })
+
+abbrev pub code_closed : FileNames → Place → Work → Work
+code_closed files place w = close_as (kind_ended w.is_embedded) files place w
+
+-- Before that its own cases end, if it has such. Of one that is passed over nothing ends.
+abbrev pub cases_ended : Work → Work
+cases_ended w = let laid = ended w.constructs w.output in record w { constructs = laid.0; output = laid.1 }
+
+abbrev pub close_open : FileNames → Place → Work → Work
+close_open files place w = code_closed files place (cases_ended w)
 
 abbrev pub close : FileNames → Place → Work → Work
 close files place w = if w.is_passed_over then passed true w else close_open files place w
@@ -318,14 +383,20 @@ abbrev pub constant_added : Option Finding → Work → Work
 constant_added None w = record w { output = leaf_added w.set w.unit.tokens w.unit.gathering.leaves w.output }
 constant_added (Some f) w = w
 
-abbrev pub constant_with : FileNames → Place → Name → Option Meaning → Option Finding → Work → Work
-constant_with files first name m found w =
-    let of_name = name_fault files name (declare_fault name.bytes w.output.names) in
-    let finding = constant_finding m found in
+-- the end of its directive, where the name was refused or not
+abbrev pub constant_ended : FileNames → Place → Name → Option (DeclareFault Place) → Option Finding → Work → Work
+constant_ended files first name refused finding w =
+    let of_name = name_fault files name refused in
     let least = least_of_both (name_finding (name_order w.unit.tokens) of_name) finding in
-    unit_ended files first true (constant_blame w.unit.tokens of_name least)
-    (constant_added least
-    (record w { output = declared name.bytes name.place (constant_meaning m (least_of_both finding (name_finding 0 of_name))) w.output }))
+    unit_ended files first true (constant_blame w.unit.tokens of_name least) (constant_added least w)
+
+abbrev pub constant_declared : FileNames → Place → Name → Option Meaning → Option Finding → Work → Work
+constant_declared files first name m finding w =
+    constant_ended files first name (declare_fault name.bytes w.output.names) finding
+    (record w { output = declared name.bytes name.place (constant_meaning m finding) w.output })
+
+abbrev pub constant_with : FileNames → Place → Name → Option Meaning → Option Finding → Work → Work
+constant_with files first name m found w = constant_declared files first name m (constant_finding m found) w
 
 abbrev pub constant : FileNames → Place → List Name → Work → Work
 constant files first [] w = passed true w

@@ -95,10 +95,20 @@ valued files name order are_many w =
     let d = name_known files name order are_many w in
     record { found = d.found; finding = least_of_both d.finding (finding_at 0 wanted.Constant w) }
 
--- The end of a declaration that begins at a place
+-- what is known of a name that may have been used before
+abbrev pub plainly_known_by : Found Place → FileNames → Name → ℕ → Declared
+plainly_known_by f files name order = record { found = f; finding = name_finding order (name_fault files name (standing_fault f)) }
+
+abbrev pub plainly_known : FileNames → Name → ℕ → Work → Declared
+plainly_known files name order w = plainly_known_by (found_in name.bytes w.output.names) files name order
+
+-- The end of a declaration, or of the header of one, that begins at a place
+abbrev pub declared_ended : FileNames → Place → Bool → Name → Countable → Declared → Work → Work
+declared_ended files first has_last name kind d w =
+    unit_ended files first has_last (declaration_blame w.unit.tokens first kind (name_fault files name (standing_fault d.found)) d.finding) w
+
 abbrev pub declaration_ended : FileNames → Place → Name → Countable → Declared → Work → Work
-declaration_ended files first name kind d w =
-    unit_ended files first true (declaration_blame w.unit.tokens first kind (name_fault files name (standing_fault d.found)) d.finding) w
+declaration_ended files first name kind d w = declared_ended files first true name kind d w
 
 -- Another name of an attribute or a property
 

@@ -9,6 +9,7 @@ use Rattle.inf_unit.specs.Messages.{FileNames, location, with_words}
 use Rattle.inf_unit.specs.Units.{first_place, names_in, quoted_in}
 use Rattle.inf_work.specs.Actions.{Work, begun_at, constant, is_first_declared, passed, replace, stub, unit_ended, words_of}
 use Rattle.inf_work.specs.Declarations.{attribute, global_variable, property}
+use Rattle.inf_work.specs.Verbs.{fake_action}
 
 -- a constant, unless its name is declared
 abbrev pub default : FileNames → Place → List Name → Work → Work
@@ -26,6 +27,7 @@ carried_out directive.Default files first names w = default files first names w
 carried_out directive.Attribute files first names w = attribute files first names w
 carried_out directive.Property files first names w = property files first names w
 carried_out directive.Global files first names w = global_variable files first names w
+carried_out directive.FakeAction files first names w = fake_action files first names w
 carried_out directive.SystemFile files first names w = passed true (record w { is_system = true })
 
 -- a directive ends, which begins with the name of its word; code begins with it, unless it has begun

@@ -4,7 +4,7 @@ use Rattle.inf_scanner.specs.declared.tokens.Place.{Place}
 use Rattle.inf_expressions.specs.declared.findings.Finding.{Finding}
 use Rattle.inf_names.specs.declared.symbols.DeclareFault.{DeclareFault}
 use Rattle.inf_names.specs.declared.symbols.DeclareFault.TheVariants as declaring
-use Rattle.inf_report.specs.Messages.{ConstantOutOfRange, Declared, End, LabelTwice, Message, MisplacedDefault, NotConstant, NothingToLeave, SystemName, Told, TooMany, TooManyArguments, UsedBefore, WrongKind, WrongOpcode}
+use Rattle.inf_report.specs.Messages.{ConstantOutOfRange, Declared, End, LabelTwice, Message, MisplacedDefault, NotConstant, NothingToLeave, SystemName, Told, TooMany, TooManyArguments, UsedBefore, WrongKind, WrongOpcode, WrongVerb}
 use Rattle.inf_report.specs.declared.messages.Countable.TheVariants as countable
 use Rattle.inf_symbol.specs.Spellings.{Name}
 use Rattle.inf_symbol.specs.Locals.{Headed, Repeated}
@@ -24,6 +24,7 @@ message_of number t bytes =
     if number == 15 then WrongOpcode bytes else
     if number == 16 then LabelTwice bytes else
     if number == 17 then NothingToLeave else
+    if number == 22 then WrongVerb t else
     if number == 24 then MisplacedDefault else TooManyArguments
 
 abbrev pub blame_at : ℕ → Option Spelled → Blame

@@ -2,6 +2,11 @@ pub mod Words
 pub mod Findings
 pub mod Actions
 pub mod Declarations
+pub mod Objects
+pub mod Verbs
+pub mod Arrays
+pub mod Bodies
+pub mod Values
 pub mod Directives
 pub mod Parts
 pub mod Acting

@@ -6,13 +6,14 @@ use Rattle.inf_expressions.specs.declared.units.Wanted.{Wanted}
 use Rattle.inf_expressions.specs.declared.units.Wanted.TheVariants as wanted
 use Rattle.inf_expressions.specs.Findings.{least_of_both}
 use Rattle.inf_expressions.specs.Rooted.{Rooted}
+use Rattle.inf_gathering.specs.Gatherings.{with_actions}
 use Rattle.inf_output.specs.Output.{apart, ◌▸◌}
 use Rattle.inf_unit.specs.Messages.{FileNames}
 use Rattle.inf_unit.specs.Units.{first_place, last_place, order, own_place, prepared as unit_prepared}
 use Rattle.inf_unit.specs.declared.items.Item.{Item}
 use Rattle.inf_unit.specs.declared.items.Item.TheVariants as item
 use Rattle.inf_statements.specs.Cases.{case_code}
-use Rattle.inf_statements.specs.Constructs.{Laying, begun, between, changed, condition_label, ended, entered, is_late, looped_over, next_case, stepped}
+use Rattle.inf_statements.specs.Constructs.{Laying, are_own, begun, between, cases_begun, changed, condition_label, ended, entered, is_late, looped_over, next_case, stepped}
 use Rattle.inf_statements.specs.Effects.{Site, misplaced_default, only_if, site_finding, statement_finding, statement_laid, wanted_by}
 use Rattle.inf_statements.specs.Statements.{alone, statement_in, switched, tested, tree_in}
 use Rattle.inf_statements.specs.declared.constructs.Construct.{Construct}
@@ -108,11 +109,23 @@ part_finished files first p w = part_carried files first p (found_in p w) (named
 abbrev pub part_prepared : Work → Work
 part_prepared w = record w { unit = unit_prepared w.unit }
 
+-- Before a case: one outside of any statement is one of the routine's own, whose values are actions.
+abbrev pub actions_named : Bool → Work → Work
+actions_named true w = record w { unit = record w.unit { gathering = with_actions w.unit.gathering } }
+actions_named false w = w
+
+abbrev pub own_case_prepared : Work → Work
+own_case_prepared w = let begun = constructs_laid (cases_begun w.constructs) w in actions_named (are_own begun.constructs) begun
+
+abbrev pub case_prepared : Part → Work → Work
+case_prepared part.Case w = own_case_prepared w
+case_prepared _ w = w
+
 -- before a token at a place; in a routine that is passed over nothing has an effect
 abbrev pub part_ended : FileNames → Place → Part → Work → Work
 part_ended files place p w =
     if w.is_passed_over then passed (has_last p) w
-    else let ready = part_prepared w in part_finished files (place_of p place ready) p ready
+    else let ready = case_prepared p (part_prepared w) in part_finished files (place_of p place ready) p ready
 
 -- Statements that hold others: where the word was read that is told where it stands too deep, between their parts, and where they end.
 abbrev pub construct_opened : FileNames → Place → Kind → Work → Work

@@ -21,4 +21,9 @@ work w = record {
   is_system = w.is_system;
   waiting = reverse w.waiting.items;
   is_passed_over = w.is_passed_over;
+  listing = w.listing;
+  lost = w.lost;
+  is_name = w.is_name;
+  is_embedded = w.is_embedded;
+  extending = w.extending;
 }

@@ -101,7 +101,7 @@ fn late_finding(order: u32, is_late: bool) -> Option<Finding>
 }
 
 /// That there is one more than there may be, which is told of the first token.
-fn many_finding(are_many: bool) -> Option<Finding>
+pub(crate) fn many_finding(are_many: bool) -> Option<Finding>
     ensures { result ≡ many_finding are_many }
 {
     if are_many {
@@ -230,7 +230,7 @@ fn aliased(kind: Countable, meaning: Option<Meaning>, found: Option<Finding>) ->
 }
 
 /// The value of an expression, which is 0 where there is none.
-fn value_in(forest: &Forest) -> Value
+pub(crate) fn value_in(forest: &Forest) -> Value
     ensures { result ≡ value_in (map tree_in (rooted_in forest.now)) }
 {
     match forest.roots.first() {
@@ -279,8 +279,39 @@ fn property_order(tokens: &UnitTokens, is_additive: bool) -> u32
 
 impl Work {
     ghost use Rattle.inf_work.specs.Actions.{finding_at, operands_of, settled_of, trees_at};
-    ghost use Rattle.inf_work.specs.Declarations.{alias_told, alias_with, attribute, attribute_added, attribute_ended, attribute_number, attribute_with, declaration_ended, global_added, global_ended, global_variable, global_with, has_most_attributes, has_most_globals, has_most_properties, last_meaning, new_attribute, new_global, new_property, name_known, property, property_added, property_ended, property_named, property_number, property_with, valued};
+    ghost use Rattle.inf_work.specs.Declarations.{alias_told, alias_with, attribute, attribute_added, attribute_ended, attribute_number, attribute_with, declaration_ended, declared_ended, global_added, global_ended, global_variable, global_with, has_most_attributes, has_most_globals, has_most_properties, last_meaning, new_attribute, new_global, new_property, name_known, plainly_known, property, property_added, property_ended, property_named, property_number, property_with, valued};
     ghost use Rattle.inf_work.specs.Works.{work};
+
+    /// What is known of a name that has an order and is declared, whether it was used before or not.
+    pub(crate) fn plainly_known(&self, files: &Stack, name: &Name, order: u32) -> Declared
+        ensures { result ≡ plainly_known files.now.names (as_name name.now) order (work self.now) }
+    {
+        let found = self.output.names.look(name.bytes());
+        let of_name = name_fault(files, name, standing_fault(found));
+        Declared {
+            found,
+            finding: name_finding(order, &of_name),
+        }
+    }
+
+    /// The end of the header of a declaration, or of a whole one, that begins at a place: what is wrong with it is told.
+    pub(crate) fn end_declared(
+        &mut self,
+        files: &Stack,
+        first: Place,
+        has_last: bool,
+        name: &Name,
+        kind: Countable,
+        declared: Declared,
+    ) -> Result<(), AllocError>
+        ensures { OnOk result (work self.new
+            ≡ declared_ended files.now.names first has_last (as_name name.now) kind declared (work self.old)) }
+    {
+        let of_name = name_fault(files, name, standing_fault(declared.found));
+        let blame = declaration_blame(&self.unit.tokens, first, kind, of_name, declared.finding);
+        self.report.fault(files, first, blame)?;
+        self.end_unit(files, first, has_last)
+    }
 
     /// The end of a declaration that begins at a place: what is wrong with it is told.
     fn end_declaration(
@@ -294,10 +325,7 @@ impl Work {
         ensures { OnOk result (work self.new
             ≡ declaration_ended files.now.names first (as_name name.now) kind declared (work self.old)) }
     {
-        let of_name = name_fault(files, name, standing_fault(declared.found));
-        let blame = declaration_blame(&self.unit.tokens, first, kind, of_name, declared.finding);
-        self.report.fault(files, first, blame)?;
-        self.end_unit(files, first, true)
+        self.end_declared(files, first, true, name, kind, declared)
     }
 
     /// What is wrong with a declaration of a name that has an order, beside its expression, where there are so many of its kind or not.
@@ -491,7 +519,7 @@ impl Work {
     }
 
     /// The value of the unit's expression, whose names are used.
-    fn value(&mut self) -> Result<Value, AllocError>
+    pub(crate) fn value(&mut self) -> Result<Value, AllocError>
         ensures { IfOk result (λ value. let s = settled_of (work self.old) in
             (value ≡ value_in (map tree_in (trees_at 0 Wanted.Constant s.operands (work self.old))))
             × (work self.new ≡ record (work self.old) { output = s.out })) }

@@ -18,7 +18,7 @@ use inf_expressions::{Finding, Forest, Wanted, build, constant, least_of_both};
 use inf_gathering::gathering::Leaf;
 use inf_lexer::{Place, Stack};
 use inf_names::meanings::Meaning;
-use inf_names::symbols::{Found, ReferFault, Symbols};
+use inf_names::symbols::{DeclareFault, Found, ReferFault, Symbols};
 use inf_report::messages::Message;
 use inf_report::own_words::OwnWords;
 use inf_statements::operands::add_leaf;
@@ -34,7 +34,7 @@ const MOST_STUB_LOCALS: u16 = 4;
 
 impl Work {
     ghost use Rattle.inf_unit.specs.Directives.{Include, asked, weight_of};
-    ghost use Rattle.inf_work.specs.Actions.{constant, constant_of, constant_with, is_first_declared, new_stub, replace, stub, stubbed, words_of};
+    ghost use Rattle.inf_work.specs.Actions.{constant, constant_of, constant_ended, constant_with, is_first_declared, new_stub, replace, stub, stubbed, words_of};
     ghost use Rattle.inf_work.specs.Directives.{carried_out, default, directive_end};
     ghost use Rattle.inf_work.specs.Works.{work};
 
@@ -75,6 +75,7 @@ impl Work {
             Directive::Attribute => return self.attribute(files, first, names),
             Directive::Property => return self.property(files, first, names),
             Directive::Global => return self.global_variable(files, first, names),
+            Directive::FakeAction => return self.fake_action(files, first, names),
             Directive::SystemFile => self.is_system = true,
         }
         self.pass(true);
@@ -257,6 +258,21 @@ impl Work {
         let finding = constant_finding(meaning, found);
         let stands = constant_meaning(meaning, finding);
         let refused = self.output.declare(name.bytes(), name.place, stands)?;
+        self.end_constant(files, first, name, refused, finding)
+    }
+
+    /// The end of the directive of a constant, whose name was refused or not.
+    fn end_constant(
+        &mut self,
+        files: &Stack,
+        first: Place,
+        name: &Name,
+        refused: Option<DeclareFault<Place>>,
+        finding: Option<Finding>,
+    ) -> Result<(), AllocError>
+        ensures { OnOk result (work self.new
+            ≡ constant_ended files.now.names first (as_name name.now) refused finding (work self.old)) }
+    {
         let of_name = name_fault(files, name, refused);
         let order = self.unit.tokens.name_order();
         let least = least_of_both(name_finding(order, &of_name), finding);

@@ -25,6 +25,9 @@ pub(crate) const USED_BEFORE: u8 = 11;
 /// The number of the message that there are too many of something.
 pub(crate) const TOO_MANY: u8 = 19;
 
+/// The number of the message that a word is, or is not, one of a verb.
+pub(crate) const WRONG_VERB: u8 = 22;
+
 /// Before the first unit nothing was laid.
 pub(crate) const NOWHERE: Place = Place { file: 0, line: 0 };
 
@@ -38,6 +41,7 @@ fn message_of<'t>(number: u8, token: Told<'t>, bytes: &'t [u8]) -> Message<'t>
         NOT_CONSTANT => Message::NotConstant,
         OUT_OF_RANGE => Message::ConstantOutOfRange,
         WRONG_OPCODE => Message::WrongOpcode(bytes),
+        WRONG_VERB => Message::WrongVerb(token),
         GIVEN_TWICE => Message::LabelTwice(bytes),
         NOTHING_TO_LEAVE => Message::NothingToLeave,
         MISPLACED_DEFAULT => Message::MisplacedDefault,

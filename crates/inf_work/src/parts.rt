@@ -64,8 +64,9 @@ fn is_default(items: &[Item]) -> bool
 }
 
 impl Work {
+    ghost use Rattle.inf_statements.specs.Constructs.{are_own};
     ghost use Rattle.inf_work.specs.Actions.{finding_at, named, operands_of, settled_of, trees_at};
-    ghost use Rattle.inf_work.specs.Parts.{construct_opened, found_in, order_of, own_finding, part_begun, part_carried, part_effect, part_ended, part_finished, place_of, statement_at, statement_laid_in};
+    ghost use Rattle.inf_work.specs.Parts.{actions_named, case_prepared, construct_opened, found_in, order_of, own_case_prepared, own_finding, part_begun, part_carried, part_effect, part_ended, part_finished, place_of, statement_at, statement_laid_in};
     ghost use Rattle.inf_work.specs.Works.{work};
 
     /// What the leaves of the unit's expressions stand for, where their names are only looked up.
@@ -75,7 +76,7 @@ impl Work {
         all_looked(
             self.alloc,
             &self.locals,
-            &self.output.names,
+            &self.output,
             &self.unit.tokens,
             self.unit.gathering.leaves(),
         )
@@ -292,6 +293,34 @@ impl Work {
         self.end_unit(files, first, part.has_last())
     }
 
+    /// The names of the unit's expressions are those of actions, where its case is one of the routine's own.
+    fn name_actions(&mut self)
+        ensures { let before = work self.old in work self.new ≡ actions_named (are_own before.constructs) before }
+    {
+        if self.constructs.are_own() {
+            self.unit.gathering.name_actions();
+        }
+    }
+
+    /// Before a case: one outside of any statement is one of the routine's own.
+    fn begin_cases(&mut self) -> Result<(), AllocError>
+        ensures { OnOk result (work self.new ≡ own_case_prepared (work self.old)) }
+    {
+        self.constructs.begin_cases(&mut self.output)?;
+        self.name_actions();
+        Ok(())
+    }
+
+    /// Before a unit that may be a case.
+    fn prepare_case(&mut self, part: Part) -> Result<(), AllocError>
+        ensures { OnOk result (work self.new ≡ case_prepared part (work self.old)) }
+    {
+        match part {
+            Part::Case => self.begin_cases(),
+            _ => Ok(()),
+        }
+    }
+
     /// A unit of a routine ends, before a token at a place. In a routine that is passed over nothing has an effect.
     #[inline(never)]
     pub(crate) fn end_part(
@@ -307,6 +336,7 @@ impl Work {
             return Ok(());
         }
         self.unit.prepare()?;
+        self.prepare_case(part)?;
         let first = self.part_place(part, place);
         let finding = self.found_in(part)?;
         self.begin_part(part)?;

@@ -5,7 +5,7 @@ ghost use Rattle.inf_symbol.specs.LocalList.{headed as as_headed, listed};
 ghost use Rattle.inf_symbol.specs.Locals.{no_locals, with_locals};
 ghost use Rattle.inf_symbol.specs.Spellings.{as_name};
 ghost use Rattle.inf_unit.specs.Blames.{blamed};
-ghost use Rattle.inf_work.specs.Actions.{with_all_unused, with_routine_fault};
+ghost use Rattle.inf_work.specs.Actions.{kind_ended, with_all_unused, with_routine_fault};
 ghost use Rattle.inf_work.specs.Findings.{header_fault, name_fault};
 
 use crate::findings::{header_fault, name_fault};
@@ -22,7 +22,7 @@ use inf_unit::messages::{Blame, Messages, location};
 use std::alloc::AllocError;
 
 impl Work {
-    ghost use Rattle.inf_work.specs.Actions.{close, header_end, header_with, is_replaced, opened_with, routine_declared};
+    ghost use Rattle.inf_work.specs.Actions.{close, code_closed, header_end, header_with, is_replaced, opened_with, routine_declared};
     ghost use Rattle.inf_work.specs.Works.{work};
 
     /// The header of a routine ends, before a token at a place.
@@ -35,6 +35,7 @@ impl Work {
             self.pass(true);
             return Ok(());
         };
+        self.is_embedded = false;
         self.is_passed_over = self.is_replaced(name);
         if self.is_passed_over {
             self.constructs.clear();
@@ -85,7 +86,7 @@ impl Work {
     }
 
     /// Opens the code of a routine with the locals of a header that begins at a place, and had an error or not.
-    fn open_code(
+    pub(crate) fn open_code(
         &mut self,
         files: &Stack,
         first: Place,
@@ -111,15 +112,36 @@ impl Work {
             self.pass(true);
             return Ok(());
         }
-        let fault = self.output.close(RoutineKind::Plain)?;
+        self.constructs.end(&mut self.output)?;
+        self.close_code(files, place)
+    }
+
+    /// The code of the open routine ends, at a place.
+    fn close_code(&mut self, files: &Stack, place: Place) -> Result<(), AllocError>
+        ensures { OnOk result (work self.new ≡ code_closed files.now.names place (work self.old)) }
+    {
+        let fault = self.output.close(kind_ended(self.is_embedded))?;
         tell_fault(fault, &self.labels, files, place, &mut self.report)?;
         tell_unused(&self.locals, files, place, &mut self.report)?;
+        self.is_embedded = false;
+        self.locals = Locals::new();
         self.end_unit(files, place, true)
     }
 }
 
+/// The kind of a routine, which is a value of a property or not.
+fn kind_ended(is_embedded: bool) -> RoutineKind
+    ensures { result ≡ kind_ended is_embedded }
+{
+    if is_embedded {
+        RoutineKind::Embedded
+    } else {
+        RoutineKind::Plain
+    }
+}
+
 /// The locals that the names behind a routine's name declare.
-fn headed_of(names: &[Name]) -> Headed<'_>
+pub(crate) fn headed_of(names: &[Name]) -> Headed<'_>
     ensures { as_headed result ≡ with_locals (map as_name names.now) no_locals }
 {
     let mut headed = Headed::new();
@@ -145,7 +167,7 @@ fn header_blame<'a>(
 }
 
 /// Whether there is anything to tell.
-fn is_told(blame: &Option<Blame<'_>>) -> bool
+pub(crate) fn is_told(blame: &Option<Blame<'_>>) -> bool
     ensures { result ≡ is_some (option_map blamed blame.now) }
 {
     match blame {

@@ -2,14 +2,17 @@
 ghost use Rattle.std.specs.Prelude.{◌≡◌, ◌≤◌, IfOk, None, OnOk};
 ghost use Rattle.inf_unit.specs.Messages.{location};
 ghost use Rattle.inf_unit.specs.Tokens.{spelled};
-ghost use Rattle.inf_work.specs.Actions.{no_output};
+ghost use Rattle.inf_work.specs.Actions.{names_class, no_output};
 
+use crate::arrays::Listing;
 use crate::findings::NOWHERE;
 use crate::parts::Part;
+use crate::verbs::Extending;
 use inf_cells::Scale;
 use inf_code::code::{Code, CodeLimits};
 use inf_lexer::{Place, Stack};
-use inf_names::symbols::Symbols;
+use inf_names::meanings::Meaning;
+use inf_names::symbols::{Found, Symbols};
 use inf_output::{Output, Strings};
 use inf_report::messages::Message;
 use inf_scanner::{Mark, TokenKind};
@@ -18,8 +21,9 @@ use inf_settings::settings::Settings;
 use inf_statements::constructs::{Case, Constructs, Kind, Over};
 use inf_statements::labels::Labels;
 use inf_symbol::locals::Locals;
+use inf_symbol::spellings::MOST_NAME_BYTES;
 use inf_syntax::Action;
-use inf_tables::Tables;
+use inf_tables::{Arrays, Tables};
 use inf_templates::Tasks;
 use inf_text::CharSet;
 use inf_unit::directives::Asked;
@@ -27,6 +31,7 @@ use inf_unit::messages::{Messages, location};
 use inf_unit::names::no_symbols;
 use inf_unit::tokens::Spelled;
 use inf_unit::unit::Unit;
+use inf_verbs::Place as LinePlace;
 use std::alloc::{AllocError, Global};
 use std::mem;
 
@@ -62,6 +67,15 @@ pub struct Work {
     waiting: Vec<bool>,
     /// Whether the routine at hand is passed over, since it is to be replaced.
     pub(crate) is_passed_over: bool,
+    /// The array whose entries are read, and where they go if its header had an error.
+    pub(crate) listing: Listing,
+    pub(crate) lost: Arrays,
+    /// Whether the values that are read are those of the property `name`.
+    pub(crate) is_name: bool,
+    /// Whether the open routine is a value of a property.
+    pub(crate) is_embedded: bool,
+    /// The verb whose lines are read.
+    pub(crate) extending: Extending,
 }
 
 /// No code and no names, of which there may be as many as the settings say.
@@ -76,12 +90,26 @@ fn no_output(alloc: Global, settings: &Settings) -> Result<Output, AllocError>
     let code = Code::new(alloc, limits, Scale::Four)?;
     let strings = Strings::new(alloc, settings.of(Setting::Strings) as usize, Scale::Four);
     let tables = Tables::new(alloc, settings);
-    Ok(Output::new(code, strings, tables, no_symbols(alloc, settings), NOWHERE))
+    Ok(Output::new(
+        code,
+        strings,
+        tables,
+        no_symbols(alloc, settings),
+        Symbols::new(alloc, u32::MAX, false),
+        NOWHERE,
+    ))
+}
+
+/// Whether a name stands for a class, by what looking for it found.
+fn names_class(found: Found<Place>) -> bool
+    ensures { result ≡ names_class found }
+{
+    matches!(found, Found::Declared(Meaning::Class(_), _))
 }
 
 impl Work {
     ghost use Rattle.inf_unit.specs.Directives.{Nothing, asked, asks};
-    ghost use Rattle.inf_work.specs.Actions.{begun_at, cut, entered, is_deep, left, nested, no_work, passed, piece_begun, sized, token_checked, took, unit_ended};
+    ghost use Rattle.inf_work.specs.Actions.{begun_at, cut, entered, is_class, is_deep, left, nested, no_work, passed, piece_begun, sized, token_checked, took, unit_ended};
     ghost use Rattle.inf_work.specs.Acting.{act, acted};
     ghost use Rattle.inf_work.specs.Works.{work};
 
@@ -105,7 +133,30 @@ impl Work {
             is_system: false,
             waiting: Vec::new(alloc),
             is_passed_over: false,
+            listing: Listing {
+                is_lost: false,
+                has_entries: false,
+            },
+            lost: Arrays::new(alloc, usize::MAX),
+            is_name: false,
+            is_embedded: false,
+            extending: Extending {
+                verb: None,
+                place: LinePlace::Last,
+            },
         })
+    }
+
+    /// Whether a token is the name of a class.
+    pub fn is_class(&self, token: &Spelled<'_>) -> bool
+        ensures { result ≡ is_class (spelled token.now) (work self.now) }
+    {
+        match token.kind {
+            TokenKind::Name if token.bytes.len() <= MOST_NAME_BYTES => {
+                names_class(self.output.names.look(token.bytes))
+            }
+            _ => false,
+        }
     }
 
     /// Whether a directive asks something of the reading.
@@ -173,6 +224,7 @@ impl Work {
         ensures { OnOk result (work self.new ≡ cut files.now.names (work self.old)) }
     {
         self.unit.is_sure = true;
+        self.end_body()?;
         self.size(files)
     }
 
@@ -198,6 +250,16 @@ impl Work {
         match action {
             Action::EndLocals => self.end_header(files, place),
             Action::EndDirective => self.end_directive(files, place),
+            Action::EndHeader => self.end_directive_header(files, place),
+            Action::EndBody => self.end_body(),
+            Action::EndClass => self.class_of_body(files, place),
+            Action::EndAttribute => self.attribute_of_body(files, place),
+            Action::EndProperty => self.property_of_body(files, place),
+            Action::EndValue => self.value_of_body(files, place),
+            Action::EndEmbedded => self.routine_of_body(files, place),
+            Action::EndLine => self.end_line(files, place),
+            Action::EndEntry => self.end_entry(files, place, false),
+            Action::EndAlone => self.end_entry(files, place, true),
             Action::EndRoutine => self.close(files, place),
             Action::EndStatement => self.end_statement(files, place),
             Action::EndIf | Action::EndWhile | Action::EndUntil | Action::EndForTest => {
@@ -252,7 +314,7 @@ impl Work {
         requires { more ≤ 1 }
         ensures { result ≡ is_deep (work self.now) more }
     {
-        let constructs = self.constructs.len();
+        let constructs = self.constructs.depth();
         let room = MOST_NESTED.saturating_sub(self.unit.depth as usize);
         constructs > room || constructs + more > room || self.unit.depth as usize > MOST_NESTED
     }

@@ -181,13 +181,14 @@ fn words_of_statements_begin_no_calls(rt: HostRuntime) -> Result<(), Fail> {
 }
 
 /// Sources whose bad token the grammar has, with what is told of it.
-static ROWS: [(&[u8], &str); 6] = [
+static ROWS: [(&[u8], &str); 7] = [
     (b"[ Main; string 3 \"ab\"; ];", "\"string\""),
-    (b"[ Main; <Take>; ];", "\"<\""),
-    (b"[ Main; return ##F; ];", "\"##\""),
-    (b"[ Main; F, G: ; ];", "\":\""),
-    (b"Array a --> 5;", "\"Array\""),
-    (b"Verb 'go' * -> Go;", "\"Verb\""),
+    (b"[ Main; return #version_number; ];", "\"#\""),
+    (b"Abbreviate \"the \";", "\"Abbreviate\""),
+    (b"Lowstring x \"ab\";", "\"Lowstring\""),
+    (b"Serial \"260101\";", "\"Serial\""),
+    (b"Switches s;", "\"Switches\""),
+    (b"Release 2;", "\"Release\""),
 ];
 
 /// Compiles `t.inf` of these files, and asserts the beginning of its messages.

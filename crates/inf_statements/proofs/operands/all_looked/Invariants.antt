@@ -1,4 +1,5 @@
-use Rattle.std.proofs.Common.{◌≡◌, [], drop}
+use Rattle.std.proofs.Common.{◌≡◌, [], drop, false}
+use Rattle.inf_names.specs.Symbols.{no_names}
 use Rattle.inf_symbol.specs.LocalList.{listed}
 use Rattle.inf_statements.specs.Operands.{looked_from}
 use Rattle.inf_statements.proofs.operands.all_looked.Given as goal
@@ -6,4 +7,5 @@ use Rattle.inf_statements.proofs.operands.all_looked.Given as goal
 -- the operands so far, and then those of the leaves that are left, are those of all
 abbrev pub invariant-loop-leaf : goal.invariant-loop-leaf
 invariant-loop-leaf l =
-    looked_from (listed l.locals) l.names l.tokens (drop l.leaf-index l.leaves) l.operands.items ≡ looked_from (listed l.locals) l.names l.tokens l.leaves []
+    looked_from (listed l.locals) l.out l.tokens (drop l.leaf-index l.leaves) l.ahead l.operands.items
+    ≡ looked_from (listed l.locals) l.out l.tokens l.leaves (no_names 4294967295 false) []

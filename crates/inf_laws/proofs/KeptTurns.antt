@@ -1,0 +1,72 @@
+-- The turns of a reading by the tokens that they hand on.
+use Rattle.std.proofs.Common.{◌≡◌, ℕ, zero, suc, List, [], ◌∷◌, ◌++◌, cond, Bool, true, false, refl, sym, ap, subst, ◌∙◌}
+use Rattle.std.proofs.lemmas.List.{append-nil}
+use Rattle.inf_scanner.specs.declared.tokens.Place.{Place}
+use Rattle.inf_token.specs.Files.{Sources}
+use Rattle.inf_sources.specs.Inclusions.{Inclusion, Opens, OpensNone, inclusion}
+use Rattle.inf_sources.specs.declared.open_files.Included.{Included}
+use Rattle.inf_sources.specs.declared.open_files.Included.TheVariants as answer
+use Rattle.inf_unit.specs.Directives.{Asked, End, Include, Nothing}
+use Rattle.inf_unit.specs.Messages.{FileNames}
+use Rattle.inf_conditionals.specs.Judging.{judged}
+use Rattle.inf_reader.specs.Handing.{said_told, site_of}
+use Rattle.inf_reader.specs.Reading.{Reading, is_mode_ended}
+use Rattle.inf_session.specs.Choices.{Choices}
+use Rattle.inf_session.specs.Session.{State, answered, asked_nothing, followed, has_ended, heeded, included_by, is_resting, left, none_included, piece_closed, rested, stand_of, stepped, token_of, turn}
+use Rattle.inf_laws.specs.KeptTokens.{Stands, all_given_to}
+use Rattle.inf_laws.specs.KeptTurns.{StayInFile, TurnsReadPieces, given_by, given_in, turned}
+use Rattle.inf_laws.proofs.KeptTokens.{given_both, kept_tokens_are_read, tokens_are_handed_on}
+use Rattle.inf_unit.proofs.Cases.{of_both}
+
+-- What a turn does behind its token changes nothing of how pieces are read, unless it ends a file
+
+none_reading : (unit : Place) (text : List ℕ) (why : Included) (s : State) → (none_included unit text why s).reading ≡ s.reading
+none_reading unit text answer.Entered s = refl
+none_reading unit text answer.NotThere s = refl
+none_reading unit text answer.TooDeep s = refl
+
+included_reading : (sources : Sources) (o : Choices) (unit : Place) (text : List ℕ) (i : Inclusion) (s : State) → (included_by sources o unit text i s).reading ≡ s.reading
+included_reading sources o unit text (Opens name) s = refl
+included_reading sources o unit text (OpensNone why) s = none_reading unit text why s
+
+answered_reading : (a : Asked) (sources : Sources) (o : Choices) (s : State) → (answered a sources o s).reading ≡ s.reading
+answered_reading (Include text unit) sources o s = included_reading sources o unit text (inclusion sources o.directories text s.nesting) s
+answered_reading End sources o s = refl
+answered_reading Nothing sources o s = refl
+
+heeded_reading : (sources : Sources) (o : Choices) (s : State) → is_mode_ended s.reading.mode ≡ false → (heeded sources o s).reading ≡ s.reading
+heeded_reading sources o s going =
+    of_both (λ (x : State). x.reading ≡ s.reading) s.work.report.counts.is_over s
+    (cond (is_mode_ended s.reading.mode) (left s) (answered s.work.asked sources o (asked_nothing s)))
+    (λ _. refl)
+    (λ _. ap (λ b. (cond b (left s) (answered s.work.asked sources o (asked_nothing s))).reading) going ∙ answered_reading s.work.asked sources o (asked_nothing s))
+
+rested_reading : (s : State) → (rested s).reading ≡ s.reading
+rested_reading s =
+    of_both (λ (x : State). x.reading ≡ s.reading) (has_ended s) s (cond (is_resting s) (piece_closed s) s) (λ _. refl)
+    (λ _. of_both (λ (x : State). x.reading ≡ s.reading) (is_resting s) (piece_closed s) s (λ _. refl) (λ _. refl))
+
+turn_reading : (sources : Sources) (o : Choices) (s : State) → is_mode_ended (stepped s).reading.mode ≡ false → (turn sources o s).reading ≡ (stepped s).reading
+turn_reading sources o s going = rested_reading (heeded sources o (stepped s)) ∙ heeded_reading sources o (stepped s) going
+
+-- By what is handed on
+
+stepped_reading : (s : State) → (stepped s).reading ≡ all_given_to (given_by s) s.reading
+stepped_reading s =
+    let t = token_of s.nesting.cursor in
+    let b = judged (site_of s.reading) s.work.output.names t s.conditions in
+    tokens_are_handed_on s.nesting.names t b.judged (said_told b.now.said s.nesting.names (stand_of s))
+
+all_reading : (sources : Sources) (o : Choices) (n : ℕ) (s : State) → StayInFile sources o n s
+    → (stepped (turned sources o n s)).reading ≡ all_given_to (given_in sources o (suc n) s) s.reading
+all_reading sources o zero s stay = stepped_reading s ∙ ap (λ gs. all_given_to gs s.reading) (sym (append-nil (given_by s)))
+all_reading sources o (suc n) s stay =
+    let next = turn sources o s in
+    all_reading sources o n next stay.1
+    ∙ ap (λ (r : Reading). all_given_to (given_in sources o (suc n) next) r) (turn_reading sources o s stay.0 ∙ stepped_reading s)
+    ∙ sym (given_both (given_by s) (given_in sources o (suc n) next) s.reading)
+
+pub turns_read_pieces : TurnsReadPieces
+turns_read_pieces sources o n s fresh stay goes =
+    subst (λ (r : Reading). Stands (given_in sources o (suc n) s) r) (sym (all_reading sources o n s stay))
+    (kept_tokens_are_read (given_in sources o (suc n) s) s.reading fresh goes)

@@ -1,0 +1,38 @@
+-- The tokens that the turns of a whole reading hand on, with the files that include one another.
+use Rattle.std.specs.Prelude.{◌≡◌, ℕ, zero, suc, List, [], ◌++◌, false}
+use Rattle.inf_token.specs.Files.{Sources}
+use Rattle.inf_conditionals.specs.Judging.{judged}
+use Rattle.inf_reader.specs.Handing.{said_told, site_of}
+use Rattle.inf_reader.specs.Reading.{between, is_mode_ended}
+use Rattle.inf_reader.specs.declared.mode.Mode.TheVariants as mode
+use Rattle.inf_session.specs.Choices.{Choices}
+use Rattle.inf_session.specs.Session.{State, stand_of, stepped, token_of, turn}
+use Rattle.inf_laws.specs.KeptTokens.{Given, GoesOn, Stands, given_of}
+
+-- of a turn
+abbrev pub given_by : State → List Given
+given_by s =
+    let t = token_of s.nesting.cursor in
+    let b = judged (site_of s.reading) s.work.output.names t s.conditions in
+    given_of s.nesting.names b.judged t (said_told b.now.said s.nesting.names (stand_of s))
+
+-- so many turns, and what they hand on
+abbrev pub turned : Sources → Choices → ℕ → State → State
+turned sources o zero s = s
+turned sources o (suc n) s = turned sources o n (turn sources o s)
+
+abbrev pub given_in : Sources → Choices → ℕ → State → List Given
+given_in sources o zero s = []
+given_in sources o (suc n) s = given_by s ++ given_in sources o n (turn sources o s)
+
+-- no file ends in them
+abbrev pub StayInFile : Sources → Choices → ℕ → State → Type 0
+StayInFile sources o zero s = Unit {0}
+StayInFile sources o (suc n) s = (is_mode_ended (stepped s).reading.mode ≡ false) × StayInFile sources o n (turn sources o s)
+
+-- From between two pieces on, as long as the first one goes on, and behind the token that ends it, the turns of a reading stand where the tokens tell that
+-- they handed on: in a piece that these begin, behind one that they are, or behind the bad one, which is the first with which they begin none.
+abbrev pub TurnsReadPieces : Type 0
+TurnsReadPieces = (sources : Sources) (o : Choices) (n : ℕ) (s : State) → s.reading ≡ between mode.Reads → StayInFile sources o n s
+    → GoesOn (given_in sources o (suc n) s) s.reading
+    → Stands (given_in sources o (suc n) s) (stepped (turned sources o n s)).reading

@@ -1,0 +1,122 @@
+-- Actions, as a source names them. Designer's Manual, fourth edition, section 6.
+use Rattle.std.specs.Prelude.{ℕ, ◌+◌, ◌%◌, List, ◌++◌, codes, length, Option, Some, None}
+use Rattle.inf_scanner.specs.declared.tokens.Place.{Place}
+use Rattle.inf_names.specs.declared.meanings.Meaning.{Meaning}
+use Rattle.inf_names.specs.declared.meanings.Meaning.TheVariants as meaning
+use Rattle.inf_names.specs.declared.symbols.DeclareFault.{DeclareFault}
+use Rattle.inf_names.specs.declared.symbols.DeclareFault.TheVariants as declaring
+use Rattle.inf_names.specs.declared.symbols.Found.{Found}
+use Rattle.inf_names.specs.declared.symbols.Found.TheVariants as found
+use Rattle.inf_names.specs.Symbols.{declare_fault, found_in, with_declared}
+use Rattle.inf_output.specs.Output.{Code, Out, declared, passed_table, referred, referred_as}
+use Rattle.inf_settings.specs.declared.setting.Setting.TheVariants as setting
+use Rattle.inf_verbs.specs.declared.routines.ActionFault.{ActionFault}
+use Rattle.inf_verbs.specs.Routines.{AllActions, action_fault, number_of, with_action, with_fake}
+
+-- Keys
+
+-- The key of an action among names: two signs stand before its own, so no other name is the same.
+abbrev pub key_of : List ℕ → List ℕ
+key_of name = codes "##" ++ name
+
+-- the name of its routine
+abbrev pub routine_name : List ℕ → List ℕ
+routine_name name = name ++ codes "Sub"
+
+-- Numbers
+
+-- The number that a key stands for: a fake action is declared under its key among the names of the source, and any other that appeared among those that did.
+abbrev pub number_of_meaning : Meaning → Option ℕ
+number_of_meaning (meaning.FakeAction number) = Some number
+number_of_meaning _ = None
+
+abbrev pub number_in : Found Place → Option ℕ
+number_in (found.Declared m first) = number_of_meaning m
+number_in _ = None
+
+abbrev pub fake_number : List ℕ → Out → Option ℕ
+fake_number key o = number_in (found_in key o.names)
+
+abbrev pub number_by : Option ℕ → Option ℕ → Option ℕ
+number_by (Some fake) seen = Some fake
+number_by None seen = seen
+
+abbrev pub action_number : List ℕ → Out → Option ℕ
+action_number name o = number_by (fake_number (key_of name) o) (number_in (found_in (key_of name) o.seen))
+
+-- Where an action appears that is no fake one
+
+-- the first time it is declared under its key with how many others appeared before, as a word
+abbrev pub next_seen : Out → ℕ
+next_seen o = length o.seen.names % 65536
+
+abbrev pub seen_by : Option (DeclareFault Place) → List ℕ → Place → Code
+seen_by None key place o = record o { seen = with_declared key place (meaning.FakeAction (next_seen o)) o.seen }
+seen_by (Some fault) key place o = o
+
+abbrev pub appeared : List ℕ → Place → Code
+appeared key place o = seen_by (declare_fault key o.seen) key place o
+
+-- its number is that of its routine among the routines of actions; where there would be one too many the limit is passed
+abbrev pub with_actions : AllActions → Code
+with_actions actions o = record o { tables = record o.tables { actions = actions } }
+
+abbrev pub numbered_by : Option ActionFault → ℕ → Out → Out × ℕ
+numbered_by None routine o = (with_actions (with_action routine o.tables.actions) o, number_of routine o.tables.actions.routines)
+numbered_by (Some fault) routine o = (passed_table setting.Actions o, 0)
+
+abbrev pub numbered : ℕ → Out → Out × ℕ
+numbered routine o = numbered_by (action_fault routine o.tables.actions) routine o
+
+-- its routine is used there, whose number is that among the names
+abbrev pub routine_of : Option (Found Place × Option ℕ) → Option ℕ
+routine_of None = None
+routine_of (Some f) = f.1
+
+abbrev pub numbered_as : Option ℕ → Out → Out × ℕ
+numbered_as None o = (o, 0)
+numbered_as (Some routine) o = numbered routine o
+
+abbrev pub routine_referred : List ℕ → Place → Out → Out × Option ℕ
+routine_referred routine place o = (referred routine place o, routine_of (referred_as routine o))
+
+abbrev pub numbered_with : Out × Option ℕ → Out × ℕ
+numbered_with r = numbered_as r.1 r.0
+
+abbrev pub routine_used : List ℕ → Place → Out → Out × ℕ
+routine_used routine place o = numbered_with (routine_referred routine place o)
+
+abbrev pub action_by : Option ℕ → List ℕ → Place → Out → Out × ℕ
+action_by (Some fake) name place o = (o, fake)
+action_by None name place o = routine_used (routine_name name) place (appeared (key_of name) place o)
+
+abbrev pub action_of : List ℕ → Place → Out → Out × ℕ
+action_of name place o = action_by (fake_number (key_of name) o) name place o
+
+-- Fake actions
+
+-- where an action appeared first, as a fake one or not
+abbrev pub place_in : Found Place → Option Place
+place_in (found.Declared m first) = Some first
+place_in _ = None
+
+abbrev pub first_by : Option Place → Option Place → Option Place
+first_by (Some fake) seen = Some fake
+first_by None seen = seen
+
+abbrev pub first_seen : List ℕ → Out → Option Place
+first_seen key o = first_by (place_in (found_in key o.names)) (place_in (found_in key o.seen))
+
+-- one that is no action yet is declared as a fake one, with the next number of those
+abbrev pub next_fake : Out → ℕ
+next_fake o = (4096 + o.tables.actions.fakes) % 65536
+
+abbrev pub one_fake : Code
+one_fake o = with_actions (with_fake o.tables.actions) o
+
+abbrev pub faked_by : Option Place → List ℕ → Place → Out → Out × Option (DeclareFault Place)
+faked_by (Some first) key place o = (o, Some (declaring.Present (Some first)))
+faked_by None key place o = (declared key place (meaning.FakeAction (next_fake o)) (one_fake o), declare_fault key o.names)
+
+abbrev pub faked : List ℕ → Place → Out → Out × Option (DeclareFault Place)
+faked name place o = faked_by (first_seen (key_of name) o) (key_of name) place o

@@ -1,0 +1,375 @@
+//! The values of properties: words of the dictionary, expressions, and routines.
+ghost use Rattle.std.specs.Prelude.{◌≡◌, IfOk, OnOk, option_map};
+ghost use Rattle.inf_symbol.specs.LocalList.{headed as as_headed};
+ghost use Rattle.inf_unit.specs.Blames.{blamed};
+ghost use Rattle.inf_work.specs.Values.{bracket_in, bracket_step, embedded_blame, is_first, misplaced_blame, name_place, only_leaf, place_before, text_value, wrong_if};
+
+use crate::arrays::has_variables;
+use crate::bodies::{is_words, last_at, property_of};
+use crate::findings::{TOO_MANY, header_fault};
+use crate::objects::{entry_blame, text_in};
+use crate::routines::{headed_of, is_told};
+use crate::work::Work;
+use inf_area::{AreaName, Target, Value};
+use inf_expressions::{Finding, Wanted, least_of_both};
+use inf_gathering::gathering::Leaf;
+use inf_lexer::{Place, Stack};
+use inf_scanner::{Mark, TokenKind};
+use inf_symbol::locals::Headed;
+use inf_tables::WordUse;
+use inf_text::{Mode, Text, dict_word};
+use inf_unit::messages::Blame;
+use inf_unit::tokens::is_mark;
+use inf_unit::unit_tokens::UnitTokens;
+use std::alloc::AllocError;
+
+/// The place before another one.
+fn place_before(at: usize) -> Option<usize>
+    ensures { result ≡ place_before at }
+{
+    if at == 0 { None } else { Some(at - 1) }
+}
+
+/// The place of the name of a property, which stands before its first value, where that begins at a place.
+fn name_place(outer: Option<usize>) -> Option<usize>
+    ensures { result ≡ name_place outer }
+{
+    match outer {
+        Some(at) => place_before(at),
+        None => None,
+    }
+}
+
+/// That something is wrong with a value.
+fn wrong_if(is_wrong: bool) -> Option<Finding>
+    ensures { result ≡ wrong_if is_wrong }
+{
+    if is_wrong {
+        Some(Finding::out_of_range(0))
+    } else {
+        None
+    }
+}
+
+// Words of the dictionary
+
+/// The leaf that an expression with these leaves has alone.
+fn only_leaf(leaves: &[Leaf]) -> Option<Leaf>
+    ensures { result ≡ only_leaf leaves.now }
+{
+    match leaves {
+        [leaf] => Some(*leaf),
+        _ => None,
+    }
+}
+
+/// The word of the dictionary with these characters as a value; 0, where a string variable is among them.
+fn text_value(has_variables: bool, text: &Text) -> Value
+    ensures { result ≡ text_value has_variables text.now }
+{
+    if has_variables {
+        Value::Known(0)
+    } else {
+        Value::Later(Target::Word(dict_word(text)))
+    }
+}
+
+// Routines
+
+/// The place of the last bracket, with one token more.
+fn bracket_step(bracket: usize, at: usize, kind: Option<TokenKind>) -> usize
+    ensures { result ≡ bracket_step at kind bracket }
+{
+    match kind {
+        Some(kind) if is_mark(kind, Mark::OpenBracket) => at,
+        _ => bracket,
+    }
+}
+
+/// The place of the bracket that opens a routine, which is the last one of its unit.
+#[tactic(auto, using(crate::proofs::KindSteps::bracket_goes))]
+fn bracket_in(tokens: &UnitTokens) -> usize
+    ensures { result ≡ bracket_in tokens.now }
+{
+    let mut bracket = 0;
+    for at in 0..tokens.len() {
+        bracket = bracket_step(bracket, at, tokens.kind(at));
+    }
+    bracket
+}
+
+/// Whether there are too many locals, which is told before what is wrong with where a routine goes, unless that is told of the first token.
+fn is_first(finding: Finding, headed: &Headed<'_>) -> bool
+    ensures { result ≡ is_first finding (as_headed headed.entry.now) }
+{
+    finding.number != TOO_MANY && headed.are_too_many
+}
+
+/// What is told of the header of a routine that is a value, where this is wrong with where it goes.
+fn misplaced_blame<'a>(
+    tokens: &'a UnitTokens,
+    files: &'a Stack,
+    first: Place,
+    headed: &Headed<'a>,
+    finding: Finding,
+) -> Option<Blame<'a>>
+    ensures { option_map blamed result
+        ≡ misplaced_blame tokens.now files.now.names first (as_headed headed.entry.now) finding }
+{
+    if is_first(finding, headed) {
+        header_fault(files, first, None, headed)
+    } else {
+        entry_blame(tokens, first, Some(finding))
+    }
+}
+
+/// The same, where this was found of where it goes.
+fn embedded_blame<'a>(
+    tokens: &'a UnitTokens,
+    files: &'a Stack,
+    first: Place,
+    headed: &Headed<'a>,
+    own: Option<Finding>,
+) -> Option<Blame<'a>>
+    ensures { option_map blamed result
+        ≡ embedded_blame tokens.now files.now.names first (as_headed headed.entry.now) own }
+{
+    match own {
+        Some(finding) => misplaced_blame(tokens, files, first, headed, finding),
+        None => header_fault(files, first, None, headed),
+    }
+}
+
+impl Work {
+    ghost use Rattle.inf_work.specs.Bodies.{place_finding};
+    ghost use Rattle.inf_work.specs.Values.{char_text, embedded, embedded_begun, embedded_opened, embedded_read, expression_finding, expression_placed, leaf_text, next_routine, routine_placed, settled_finding, settled_placed, takes_words, text_finding, text_placed, value_finding, value_placed, value_read, value_with, value_with_finding, word_leaf, word_text, word_used};
+    ghost use Rattle.inf_work.specs.Works.{work};
+
+    // Words of the dictionary
+
+    /// Whether a character or a text is a word of the dictionary, as a value of the property whose name stands at a place, or of the one
+    /// that was given last.
+    fn takes_words(&self, name: Option<usize>) -> bool
+        ensures { result ≡ takes_words name (work self.now) }
+    {
+        match name {
+            Some(at) => is_words(property_of(self.found_at(at))),
+            None => self.is_name,
+        }
+    }
+
+    /// The leaf that may be a word of the dictionary: that of an expression which has no more.
+    fn word_leaf(&self, takes_words: bool) -> Option<Leaf>
+        ensures { result ≡ word_leaf takes_words (work self.now) }
+    {
+        let gathering = &self.unit.gathering;
+        if takes_words && gathering.symbols().len() == 1 {
+            only_leaf(gathering.leaves())
+        } else {
+            None
+        }
+    }
+
+    /// The character that the last token is, as a text.
+    fn char_text(&self) -> Result<Option<Text>, AllocError>
+        ensures { IfOk result (λ text. text ≡ char_text (work self.now)) }
+    {
+        match self.unit.tokens.get(last_at(&self.unit.tokens)) {
+            Some(token) => text_in(self.alloc, self.set, Mode::Quote, token.bytes),
+            None => Ok(None),
+        }
+    }
+
+    /// The characters of a leaf that is a character or a text.
+    fn leaf_text(&self, leaf: Leaf) -> Result<Option<Text>, AllocError>
+        ensures { IfOk result (λ text. text ≡ leaf_text leaf (work self.now)) }
+    {
+        match leaf {
+            Leaf::Char(_) => self.char_text(),
+            Leaf::Text(at) => self.text_at(at),
+            _ => Ok(None),
+        }
+    }
+
+    /// The characters of the word of the dictionary that a value is.
+    fn word_text(&self, takes_words: bool) -> Result<Option<Text>, AllocError>
+        ensures { IfOk result (λ text. text ≡ word_text takes_words (work self.now)) }
+    {
+        match self.word_leaf(takes_words) {
+            Some(leaf) => self.leaf_text(leaf),
+            None => Ok(None),
+        }
+    }
+
+    /// A word as a value is used, unless something is wrong with it.
+    fn use_word(&mut self, found: Option<Finding>, text: &Text) -> Result<(), AllocError>
+        ensures { OnOk result (work self.new ≡ word_used found text.now (work self.old)) }
+    {
+        match found {
+            Some(_) => Ok(()),
+            None => self.output.word(dict_word(text), WordUse::Other, false),
+        }
+    }
+
+    /// A value that is a word with these characters.
+    fn place_text(
+        &mut self,
+        name: Option<usize>,
+        text: &Text,
+    ) -> Result<Option<Finding>, AllocError>
+        ensures value { OnOk result (work self.new ≡ text_placed name text.now (work self.old)) }
+        ensures finding { IfOk result (λ f. f ≡ text_finding name text.now (work self.old)) }
+    {
+        let is_wrong = has_variables(text.as_slice());
+        let value = text_value(is_wrong, text);
+        let found = self.placed(name, value, wrong_if(is_wrong))?;
+        self.use_word(found, text)?;
+        Ok(found)
+    }
+
+    // Expressions
+
+    /// A value that is the unit's expression, with which nothing is wrong.
+    fn place_settled(&mut self, name: Option<usize>) -> Result<Option<Finding>, AllocError>
+        ensures value { OnOk result (work self.new ≡ settled_placed name (work self.old)) }
+        ensures finding { IfOk result (λ f. f ≡ settled_finding name (work self.old)) }
+    {
+        let value = self.value()?;
+        self.placed(name, value, None)
+    }
+
+    /// A value that is the unit's expression, of which this was found, and this is its value where its names are only looked up.
+    fn place_with(
+        &mut self,
+        name: Option<usize>,
+        judged: Option<Finding>,
+        looked: Value,
+    ) -> Result<Option<Finding>, AllocError>
+        ensures value { OnOk result (work self.new ≡ value_with name judged looked (work self.old)) }
+        ensures finding { IfOk result (λ f. f ≡ value_with_finding name judged looked (work self.old)) }
+    {
+        match least_of_both(judged, self.place_finding(name, looked)) {
+            Some(_) => self.placed(name, looked, judged),
+            None => self.place_settled(name),
+        }
+    }
+
+    /// A value that is the unit's expression.
+    fn place_expression(&mut self, name: Option<usize>) -> Result<Option<Finding>, AllocError>
+        ensures value { OnOk result (work self.new ≡ expression_placed name (work self.old)) }
+        ensures finding { IfOk result (λ f. f ≡ expression_finding name (work self.old)) }
+    {
+        let operands = self.operands()?;
+        let judged = self.finding(0, Wanted::Constant, operands.as_slice())?;
+        let looked = self.looked_value(operands.as_slice())?;
+        self.place_with(name, judged, looked)
+    }
+
+    /// A value goes to the property whose name stands before it, or to the one that was given last. Answers what is wrong.
+    fn place_value(&mut self, name: Option<usize>) -> Result<Option<Finding>, AllocError>
+        ensures value { OnOk result (work self.new ≡ value_placed name (work self.old)) }
+        ensures finding { IfOk result (λ f. f ≡ value_finding name (work self.old)) }
+    {
+        match self.word_text(self.takes_words(name))? {
+            Some(text) => self.place_text(name, &text),
+            None => self.place_expression(name),
+        }
+    }
+
+    /// A value of a property: its first, with the property's name before it, or a further one.
+    pub(crate) fn value_of_body(&mut self, files: &Stack, place: Place) -> Result<(), AllocError>
+        ensures { OnOk result (work self.new ≡ value_read files.now.names place (work self.old)) }
+    {
+        let first = self.unit.first_place(place);
+        let name = name_place(self.unit.outer);
+        let found = self.place_value(name)?;
+        self.tell_entry(files, first, found)
+    }
+
+    // Routines
+
+    /// The next routine, as a value.
+    fn next_routine(&self) -> Value
+        ensures { result ≡ next_routine (work self.now) }
+    {
+        Value::Later(Target::Place(AreaName::Code, self.output.code.next_place()))
+    }
+
+    /// The next routine goes where it is to go, unless something is wrong with it.
+    fn place_routine(&mut self, name: Option<usize>, is_lost: bool) -> Result<(), AllocError>
+        ensures { OnOk result (work self.new ≡ routine_placed name is_lost (work self.old)) }
+    {
+        let routine = self.next_routine();
+        self.placed(name, routine, wrong_if(is_lost))?;
+        Ok(())
+    }
+
+    /// Opens the code of a routine that is a value.
+    fn open_embedded(
+        &mut self,
+        files: &Stack,
+        first: Place,
+        headed: Headed<'_>,
+        is_lost: bool,
+    ) -> Result<(), AllocError>
+        ensures { OnOk result (work self.new
+            ≡ embedded_opened files.now.names first (as_headed headed.entry) is_lost (work self.old)) }
+    {
+        self.is_embedded = true;
+        self.is_passed_over = false;
+        self.open_code(files, first, headed, is_lost)
+    }
+
+    /// A routine goes where it is to go as a value, unless something is wrong with it, and its code opens.
+    fn begin_embedded(
+        &mut self,
+        files: &Stack,
+        first: Place,
+        name: Option<usize>,
+        headed: Headed<'_>,
+        is_lost: bool,
+    ) -> Result<(), AllocError>
+        ensures { OnOk result (work self.new
+            ≡ embedded_begun files.now.names first name (as_headed headed.entry) is_lost (work self.old)) }
+    {
+        self.place_routine(name, is_lost)?;
+        self.open_embedded(files, first, headed, is_lost)
+    }
+
+    /// What is wrong with where a routine goes as a value.
+    fn embedding_finding(&self, name: Option<usize>) -> Option<Finding>
+        ensures { result ≡ place_finding name (next_routine (work self.now)) (work self.now) }
+    {
+        self.place_finding(name, self.next_routine())
+    }
+
+    /// A routine that is a value, with these locals.
+    fn embed(
+        &mut self,
+        files: &Stack,
+        first: Place,
+        name: Option<usize>,
+        headed: Headed<'_>,
+    ) -> Result<(), AllocError>
+        ensures { OnOk result (work self.new ≡ embedded files.now.names first name (as_headed headed.entry) (work self.old)) }
+    {
+        let own = self.embedding_finding(name);
+        let blame = embedded_blame(&self.unit.tokens, files, first, &headed, own);
+        let is_lost = is_told(&blame);
+        self.report.fault(files, first, blame)?;
+        self.begin_embedded(files, first, name, headed, is_lost)
+    }
+
+    /// The header of a routine that is a value: its first, with the property's name before its bracket, or a further one.
+    pub(crate) fn routine_of_body(&mut self, files: &Stack, place: Place) -> Result<(), AllocError>
+        ensures { OnOk result (work self.new ≡ embedded_read files.now.names place (work self.old)) }
+    {
+        let first = self.unit.first_place(place);
+        let name = place_before(bracket_in(&self.unit.tokens));
+        let locals = self
+            .unit
+            .tokens
+            .names_behind(self.alloc, Mark::OpenBracket)?;
+        self.embed(files, first, name, headed_of(locals.as_slice()))
+    }
+}
