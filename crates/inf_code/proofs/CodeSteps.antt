@@ -1,6 +1,6 @@
 -- Code, step by step: its finished routines stay while one is open, and this one stands behind them when it is closed.
-use Rattle.std.specs.Prelude.{Result, Ok, Err, OnOk, OnErr, ◌≤◌, Bool}
-use Rattle.std.proofs.Common.{◌≡◌, ℕ, ◌+◌, ◌-◌, List, [], ◌∷◌, ◌++◌, length, take, drop, Option, Some, None, refl, sym, ◌∙◌, ap, subst, arith, append_assoc, length-append, length-take}
+use Rattle.std.specs.Prelude.{Result, Ok, Err, OnOk, OnErr, ◌≤◌}
+use Rattle.std.proofs.Common.{◌≡◌, ℕ, ◌+◌, List, [], ◌∷◌, ◌++◌, length, take, drop, Option, Some, None, refl, sym, ◌∙◌, ap, subst, arith, append_assoc, length-append, length-take}
 use Rattle.std.proofs.lemmas.List.{take_at, take-take, take_all, length-take-le, length-drop, drop-append-le}
 use Rattle.inf_area.specs.Fixups.{Fixups}
 use Rattle.inf_cells.specs.declared.scale.Scale.{Scale}
@@ -8,12 +8,12 @@ use Rattle.inf_opcode.specs.Cells.{long_bytes}
 use Rattle.inf_assembler.specs.declared.routines.Closed.{Closed}
 use Rattle.inf_assembler.specs.declared.routines.RoutineKind.{RoutineKind}
 use Rattle.inf_assembler.specs.Routines.{State, Contents, Stands, IsOpen, Holds, Closes, contents_of, fresh, closing, routine_fixups, body_bytes}
-use Rattle.inf_code.specs.Code.{IsCode, StandsFor, cells_from, first_routine, most, padded, place_behind, routine_cells, source_bytes, source_cells, whole_bytes, routine_limits, zeros_behind}
+use Rattle.inf_code.specs.Code.{IsCode, StandsFor, cells_from, first_routine, padded, place_behind, routine_cells, source_bytes, source_cells, whole_bytes, routine_bounds, zeros_behind}
 use Rattle.inf_code.specs.declared.code.CodeLimits.{CodeLimits}
 use Rattle.inf_code.proofs.CodeLemmas.{itself, size-stands_for, stands_for-closed}
 
 -- the bytes of the finished routines
-module _ (limits : CodeLimits) (finished : ℕ) (refs : Fixups) (bytes : List ℕ) (is_lost : Bool) (routine : Option State) (is : IsCode limits finished refs bytes is_lost routine) where
+module _ (limits : CodeLimits) (finished : ℕ) (refs : Fixups) (bytes : List ℕ) (routine : Option State) (is : IsCode limits finished refs bytes routine) where
   pub length_finished : length (take finished bytes) ≡ finished
   length_finished = length-take-le finished bytes is.within
 
@@ -41,8 +41,8 @@ module _ (limits : CodeLimits) (finished : ℕ) (refs : Fixups) (bytes : List �
   pub front_cut : (cut : List ℕ) → cut ≡ take finished bytes → take finished cut ≡ take finished bytes
   front_cut cut e = ap (take finished) e ∙ take-take finished finished bytes (omega arith)
 
-  pub code_cut : (lost : Bool) (cut : List ℕ) → cut ≡ take finished bytes → IsCode limits finished refs cut lost None
-  code_cut lost cut e =
+  pub code_cut : (cut : List ℕ) → cut ≡ take finished bytes → IsCode limits finished refs cut None
+  code_cut cut e =
       let same = front_cut cut e in
       record { within = within_along cut same; front = front_along cut same; stands = stands_along cut same; limit = is.limit; few = is.few; behind = tt }
 
@@ -55,8 +55,8 @@ module _ (limits : CodeLimits) (finished : ℕ) (refs : Fixups) (bytes : List �
     pub front_opened : take finished new ≡ take finished bytes
     front_opened = front_longer new _ (stands.bytes ∙ ap (λ xs. xs ++ locals ∷ long_bytes []) at)
 
-    pub code_opened : (lost : Bool) → IsOpen opened new → opened.limits ≡ routine_limits (most lost limits) → IsCode limits finished refs new lost (Some opened)
-    code_opened lost open_now same =
+    pub code_opened : IsOpen opened new → opened.limits ≡ routine_bounds → IsCode limits finished refs new (Some opened)
+    code_opened open_now same =
         let start : opened.start ≡ finished = stands.start ∙ ap length at ∙ length_finished in
         record {
           within = within_along new front_opened;
@@ -68,31 +68,31 @@ module _ (limits : CodeLimits) (finished : ℕ) (refs : Fixups) (bytes : List �
         }
 
 -- the open routine has grown
-module _ (limits : CodeLimits) (finished : ℕ) (refs : Fixups) (bytes new : List ℕ) (is_lost : Bool) (routine longer : State) (contents : Contents) (is : IsCode limits finished refs bytes is_lost (Some routine))
+module _ (limits : CodeLimits) (finished : ℕ) (refs : Fixups) (bytes new : List ℕ) (routine longer : State) (contents : Contents) (is : IsCode limits finished refs bytes (Some routine))
     (holds : Holds contents routine bytes longer new) where
   pub front_emitted : take finished new ≡ take finished bytes
   front_emitted = subst (λ n. take n new ≡ take n bytes) is.behind.start holds.front
 
-  pub code_emitted : IsCode limits finished refs new is_lost (Some longer)
+  pub code_emitted : IsCode limits finished refs new (Some longer)
   code_emitted = record {
-    within = within_along limits finished refs bytes is_lost (Some routine) is new front_emitted;
-    front = front_along limits finished refs bytes is_lost (Some routine) is new front_emitted;
-    stands = stands_along limits finished refs bytes is_lost (Some routine) is new front_emitted;
+    within = within_along limits finished refs bytes (Some routine) is new front_emitted;
+    front = front_along limits finished refs bytes (Some routine) is new front_emitted;
+    stands = stands_along limits finished refs bytes (Some routine) is new front_emitted;
     limit = is.limit;
     few = is.few;
     behind = record { start = holds.start ∙ is.behind.start; open_still = holds.open_still; limits = holds.limits ∙ is.behind.limits };
   }
 
 -- or it is refused
-pub code_or_same : {T E : Type 0} (limits : CodeLimits) (finished : ℕ) (refs : Fixups) (bytes new : List ℕ) (is_lost : Bool) (routine longer : State) (contents : Contents) → IsCode limits finished refs bytes is_lost (Some routine)
-    → (r : Result T E) → OnOk r (Holds contents routine bytes longer new) → OnErr r ((longer ≡ routine) × (new ≡ bytes)) → IsCode limits finished refs new is_lost (Some longer)
-code_or_same limits finished refs bytes new is_lost routine longer contents is (Ok x) holds same =
-    code_emitted limits finished refs bytes new is_lost routine longer contents is holds
-code_or_same limits finished refs bytes new is_lost routine longer contents is (Err e) holds same =
-    subst (λ xs. IsCode limits finished refs xs is_lost (Some longer)) (sym same.1) (subst (λ r. IsCode limits finished refs bytes is_lost (Some r)) (sym same.0) is)
+pub code_or_same : {T E : Type 0} (limits : CodeLimits) (finished : ℕ) (refs : Fixups) (bytes new : List ℕ) (routine longer : State) (contents : Contents) → IsCode limits finished refs bytes (Some routine)
+    → (r : Result T E) → OnOk r (Holds contents routine bytes longer new) → OnErr r ((longer ≡ routine) × (new ≡ bytes)) → IsCode limits finished refs new (Some longer)
+code_or_same limits finished refs bytes new routine longer contents is (Ok x) holds same =
+    code_emitted limits finished refs bytes new routine longer contents is holds
+code_or_same limits finished refs bytes new routine longer contents is (Err e) holds same =
+    subst (λ xs. IsCode limits finished refs xs (Some longer)) (sym same.1) (subst (λ r. IsCode limits finished refs bytes (Some r)) (sym same.0) is)
 
 -- the open routine is closed, and filled up
-module _ (scale : Scale) (kind : RoutineKind) (limits : CodeLimits) (finished : ℕ) (refs listed : Fixups) (bytes written whole : List ℕ) (routine : State) (closed : Closed) (is_lost : Bool) (is : IsCode limits finished refs bytes is_lost (Some routine))
+module _ (scale : Scale) (kind : RoutineKind) (limits : CodeLimits) (finished : ℕ) (refs listed : Fixups) (bytes written whole : List ℕ) (routine : State) (closed : Closed) (is : IsCode limits finished refs bytes (Some routine))
     (closes : Closes kind routine.start (contents_of routine bytes) bytes refs closed written listed) where
   abbrev contents : Contents
   contents = contents_of routine bytes
@@ -103,10 +103,10 @@ module _ (scale : Scale) (kind : RoutineKind) (limits : CodeLimits) (finished : 
       ∙ append_assoc (take finished bytes) (contents.locals ∷ closes.body) (closing kind contents)
 
   pub front_closed : take finished written ≡ take finished bytes
-  front_closed = front_longer limits finished refs bytes is_lost (Some routine) is written _ written_is
+  front_closed = front_longer limits finished refs bytes (Some routine) is written _ written_is
 
   long_enough : 8 ≤ length written
-  long_enough = omega (arith, first_within limits finished refs bytes is_lost (Some routine) is, within_along limits finished refs bytes is_lost (Some routine) is written front_closed)
+  long_enough = omega (arith, first_within limits finished refs bytes (Some routine) is, within_along limits finished refs bytes (Some routine) is written front_closed)
 
   pub code_closed : whole ≡ written ++ zeros_behind scale closed.len
       → StandsFor 8 listed.list (drop 8 whole) (source_cells finished refs bytes ++ padded scale (routine_cells finished kind (contents_of routine bytes)))
@@ -114,7 +114,7 @@ module _ (scale : Scale) (kind : RoutineKind) (limits : CodeLimits) (finished : 
       let start = is.behind.start in
       let body = closes.body in
       let eight : 8 ≤ length (take finished bytes) =
-      omega (arith, first_within limits finished refs bytes is_lost (Some routine) is, length_finished limits finished refs bytes is_lost (Some routine) is) in
+      omega (arith, first_within limits finished refs bytes (Some routine) is, length_finished limits finished refs bytes (Some routine) is) in
       let body_is : body_bytes finished contents ≡ Some body = ap (λ n. body_bytes n contents) (sym start) ∙ closes.is in
       let listed_is : listed.list ≡ refs.list ++ routine_fixups finished contents = ap (λ (h : Fixups). h.list) closes.fixups ∙ ap (λ n. refs.list ++ routine_fixups n contents) start in
       let source_is : drop 8 written ≡ source_bytes finished bytes ++ contents.locals ∷ body ++ closing kind contents =
@@ -125,14 +125,14 @@ module _ (scale : Scale) (kind : RoutineKind) (limits : CodeLimits) (finished : 
       let count : closed.len ≡ length (whole_bytes kind contents body) =
       omega (arith, closes.len, length-append (contents.locals ∷ body) (closing kind contents)) in
       stands_for-closed scale kind contents body 8 refs.list listed.list (source_bytes finished bytes) (drop 8 written) (drop 8 whole) (source_cells finished refs bytes) finished closed.len
-      (length_source limits finished refs bytes is_lost (Some routine) is) body_is is.stands listed_is source_is count whole_is
+      (length_source limits finished refs bytes (Some routine) is) body_is is.stands listed_is source_is count whole_is
 
   pub finished_closed : whole ≡ written ++ zeros_behind scale closed.len
       → source_cells (length whole) listed whole ≡ source_cells finished refs bytes ++ padded scale (routine_cells (place_behind (source_cells finished refs bytes)) kind (contents_of routine bytes))
   finished_closed filled =
       let before = source_cells finished refs bytes in
       ap (λ xs. cells_from 8 listed.list (drop 8 xs)) (take_all (length whole) whole (omega arith)) ∙ (code_closed filled).are
-      ∙ ap (λ n. before ++ padded scale (routine_cells n kind (contents_of routine bytes))) (sym (size_finished limits finished refs bytes is_lost (Some routine) is))
+      ∙ ap (λ n. before ++ padded scale (routine_cells n kind (contents_of routine bytes))) (sym (size_finished limits finished refs bytes (Some routine) is))
 
   whole_front : whole ≡ written ++ zeros_behind scale closed.len → take 8 (take (length whole) whole) ≡ first_routine
   whole_front filled =
@@ -140,16 +140,16 @@ module _ (scale : Scale) (kind : RoutineKind) (limits : CodeLimits) (finished : 
       let zeros = zeros_behind scale closed.len in
       let longer : whole ≡ take finished bytes ++ (more ++ zeros) = filled ∙ ap (λ xs. xs ++ zeros) written_is ∙ append_assoc (take finished bytes) more zeros in
       ap (take 8) (take_all (length whole) whole (omega arith))
-      ∙ sym (take-take 8 finished whole (first_within limits finished refs bytes is_lost (Some routine) is))
-      ∙ ap (take 8) (front_longer limits finished refs bytes is_lost (Some routine) is whole _ longer) ∙ is.front
+      ∙ sym (take-take 8 finished whole (first_within limits finished refs bytes (Some routine) is))
+      ∙ ap (take 8) (front_longer limits finished refs bytes (Some routine) is whole _ longer) ∙ is.front
 
   whole_stands : whole ≡ written ++ zeros_behind scale closed.len → StandsFor 8 listed.list (source_bytes (length whole) whole) (source_cells (length whole) listed whole)
   whole_stands filled =
       let stands = itself 8 listed.list (drop 8 whole) (source_cells finished refs bytes ++ padded scale (routine_cells finished kind (contents_of routine bytes))) (code_closed filled) in
       subst (λ xs. StandsFor 8 listed.list (drop 8 xs) (cells_from 8 listed.list (drop 8 xs))) (sym (take_all (length whole) whole (omega arith))) stands
 
-  pub code_after : (lost : Bool) → whole ≡ written ++ zeros_behind scale closed.len → length whole ≤ limits.code → IsCode limits (length whole) listed whole lost None
-  code_after lost filled few =
+  pub code_after : whole ≡ written ++ zeros_behind scale closed.len → length whole ≤ limits.code → IsCode limits (length whole) listed whole None
+  code_after filled few =
       record { within = omega arith; front = whole_front filled; stands = whole_stands filled; limit = ap (λ (h : Fixups). h.limit) closes.fixups ∙ is.limit; few = omega (arith, few); behind = tt }
 
   -- so many bytes it has then
@@ -159,23 +159,23 @@ module _ (scale : Scale) (kind : RoutineKind) (limits : CodeLimits) (finished : 
       let all : length (take (length whole) whole) ≡ length whole = ap length (take_all (length whole) whole (omega arith)) in
       omega (arith, size-stands_for 8 listed.list (source_bytes (length whole) whole) (source_cells (length whole) listed whole) (whole_stands filled), length-drop 8 (take (length whole) whole), all, eight)
 
-pub closed_size : (scale : Scale) (kind : RoutineKind) (limits : CodeLimits) (finished : ℕ) (refs listed : Fixups) (bytes written : List ℕ) (routine : State) (closed : Closed) (is_lost : Bool) (is : IsCode limits finished refs bytes is_lost (Some routine))
+pub closed_size : (scale : Scale) (kind : RoutineKind) (limits : CodeLimits) (finished : ℕ) (refs listed : Fixups) (bytes written : List ℕ) (routine : State) (closed : Closed) (is : IsCode limits finished refs bytes (Some routine))
     → Closes kind routine.start (contents_of routine bytes) bytes refs closed written listed
     → place_behind (source_cells finished refs bytes ++ padded scale (routine_cells (place_behind (source_cells finished refs bytes)) kind (contents_of routine bytes))) ≡ length written + length (zeros_behind scale closed.len)
-closed_size scale kind limits finished refs listed bytes written routine closed is_lost is closes =
+closed_size scale kind limits finished refs listed bytes written routine closed is closes =
     let whole = written ++ zeros_behind scale closed.len in
-    ap place_behind (sym (finished_closed scale kind limits finished refs listed bytes written whole routine closed is_lost is closes refl))
-    ∙ size_after scale kind limits finished refs listed bytes written whole routine closed is_lost is closes refl ∙ length-append written (zeros_behind scale closed.len)
+    ap place_behind (sym (finished_closed scale kind limits finished refs listed bytes written whole routine closed is closes refl))
+    ∙ size_after scale kind limits finished refs listed bytes written whole routine closed is closes refl ∙ length-append written (zeros_behind scale closed.len)
 
 -- what stands behind the finished routines is given up
-pub code_lost : (limits : CodeLimits) (finished : ℕ) (refs : Fixups) (bytes new : List ℕ) (is_lost lost : Bool) (routine : State) → IsCode limits finished refs bytes is_lost (Some routine)
-    → take routine.start new ≡ take routine.start bytes → routine.start ≤ length new → (IsCode limits finished refs new lost None) × (take finished new ≡ take finished bytes)
-code_lost limits finished refs bytes new is_lost lost routine is front within =
+pub code_lost : (limits : CodeLimits) (finished : ℕ) (refs : Fixups) (bytes new : List ℕ) (routine : State) → IsCode limits finished refs bytes (Some routine)
+    → take routine.start new ≡ take routine.start bytes → routine.start ≤ length new → (IsCode limits finished refs new None) × (take finished new ≡ take finished bytes)
+code_lost limits finished refs bytes new routine is front within =
     let same : take finished new ≡ take finished bytes = subst (λ n. take n new ≡ take n bytes) is.behind.start front in (
       record {
         within = omega (arith, is.behind.start, within);
-        front = front_along limits finished refs bytes is_lost (Some routine) is new same;
-        stands = stands_along limits finished refs bytes is_lost (Some routine) is new same;
+        front = front_along limits finished refs bytes (Some routine) is new same;
+        stands = stands_along limits finished refs bytes (Some routine) is new same;
         limit = is.limit;
         few = is.few;
         behind = tt;

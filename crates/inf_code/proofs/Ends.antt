@@ -8,20 +8,20 @@ use Rattle.inf_assembler.specs.declared.routines.CloseFault.TheVariants as close
 use Rattle.inf_assembler.specs.declared.routines.RoutineKind.{RoutineKind}
 use Rattle.inf_assembler.specs.declared.routines.Setting.TheVariants as setting
 use Rattle.inf_assembler.specs.Routines.{State, contents_of, fault_of}
-use Rattle.inf_code.specs.Code.{IsCode, IsSpare, fault_behind, first_fault, references_before, most, place_behind, source_cells, zeros_fault}
+use Rattle.inf_code.specs.Code.{IsCode, IsSpare, fault_behind, first_fault, references_before, place_behind, source_cells, zeros_fault}
 use Rattle.inf_code.specs.declared.code.CodeLimits.{CodeLimits}
 use Rattle.inf_code.proofs.Full.{end_is, lists, first_none, first_some, later_some}
 
 -- what is wrong at the end of a routine that is lost or not, by the fields of the code
-module _ (limits : CodeLimits) (has_begun : Bool) (finished : ℕ) (refs spare : Fixups) (bytes : List ℕ) (is_lost : Bool) (routine : State) (kind : RoutineKind) (is : IsCode limits finished refs bytes is_lost (Some routine)) (empty : IsSpare spare) where
+module _ (limits : CodeLimits) (finished : ℕ) (refs spare : Fixups) (bytes : List ℕ) (is_lost : Bool) (routine : State) (kind : RoutineKind) (is : IsCode limits finished refs bytes (Some routine)) (empty : IsSpare spare) where
   abbrev before : List CodeCell
   before = source_cells finished refs bytes
 
   abbrev wrong : Option CloseFault
-  wrong = fault_behind (most is_lost limits) (place_behind before) (references_before is_lost before) (contents_of routine bytes)
+  wrong = fault_behind (place_behind before) (references_before is_lost before) (contents_of routine bytes)
 
   pub is_first : (listed : Fixups) → listed ≡ cond is_lost spare refs → fault_of routine.start kind (contents_of routine bytes) routine.limits listed ≡ wrong
-  is_first listed same = end_is limits finished refs listed bytes is_lost routine is (lists is_lost limits finished refs spare bytes listed is.stands is.limit empty same) kind
+  is_first listed same = end_is limits finished refs listed bytes is_lost routine is (lists is_lost finished refs spare bytes listed is.stands is.limit empty same) kind
 
 -- the first fault is told, or want of memory
 pub told_first : (first later : Option CloseFault) (fault : CloseFault) → (fault ≡ close_fault.Memory) ⊎ (first ≡ Some fault) → (fault ≡ close_fault.Memory) ⊎ (first_fault first later ≡ Some fault)

@@ -1,5 +1,5 @@
 -- The code of a story: finished routines, as bytes and the numbers that are known later, and the routine that is open.
-use Rattle.std.specs.Prelude.{◌≡◌, ℕ, ◌+◌, ◌-◌, ◌≤◌, ◌<◌, ◌^◌, Bool, true, false, nat_lt, if◌then◌else◌, List, [], ◌∷◌, ◌++◌, length, map, take, drop, Option, Some, None}
+use Rattle.std.specs.Prelude.{◌≡◌, ℕ, ◌+◌, ◌-◌, ◌≤◌, ◌<◌, ◌^◌, Bool, true, false, not, ◌&&◌, nat_lt, if◌then◌else◌, List, [], ◌∷◌, ◌++◌, length, map, take, drop, Option, Some, None}
 use Rattle.inf_area.specs.declared.fixups.Fixup.{Fixup}
 use Rattle.inf_area.specs.declared.targets.AreaName.TheVariants as name
 use Rattle.inf_area.specs.declared.targets.Target.{Target}
@@ -106,11 +106,6 @@ no_routines limits scale = record { limits = limits; scale = scale; has_begun = 
 abbrev pub code_cells : Target → List CodeCell → List CodeCell
 code_cells called finished = first_cells called ++ finished
 
--- What is left of the limits for the routines of the source. The first routine has a reference; the addresses of the property tables of the four
--- objects that each story has are four more.
-abbrev pub room : CodeLimits → CodeLimits
-room limits = record limits { refs = limits.refs - 5 }
-
 -- an instruction more in a routine, and in the one that is open
 abbrev pub with_instruction : Parts → Contents → Contents
 with_instruction parts contents = with_cells (instruction_cells parts) (row_of parts.opcode).is_final contents
@@ -157,12 +152,13 @@ references_before is_lost finished = if is_lost then 0 else later_count finished
 abbrev pub references_with : Bool → List CodeCell → Contents → ℕ
 references_with is_lost finished contents = references_before is_lost finished + fixup_count contents.cells
 
--- A lost routine is bounded by its labels alone: no number of the program is above this.
+-- An open routine is bounded by the numbers of the program alone: what a source may have is looked at where a unit is finished.
 abbrev pub unlimited : ℕ
 unlimited = 18446744073709551615
 
-abbrev pub most : Bool → CodeLimits → CodeLimits
-most is_lost limits = if is_lost then record { labels = limits.labels; code = unlimited; refs = unlimited } else limits
+-- the first routine has a reference, and four more stand in tables
+abbrev pub most_references : ℕ
+most_references = 18446744073709551610
 
 -- the first limit that the beginning of code would pass
 abbrev pub full_first : CodeLimits → Option Setting
@@ -192,10 +188,16 @@ code_count routines = (if routines.has_begun then 8 else 0) + size_of routines.f
 abbrev pub reference_count : Routines → ℕ
 reference_count routines = (if routines.has_begun then 5 else 4) + later_count routines.finished
 
--- the first limit that another routine would pass at a place: it begins with the number of its locals, and code begins with it
+-- the first limit that code would pass that begins with another routine, which begins with the number of its locals, unless it is lost
+abbrev pub full_with_locals : Bool → CodeLimits → Option Setting
+full_with_locals is_lost limits = if not is_lost && nat_lt limits.code 9 then Some setting.Code else full_first limits
+
+abbrev pub full_before : Bool → Bool → CodeLimits → Option Setting
+full_before is_lost has_begun limits = if has_begun then None else full_with_locals is_lost limits
+
+-- the first limit that another routine would pass at a place
 abbrev pub full_behind_bytes : CodeLimits → Bool → Bool → ℕ → Option Setting
-full_behind_bytes limits is_lost has_begun place =
-    if nat_lt (most is_lost (room limits)).code (place + 1) then Some setting.Code else full_unless has_begun limits
+full_behind_bytes limits is_lost has_begun place = if nat_lt unlimited (place + 1) then Some setting.Code else full_before is_lost has_begun limits
 
 abbrev pub full_opened : Bool → Routines → Option Setting
 full_opened is_lost routines = full_behind_bytes routines.limits is_lost routines.has_begun (place_behind routines.finished)
@@ -204,51 +206,78 @@ full_opened is_lost routines = full_behind_bytes routines.limits is_lost routine
 abbrev pub with_opened : ℕ → Bool → Routines → Routines
 with_opened locals is_lost routines = record routines { has_begun = true; opened = Some (record { contents = fresh locals; is_lost = is_lost }) }
 
--- The first limit that more cells in the open routine would pass: that of its labels, branches and jumps, of all bytes, and of all references.
-abbrev pub full_cells : Bool → CodeLimits → List CodeCell → List Cell → Contents → Option Setting
-full_cells is_lost limits finished cells contents =
-    if nat_lt limits.labels (label_count contents.cells + label_count cells) then Some setting.Labels else
-    if nat_lt limits.code (bytes_with finished contents + length (long_bytes cells)) then Some setting.Code else
-    if nat_lt limits.refs (references_with is_lost finished contents + fixup_count cells) then Some setting.Refs else None
+-- The first bound that more cells in the open routine would pass: that of its labels, branches and jumps, of all bytes, and of all references.
+abbrev pub full_cells : Bool → List CodeCell → List Cell → Contents → Option Setting
+full_cells is_lost finished cells contents =
+    if nat_lt unlimited (label_count contents.cells + label_count cells) then Some setting.Labels else
+    if nat_lt unlimited (bytes_with finished contents + length (long_bytes cells)) then Some setting.Code else
+    if nat_lt most_references (references_with is_lost finished contents + fixup_count cells) then Some setting.Refs else None
 
-abbrev pub full_behind : CodeLimits → List CodeCell → List Cell → Option Opened → Option Setting
-full_behind limits finished cells None = None
-full_behind limits finished cells (Some o) = full_cells o.is_lost (most o.is_lost limits) finished cells o.contents
+abbrev pub full_behind : List CodeCell → List Cell → Option Opened → Option Setting
+full_behind finished cells None = None
+full_behind finished cells (Some o) = full_cells o.is_lost finished cells o.contents
 
 abbrev pub full_with : Parts → Routines → Option Setting
-full_with parts routines = full_behind (room routines.limits) routines.finished (instruction_cells parts) routines.opened
+full_with parts routines = full_behind routines.finished (instruction_cells parts) routines.opened
 
--- the limit that one more label would pass
-abbrev pub full_marked : CodeLimits → Option Opened → Option Setting
-full_marked limits None = None
-full_marked limits (Some o) = if nat_lt limits.labels (label_count o.contents.cells + 1) then Some setting.Labels else None
+-- the bound that one more label would pass
+abbrev pub full_marked : Option Opened → Option Setting
+full_marked None = None
+full_marked (Some o) = if nat_lt unlimited (label_count o.contents.cells + 1) then Some setting.Labels else None
 
 abbrev pub full_label : Routines → Option Setting
-full_label routines = full_marked (room routines.limits) routines.opened
+full_label routines = full_marked routines.opened
 
--- How much more the open routine may take of each limit; where none is open, what all routines of the source may take.
-abbrev pub left_by : CodeLimits → Bool → List CodeCell → Contents → CodeLimits
-left_by limits is_lost finished contents =
-    record { labels = limits.labels - label_count contents.cells; code = limits.code - bytes_with finished contents; refs = limits.refs - references_with is_lost finished contents }
+-- How many labels, branches and jumps the open routine has.
+abbrev pub labels_of : Option Opened → ℕ
+labels_of None = 0
+labels_of (Some o) = label_count o.contents.cells
 
-abbrev pub left_behind : CodeLimits → List CodeCell → Option Opened → CodeLimits
-left_behind limits finished None = limits
-left_behind limits finished (Some o) = left_by (most o.is_lost limits) o.is_lost finished o.contents
+abbrev pub labels : Routines → ℕ
+labels routines = labels_of routines.opened
 
-abbrev pub left : Routines → CodeLimits
-left routines = left_behind (room routines.limits) routines.finished routines.opened
+-- What is left of a limit of which so much is used, or nothing where that is too much.
+abbrev pub rest : ℕ → ℕ → Option ℕ
+rest limit used = if nat_lt limit used then None else Some (limit - used)
+
+abbrev pub rest_behind : Option ℕ → ℕ → Option ℕ
+rest_behind None used = None
+rest_behind (Some left) used = rest left used
+
+abbrev pub labels_left : Routines → Option ℕ
+labels_left routines = rest routines.limits.labels (labels routines)
+
+-- The bytes of code so far, with those of the open routine, every branch long. One that is lost has none.
+abbrev pub code_with : ℕ → List CodeCell → Option Opened → ℕ
+code_with count finished None = count
+code_with count finished (Some o) = if o.is_lost then count else bytes_with finished o.contents
+
+abbrev pub bytes_of_code : Routines → ℕ
+bytes_of_code routines = code_with (code_count routines) routines.finished routines.opened
+
+-- how many more there may be
+abbrev pub code_left : Routines → Option ℕ
+code_left routines = rest routines.limits.code (bytes_of_code routines)
+
+-- The references of the open routine. One that is lost has none.
+abbrev pub references_open : Option Opened → ℕ
+references_open None = 0
+references_open (Some o) = if o.is_lost then 0 else fixup_count o.contents.cells
+
+abbrev pub references_left : Routines → Option ℕ
+references_left routines = rest_behind (rest routines.limits.refs (reference_count routines)) (references_open routines.opened)
 
 -- What is wrong with a routine behind so many bytes and references: a label that is missing or stands twice, an offset that does not fit, the
--- first limit that it would pass with what returns at its end, or that all references would.
-abbrev pub limit_fault : CodeLimits → ℕ → Contents → ℕ → Option CloseFault
-limit_fault limits references contents len =
-    if is_full contents.is_final limits.code len then Some (close_fault.Full setting.Code) else
-    if nat_lt limits.refs (references + fixup_count contents.cells) then Some (close_fault.Full setting.Refs) else None
+-- first bound that it would pass with what returns at its end, or that all references would.
+abbrev pub limit_fault : ℕ → Contents → ℕ → Option CloseFault
+limit_fault references contents len =
+    if is_full contents.is_final unlimited len then Some (close_fault.Full setting.Code) else
+    if nat_lt most_references (references + fixup_count contents.cells) then Some (close_fault.Full setting.Refs) else None
 
-abbrev pub fault_behind : CodeLimits → ℕ → ℕ → Contents → Option CloseFault
-fault_behind limits start references contents =
+abbrev pub fault_behind : ℕ → ℕ → Contents → Option CloseFault
+fault_behind start references contents =
     missing_fault
-    (twice_fault (body_fault (λ body. limit_fault limits references contents (start + 1 + length body)) (body_bytes start contents)) (twice_behind [] contents.cells))
+    (twice_fault (body_fault (λ body. limit_fault references contents (start + 1 + length body)) (body_bytes start contents)) (twice_behind [] contents.cells))
     (missing (long_places start contents) contents.cells)
 
 -- or the routine with the zeros behind it would pass the limit of bytes
@@ -262,25 +291,25 @@ first_fault (Some fault) later = Some fault
 abbrev pub fault_end : CodeLimits → Scale → RoutineKind → List CodeCell → Option Opened → Option CloseFault
 fault_end limits scale kind finished None = None
 fault_end limits scale kind finished (Some o) =
-    first_fault (fault_behind (most o.is_lost limits) (place_behind finished) (references_before o.is_lost finished) o.contents)
+    first_fault (fault_behind (place_behind finished) (references_before o.is_lost finished) o.contents)
     (zeros_fault o.is_lost limits.code (place_behind (finished ++ padded scale (routine_cells (place_behind finished) kind o.contents))))
 
 abbrev pub fault_closed : RoutineKind → Routines → Option CloseFault
-fault_closed kind routines = fault_end (room routines.limits) routines.scale kind routines.finished routines.opened
+fault_closed kind routines = fault_end routines.limits routines.scale kind routines.finished routines.opened
 
--- the limits of each routine
-abbrev pub routine_limits : CodeLimits → Limits
-routine_limits limits = record { labels = limits.labels; code = limits.code }
+-- the bounds of each routine
+abbrev pub routine_bounds : Limits
+routine_bounds = record { labels = unlimited; code = unlimited }
 
 -- that an open routine stands behind so many bytes, up to the end of the area
-pub record StandsBehind (bound : CodeLimits) (place : ℕ) (bytes : List ℕ) (routine : State) : Type 0 where
+pub record StandsBehind (place : ℕ) (bytes : List ℕ) (routine : State) : Type 0 where
   pub start : routine.start ≡ place
   pub open_still : IsOpen routine bytes
-  pub limits : routine.limits ≡ routine_limits bound
+  pub limits : routine.limits ≡ routine_bounds
 
-abbrev pub IsBehind : CodeLimits → ℕ → List ℕ → Option State → Type 0
-IsBehind limits place bytes None = Unit {0}
-IsBehind limits place bytes (Some routine) = StandsBehind limits place bytes routine
+abbrev pub IsBehind : ℕ → List ℕ → Option State → Type 0
+IsBehind place bytes None = Unit {0}
+IsBehind place bytes (Some routine) = StandsBehind place bytes routine
 
 -- the bytes of the finished routines of the source, by those up to the open one: the first routine stands before them
 abbrev pub source_bytes : ℕ → List ℕ → List ℕ
@@ -289,19 +318,19 @@ source_bytes finished bytes = drop 8 (take finished bytes)
 abbrev pub source_cells : ℕ → Fixups → List ℕ → List CodeCell
 source_cells finished refs bytes = cells_from 8 refs.list (source_bytes finished bytes)
 
--- what code is: finished routines of so many bytes, the first one with them, fixups in them, and an open routine, which is lost or not
-pub record IsCode (limits : CodeLimits) (finished : ℕ) (refs : Fixups) (bytes : List ℕ) (is_lost : Bool) (routine : Option State) : Type 0 where
+-- what code is: finished routines of so many bytes, the first one with them, fixups in them, and an open routine
+pub record IsCode (limits : CodeLimits) (finished : ℕ) (refs : Fixups) (bytes : List ℕ) (routine : Option State) : Type 0 where
   pub within : finished ≤ length bytes
   pub front : take 8 (take finished bytes) ≡ first_routine
   pub stands : StandsFor 8 refs.list (source_bytes finished bytes) (source_cells finished refs bytes)
-  pub limit : refs.limit ≡ limits.refs
+  pub limit : refs.limit ≡ most_references
   pub few : finished - 8 ≤ limits.code - 8
-  pub behind : IsBehind (most is_lost limits) finished bytes routine
+  pub behind : IsBehind finished bytes routine
 
 -- no fixups, and any number of them may come
 abbrev pub IsSpare : Fixups → Type 0
-IsSpare refs = refs ≡ record { list = []; limit = unlimited }
+IsSpare refs = refs ≡ record { list = []; limit = most_references }
 
 -- code that has begun has room for its beginning; limits are numbers of the program
 abbrev pub HasRoom : Bool → CodeLimits → Type 0
-HasRoom has_begun limits = ((limits.code < 2 ^ 64) × (limits.refs < 2 ^ 64)) × (has_begun ≡ true → (8 ≤ limits.code) × (5 ≤ limits.refs))
+HasRoom has_begun limits = (limits.code < 2 ^ 64) × (has_begun ≡ true → 8 ≤ limits.code)

@@ -8,7 +8,7 @@ ghost use Rattle.inf_assembler.specs.declared.routines.Setting.{Setting};
 ghost use Rattle.inf_assembler.specs.declared.routines.Setting.TheVariants as code_setting;
 ghost use Rattle.inf_assembler.specs.declared.routines.CloseFault.TheVariants as close_fault;
 ghost use Rattle.inf_assembler.specs.Routines.{IsOpen, contents_of, refusal};
-ghost use Rattle.inf_code.specs.Code.{IsSpare, begun, code_cells, code_count, fault_behind, fault_closed, reference_count, room, full_begun, full_behind_bytes, full_first, full_label, full_opened, full_with, left, most, place_behind, with_closed, with_item, with_label, with_none_open, with_opened, zeros_behind};
+ghost use Rattle.inf_code.specs.Code.{IsSpare, begun, bytes_of_code, code_cells, code_count, code_left, fault_behind, fault_closed, reference_count, references_left, references_open, full_begun, full_behind_bytes, full_first, full_label, full_opened, full_with, labels, labels_left, place_behind, routine_bounds, with_closed, with_item, with_label, with_none_open, with_opened, zeros_behind};
 
 use inf_area::{AddFault, Area, AreaName, Fixup, PagedArea, Refs, Target};
 use inf_assembler::{CloseFault, GrowFault, Limits, Routine, RoutineKind, Setting};
@@ -32,30 +32,29 @@ const TABLE_REFERENCES: usize = 4;
 /// These, and that of the first routine.
 const FIRST_REFERENCES: usize = TABLE_REFERENCES + 1;
 
+/// An open routine is bounded by the numbers of the program alone.
+const ROUTINE_BOUNDS: Limits = Limits {
+    labels: usize::MAX,
+    code: usize::MAX,
+};
+
+/// The most references that the routines of the source may have.
+const MOST_REFERENCES: usize = usize::MAX - FIRST_REFERENCES;
+
 /// What code may hold.
 #[derive(Clone, Copy, Debug, PartialEq, Eq)]
 pub struct CodeLimits {
-    /// The most labels, branches and jumps of a routine.
+    /// The most labels, branches and jumps of a routine. How many there are is looked at where a unit is finished.
     pub labels: usize,
     /// The most bytes of all routines: the first one, which has 8, the finished ones with the zeros behind them, and the open one with
-    /// every branch long.
+    /// every branch long. The finished ones never have more; how many there are with the open one is looked at where a unit is finished.
     pub code: usize,
-    /// The most references whose numbers are known later: those of the routines, and four in tables.
+    /// The most references whose numbers are known later: those of the routines, and four in tables. How many there are is looked at where a
+    /// unit is finished.
     pub refs: usize,
 }
 
 impl CodeLimits {
-    /// What is left of the limits for the routines of the source.
-    fn room(self) -> CodeLimits
-        ensures { result ≡ room self }
-    {
-        CodeLimits {
-            labels: self.labels,
-            code: self.code,
-            refs: self.refs.saturating_sub(FIRST_REFERENCES),
-        }
-    }
-
     /// The first limit that the beginning of code would pass.
     fn full_first(self) -> Option<Setting>
         ensures { result ≡ full_first self }
@@ -69,29 +68,20 @@ impl CodeLimits {
         }
     }
 
-    /// Those of a routine that is lost or not: a lost one is bounded by its labels alone.
-    fn most(self, is_lost: bool) -> CodeLimits
-        ensures { result ≡ most is_lost self }
-    {
-        if is_lost {
-            CodeLimits {
-                labels: self.labels,
-                code: usize::MAX,
-                refs: usize::MAX,
-            }
-        } else {
-            self
-        }
-    }
-
     /// The first limit that another routine, which is lost or not, would pass at a place.
     fn full_opened(self, is_lost: bool, has_begun: bool, place: usize) -> Option<Setting>
         ensures { result ≡ full_behind_bytes self is_lost has_begun place }
     {
-        if self.room().most(is_lost).code <= place {
+        if place == usize::MAX {
             return Some(Setting::Code);
         }
-        if has_begun { None } else { self.full_first() }
+        if has_begun {
+            return None;
+        }
+        if !is_lost && self.code <= FIRST_ROUTINE_BYTES {
+            return Some(Setting::Code);
+        }
+        self.full_first()
     }
 }
 
@@ -118,13 +108,13 @@ pub struct Code {
 }
 
 impl Model for Code {
-    ghost use Rattle.inf_code.specs.Code.{Routines, HasRoom, IsCode, IsSpare, open_in, room, source_cells};
+    ghost use Rattle.inf_code.specs.Code.{Routines, HasRoom, IsCode, IsSpare, open_in, source_cells};
 
     ghost Value = { Routines };
 
     ghost view = { λ code. record { limits = code.limits; scale = code.scale; has_begun = code.has_begun; finished = source_cells code.finished code.refs code.area; opened = open_in code.area code.is_lost code.routine } };
 
-    ghost invariant = { λ code. IsCode (room code.limits) code.finished code.refs code.area code.is_lost code.routine × (HasRoom code.has_begun code.limits × IsSpare code.spare) };
+    ghost invariant = { λ code. IsCode code.limits code.finished code.refs code.area code.routine × (HasRoom code.has_begun code.limits × IsSpare code.spare) };
 }
 
 impl Code {
@@ -141,11 +131,11 @@ impl Code {
             scale,
             has_begun: false,
             area,
-            refs: Refs::new(alloc, limits.room().refs),
+            refs: Refs::new(alloc, MOST_REFERENCES),
             finished: FIRST_ROUTINE_BYTES,
             routine: None,
             is_lost: false,
-            spare: Refs::new(alloc, usize::MAX),
+            spare: Refs::new(alloc, MOST_REFERENCES),
         })
     }
 
@@ -178,8 +168,7 @@ impl Code {
     /// How many references the story has so far: four in tables, that of the first routine, once code has begun, and those of the
     /// finished routines.
     pub fn references(&self) -> usize
-        ensures value { result ≡ reference_count self.now }
-        ensures few { 4 ≤ self.now.limits.refs → result ≤ self.now.limits.refs }
+        ensures { result ≡ reference_count self.now }
     {
         if self.has_begun {
             FIRST_REFERENCES + self.refs.len()
@@ -188,24 +177,60 @@ impl Code {
         }
     }
 
-    /// How much more the open routine may take of each limit: labels, branches and jumps, bytes with every branch long, and references.
-    /// Where none is open it is what the routines of the source may take in all.
-    pub fn left(&self) -> CodeLimits
-        ensures { result ≡ left self.now }
+    /// How many labels, branches and jumps the open routine has, if there is one.
+    pub fn labels(&self) -> usize
+        ensures { result ≡ labels self.now }
     {
-        let room = self.limits.room();
-        let Some(routine) = &self.routine else {
-            return room;
+        match &self.routine {
+            Some(routine) => routine.labels(),
+            None => 0,
+        }
+    }
+
+    /// How many more labels, branches and jumps the open routine may have; nothing where it has too many.
+    pub fn labels_left(&self) -> Option<usize>
+        ensures { result ≡ labels_left self.now }
+    {
+        self.limits.labels.checked_sub(self.labels())
+    }
+
+    /// How many more bytes there may be, behind those of the finished routines and of the open one with every branch long; nothing where there are
+    /// too many. A routine that is lost has none.
+    pub fn code_left(&self) -> Option<usize>
+        ensures { result ≡ code_left self.now }
+    {
+        self.limits.code.checked_sub(self.bytes())
+    }
+
+    /// How many bytes of code there are so far, with those of the open routine, unless it is lost.
+    fn bytes(&self) -> usize
+        ensures { result ≡ bytes_of_code self.now }
+    {
+        let Some(_) = &self.routine else {
+            return self.count();
         };
-        let most = room.most(self.is_lost);
-        let listed = listed(self.is_lost, &self.spare, &self.refs);
-        CodeLimits {
-            labels: most.labels.saturating_sub(routine.labels()),
-            code: most.code.saturating_sub(self.area.len()),
-            refs: most
-                .refs
-                .saturating_sub(listed.len())
-                .saturating_sub(routine.references()),
+        if self.is_lost {
+            return self.count();
+        }
+        self.area.len()
+    }
+
+    /// How many more references there may be, behind those of the finished routines and of the open one; nothing where there are too many. A
+    /// routine that is lost has none.
+    pub fn references_left(&self) -> Option<usize>
+        ensures { result ≡ references_left self.now }
+    {
+        let left = self.limits.refs.checked_sub(self.references())?;
+        left.checked_sub(self.open_references())
+    }
+
+    /// How many references the open routine has, if there is one that is not lost.
+    fn open_references(&self) -> usize
+        ensures { result ≡ references_open self.now.opened }
+    {
+        match &self.routine {
+            Some(routine) if !self.is_lost => routine.references(),
+            _ => 0,
         }
     }
 
@@ -226,8 +251,8 @@ impl Code {
     /// Opens a routine of so many locals, at most 15. One that is open is given up. Code begins with it, unless it has begun. A routine that is
     /// lost gives no code: only its labels are counted, and what is wrong with them and with offsets is answered at its end.
     ///
-    /// Where it is refused, none is open. It is refused where the number of locals would pass the limit of
-    /// bytes, or the beginning of code a limit, and else only for want of memory.
+    /// Where it is refused, none is open. It is refused where the beginning of code would pass a limit, or the number of locals
+    /// the numbers of the program, and else only for want of memory.
     pub fn open(&mut self, alloc: Global, locals: u8, is_lost: bool) -> Result<(), GrowFault>
         requires { locals ≤ 15 }
         ensures ok { OnOk result (self.new ≡ with_opened locals is_lost self.old) }
@@ -244,12 +269,7 @@ impl Code {
             return Err(GrowFault::Full(setting));
         }
         cut_back(&mut self.area, self.finished);
-        let room = self.limits.room().most(is_lost);
-        let limits = Limits {
-            labels: room.labels,
-            code: room.code,
-        };
-        let routine = Routine::open(alloc, &mut self.area, locals, limits)?;
+        let routine = Routine::open(alloc, &mut self.area, locals, ROUTINE_BOUNDS)?;
         self.routine = Some(routine);
         self.has_begun = true;
         Ok(())
@@ -257,7 +277,7 @@ impl Code {
 
     /// Adds an instruction to the open routine, if there is one.
     ///
-    /// Where it is refused the routine is as it was. It is refused where it would pass a limit, of several the
+    /// Where it is refused the routine is as it was. It is refused where it would pass the numbers of the program, of several the
     /// first of labels, bytes and references, and else only for want of memory.
     pub fn emit(&mut self, instruction: &Instruction<'_>) -> Result<(), GrowFault>
         requires { IsProper (parts_of instruction.now) }
@@ -276,7 +296,7 @@ impl Code {
 
     /// Marks the place of a label in the open routine, if there is one.
     ///
-    /// Where it is refused the routine is as it was. It is refused where it would pass the limit of labels, and else only for want of memory.
+    /// Where it is refused the routine is as it was. It is refused where it would pass the numbers of the program, and else only for want of memory.
     pub fn label(&mut self, label: Label) -> Result<(), GrowFault>
         ensures ok { OnOk result (self.new ≡ record self.old { opened = with_label label self.old.opened }) }
         ensures err { OnErr result (self.new ≡ self.old) }
@@ -293,8 +313,8 @@ impl Code {
     /// zeros to the next packed address; but one that is lost is given up.
     ///
     /// Where it is refused the finished routines are as they were, and the open one is given up. It is refused where a label is missing or
-    /// stands twice, where a branch or jump is too far, where what returns at its end or the zeros behind it would pass the limit of bytes, or
-    /// all references theirs, in this order, and else only for want of memory.
+    /// stands twice, where a branch or jump is too far, where what returns at its end or all references would pass the numbers of the program, or
+    /// all of it with the zeros behind it the limit of bytes, in this order, and else only for want of memory.
     pub fn close(&mut self, kind: RoutineKind) -> Result<(), CloseFault>
         ensures ok { OnOk result (self.new ≡ with_closed kind self.old) }
         ensures err { OnErr result (self.new ≡ with_none_open self.old) }
@@ -360,11 +380,12 @@ fn close_lost(
     kind: RoutineKind,
 ) -> Result<(), CloseFault>
     requires open_still { IsOpen routine area.old }
+    requires bounds { routine.limits ≡ routine_bounds }
     requires none { IsSpare spare.old }
     ensures front { take routine.start area.new ≡ take routine.start area.old }
     ensures within { routine.start ≤ length area.new }
     ensures none { IsSpare spare.new }
-    ensures fault { let wrong = fault_behind (record { labels = routine.limits.labels; code = routine.limits.code; refs = spare.old.limit }) routine.start 0 (contents_of routine area.old) in
+    ensures fault { let wrong = fault_behind routine.start 0 (contents_of routine area.old) in
         MatchResult result (λ _. wrong ≡ None) (λ fault. (fault ≡ close_fault.Memory) ⊎ (wrong ≡ Some fault)) }
 {
     routine.close(area, spare, kind)?;

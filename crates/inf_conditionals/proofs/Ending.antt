@@ -2,7 +2,7 @@
 use Rattle.std.proofs.Common.{◌≡◌, ℕ, List, [], ◌∷◌, Bool, true, false, cond, Option, Some, None, refl, ap}
 use Rattle.inf_scanner.specs.declared.tokens.Place.{Place}
 use Rattle.inf_scanner.specs.declared.tokens.TokenKind.TheVariants as kind
-use Rattle.inf_names.specs.Symbols.{Table}
+use Rattle.inf_output.specs.Output.{Out}
 use Rattle.inf_unit.specs.Tokens.{Spelled}
 use Rattle.inf_conditionals.specs.Condition.{Condition, condition_took}
 use Rattle.inf_conditionals.specs.Judging.{asked, awaited, judged, judged_by, offered_condition, offered_to, unfit, went_on}
@@ -39,34 +39,34 @@ as_unfit : (j : Judged) → j.token ≡ Some handed.Unfit → IsHanded j
 as_unfit j e = record { handed = handed.Unfit; is = e; on = refl }
 
 -- it fits no condition
-to_offered_condition : (wanted q : Bool) (names : Table Place) (bytes : List ℕ) (place : Place) (k : Condition) (p : Pending) (c : Conditions)
-    → IsHanded (offered_condition wanted q names (end_of bytes place) k p c).judged
-to_offered_condition wanted q names bytes place k p c =
+to_offered_condition : (wanted q : Bool) (out : Out) (bytes : List ℕ) (place : Place) (k : Condition) (p : Pending) (c : Conditions)
+    → IsHanded (offered_condition wanted q out (end_of bytes place) k p c).judged
+to_offered_condition wanted q out bytes place k p c =
     let t : Spelled = end_of bytes place in
     let n : Condition = condition_took t k in
-    as_unfit _ (ap (λ (b : Bool). (cond b (went_on wanted q names t n p c) (unfit c)).judged.token) (end_fits_nothing k.stack))
+    as_unfit _ (ap (λ (b : Bool). (cond b (went_on wanted q out t n p c) (unfit c)).judged.token) (end_fits_nothing k.stack))
 
-to_asked : (conditions : List Condition) (wanted q : Bool) (names : Table Place) (bytes : List ℕ) (place : Place) (p : Pending) (c : Conditions)
-    → IsHanded (asked conditions wanted q names (end_of bytes place) p c).judged
-to_asked [] wanted q names bytes place p c = as_unfit _ refl
-to_asked (k ∷ conditions) wanted q names bytes place p c = to_offered_condition wanted q names bytes place k p (record c { conditions = conditions })
+to_asked : (conditions : List Condition) (wanted q : Bool) (out : Out) (bytes : List ℕ) (place : Place) (p : Pending) (c : Conditions)
+    → IsHanded (asked conditions wanted q out (end_of bytes place) p c).judged
+to_asked [] wanted q out bytes place p c = as_unfit _ refl
+to_asked (k ∷ conditions) wanted q out bytes place p c = to_offered_condition wanted q out bytes place k p (record c { conditions = conditions })
 
-to_awaited : (a : Awaits) (q : Bool) (names : Table Place) (bytes : List ℕ) (place : Place) (p : Pending) (c : Conditions) → IsHanded (awaited a q names (end_of bytes place) p c).judged
-to_awaited awaits.Word q names bytes place p c = as_kept _ refl
-to_awaited (awaits.Name b) q names bytes place p c = as_unfit _ refl
-to_awaited (awaits.Condition wanted) q names bytes place p c = to_asked c.conditions wanted q names bytes place p c
-to_awaited (awaits.End e) q names bytes place p c = as_unfit _ refl
+to_awaited : (a : Awaits) (q : Bool) (out : Out) (bytes : List ℕ) (place : Place) (p : Pending) (c : Conditions) → IsHanded (awaited a q out (end_of bytes place) p c).judged
+to_awaited awaits.Word q out bytes place p c = as_kept _ refl
+to_awaited (awaits.Name b) q out bytes place p c = as_unfit _ refl
+to_awaited (awaits.Condition wanted) q out bytes place p c = to_asked c.conditions wanted q out bytes place p c
+to_awaited (awaits.End e) q out bytes place p c = as_unfit _ refl
 
-to_offered : (ps : List Pending) (front q : Bool) (names : Table Place) (bytes : List ℕ) (place : Place) (c : Conditions) → IsHanded (offered_to ps front q names (end_of bytes place) c).judged
-to_offered [] true q names bytes place c = as_kept _ refl
-to_offered [] false q names bytes place c = as_kept _ refl
-to_offered (p ∷ ps) front q names bytes place c = to_awaited p.awaits q names bytes place p (record c { pending = ps })
+to_offered : (ps : List Pending) (front q : Bool) (out : Out) (bytes : List ℕ) (place : Place) (c : Conditions) → IsHanded (offered_to ps front q out (end_of bytes place) c).judged
+to_offered [] true q out bytes place c = as_kept _ refl
+to_offered [] false q out bytes place c = as_kept _ refl
+to_offered (p ∷ ps) front q out bytes place c = to_awaited p.awaits q out bytes place p (record c { pending = ps })
 
-end_by : (side : Option LeftOut) (sign : Option Place) (site : Site) (names : Table Place) (bytes : List ℕ) (place : Place) (c : Conditions)
-    → IsHanded (judged_by side sign site names (end_of bytes place) c).judged
-end_by (Some side) sign site names bytes place c = to_offered c.pending false site.is_quiet names bytes place (record c { left_out = None; sign = None })
-end_by None (Some at) site names bytes place c = as_kept _ refl
-end_by None None site names bytes place c = to_offered c.pending _ site.is_quiet names bytes place c
+end_by : (side : Option LeftOut) (sign : Option Place) (site : Site) (out : Out) (bytes : List ℕ) (place : Place) (c : Conditions)
+    → IsHanded (judged_by side sign site out (end_of bytes place) c).judged
+end_by (Some side) sign site out bytes place c = to_offered c.pending false site.is_quiet out bytes place (record c { left_out = None; sign = None })
+end_by None (Some at) site out bytes place c = as_kept _ refl
+end_by None None site out bytes place c = to_offered c.pending _ site.is_quiet out bytes place c
 
-pub end_is_handed : (site : Site) (names : Table Place) (bytes : List ℕ) (place : Place) (c : Conditions) → IsHanded (judged site names (end_of bytes place) c).judged
-end_is_handed site names bytes place c = end_by c.left_out c.sign site names bytes place c
+pub end_is_handed : (site : Site) (out : Out) (bytes : List ℕ) (place : Place) (c : Conditions) → IsHanded (judged site out (end_of bytes place) c).judged
+end_is_handed site out bytes place c = end_by c.left_out c.sign site out bytes place c

@@ -1,7 +1,6 @@
 -- The condition of a conditional directive. The grammar reads the directive as it reads any other, from its word to its semicolon,
 -- by a machine of its own; at its end the condition is judged as a constant that has to be known.
 use Rattle.std.specs.Prelude.{ℕ, ◌==◌, List, [], ◌∷◌, map, Bool, true, false, not, Option, Some, None}
-use Rattle.inf_scanner.specs.declared.tokens.Place.{Place}
 use Rattle.inf_machine.specs.declared.symbols.Symbol.{Symbol}
 use Rattle.inf_machine.specs.declared.symbols.Symbol.TheVariants.{Rule}
 use Rattle.inf_machine.specs.Machine.{taken as read}
@@ -15,7 +14,7 @@ use Rattle.inf_expressions.specs.Findings.{no_constant}
 use Rattle.inf_expressions.specs.Rooted.{Rooted}
 use Rattle.inf_expressions.specs.Trees.{Tree, Leaf}
 use Rattle.inf_expressions.specs.Units.{judged, trees_of}
-use Rattle.inf_names.specs.Symbols.{Table}
+use Rattle.inf_output.specs.Output.{Out}
 use Rattle.inf_unit.specs.Tokens.{Spelled}
 use Rattle.inf_unit.specs.Units.{Unit, acted, no_unit, taken}
 use Rattle.inf_conditionals.specs.Atoms.{atom_of}
@@ -83,5 +82,5 @@ verdict_with operands k =
     verdict_by (number_of (map tree_in (trees_of Constant 0 operands k.unit.gathering.symbols))) (judged Constant 0 operands k.unit.gathering.symbols)
 
 -- where so many names were declared by the directives before
-abbrev pub verdict_of : ℕ → Table Place → Condition → Verdict
-verdict_of declared names k = verdict_with (operands_of declared names k.unit.tokens k.unit.gathering.leaves) k
+abbrev pub verdict_of : ℕ → Out → Condition → Verdict
+verdict_of declared o k = verdict_with (operands_of declared o k.unit.tokens k.unit.gathering.leaves) k

@@ -1,15 +1,17 @@
 -- What becomes of a token. Between directives a conditional directive stands as any other does, with a `#` before it or not; inside
 -- a directive it has a `#`, and may stand at any token. Its own tokens are not kept; those of a condition are read by the grammar. One
 -- that does not fit is the bad token of the directive around it. In a side that is left out only the words of conditionals are looked at.
-use Rattle.std.specs.Prelude.{ℕ, ◌&&◌, ◌||◌, ◌==◌, List, [], ◌∷◌, Bool, true, false, not, if◌then◌else◌, Option, Some, None, is_none, unwrap_or}
+use Rattle.std.specs.Prelude.{ℕ, max, ◌&&◌, ◌||◌, ◌==◌, List, [], ◌∷◌, Bool, true, false, not, if◌then◌else◌, Option, Some, None, is_none, unwrap_or}
 use Rattle.inf_scanner.specs.declared.tokens.Mark.TheVariants as mark
 use Rattle.inf_scanner.specs.declared.tokens.Place.{Place}
 use Rattle.inf_scanner.specs.declared.tokens.TokenKind.{TokenKind}
 use Rattle.inf_scanner.specs.declared.tokens.TokenKind.TheVariants as kind
 use Rattle.inf_machine.specs.Machine.{fits}
 use Rattle.inf_grammar.specs.Language.{grammar, known}
-use Rattle.inf_names.specs.Symbols.{Table, declared_before}
+use Rattle.inf_names.specs.Symbols.{declared_before}
+use Rattle.inf_output.specs.Output.{Out}
 use Rattle.inf_unit.specs.Tokens.{Spelled, is_end, is_mark}
+use Rattle.inf_unit.specs.Units.{outer_tokens}
 use Rattle.inf_conditionals.specs.declared.condition.Verdict.{Verdict}
 use Rattle.inf_conditionals.specs.declared.judged.Handed.TheVariants as handed
 use Rattle.inf_conditionals.specs.declared.judged.Judged.{Judged}
@@ -23,7 +25,7 @@ use Rattle.inf_conditionals.specs.declared.pending.Pending.{Pending}
 use Rattle.inf_conditionals.specs.declared.words.ConditionalWord.{ConditionalWord}
 use Rattle.inf_conditionals.specs.Atoms.{atom_of}
 use Rattle.inf_conditionals.specs.Condition.{Condition, condition_begun, condition_took, is_whole, verdict_of}
-use Rattle.inf_conditionals.specs.Said.{Said, too_much, wrong_by}
+use Rattle.inf_conditionals.specs.Said.{Said, too_much, told_by}
 use Rattle.inf_conditionals.specs.Words.{awaits_of, word_of}
 use Rattle.inf_conditionals.specs.Open.{Conditions, closed, ended_by, ends_at, is_none_open, is_second, latest, levels_behind, opened, turned}
 
@@ -113,12 +115,12 @@ behind_front (Some word) t p c = begun word t p.place p.is_inner c
 
 -- whether the first side is kept, which is so where the name of these bytes was declared by the directives before the one at hand,
 -- or where it was not
-abbrev pub is_kept : Bool → Table Place → ℕ → List ℕ → Bool
-is_kept if_declared names declared bytes = if if_declared then declared_before bytes declared names else not (declared_before bytes declared names)
+abbrev pub is_kept : Bool → Out → ℕ → List ℕ → Bool
+is_kept if_declared o declared bytes = if if_declared then declared_before bytes declared o.names else not (declared_before bytes declared o.names)
 
-abbrev pub named : TokenKind → List ℕ → Bool → Table Place → Pending → Conditions → Behind
-named kind.Name bytes if_declared names p c = passed (awaiting p.place p.is_inner (awaits.End (effect.Opens (is_kept if_declared names c.declared bytes))) c)
-named _ bytes if_declared names p c = unfit c
+abbrev pub named : TokenKind → List ℕ → Bool → Out → Pending → Conditions → Behind
+named kind.Name bytes if_declared o p c = passed (awaiting p.place p.is_inner (awaits.End (effect.Opens (is_kept if_declared o c.declared bytes))) c)
+named _ bytes if_declared o p c = unfit c
 
 -- A token of a condition
 
@@ -126,33 +128,37 @@ named _ bytes if_declared names p c = unfit c
 abbrev pub saying : Bool → Option Said → Conditions → Conditions
 saying is_quiet said c = record c { said = if is_quiet then None else said }
 
+-- so many tokens its expression has so far
+abbrev pub tokens_counted : Bool → Condition → Conditions → Conditions
+tokens_counted is_quiet k c = record c { most_tokens = if is_quiet then c.most_tokens else max c.most_tokens (outer_tokens k.unit) }
+
 -- the condition is whole, and comes to this
 abbrev pub decided : Verdict → Bool → Bool → Condition → Pending → Conditions → Behind
 decided v wanted is_quiet k p c =
-    effected (effect.Opens (if wanted then v.is_true else not v.is_true)) is_quiet p (saying is_quiet (wrong_by p.place k v.finding) c)
+    effected (effect.Opens (if wanted then v.is_true else not v.is_true)) is_quiet p (saying is_quiet (told_by p.place k v.finding) c)
 
 -- behind a token the directive is whole, or goes on
-abbrev pub went_on : Bool → Bool → Table Place → Spelled → Condition → Pending → Conditions → Behind
-went_on wanted is_quiet names t k p c =
-    if is_whole k then decided (verdict_of c.declared names k) wanted is_quiet k p c
-    else taken (asking p.place p.is_inner wanted k (saying is_quiet (too_much c.longest t k) c))
+abbrev pub went_on : Bool → Bool → Out → Spelled → Condition → Pending → Conditions → Behind
+went_on wanted is_quiet o t k p c =
+    if is_whole k then decided (verdict_of c.declared o k) wanted is_quiet k p c
+    else taken (asking p.place p.is_inner wanted k (saying is_quiet (too_much c.longest t k) (tokens_counted is_quiet k c)))
 
-abbrev pub offered_condition : Bool → Bool → Table Place → Spelled → Condition → Pending → Conditions → Behind
-offered_condition wanted is_quiet names t k p c =
+abbrev pub offered_condition : Bool → Bool → Out → Spelled → Condition → Pending → Conditions → Behind
+offered_condition wanted is_quiet o t k p c =
     if fits grammar known (atom_of t) k.stack
-    then went_on wanted is_quiet names t (condition_took t k) p c else unfit c
+    then went_on wanted is_quiet o t (condition_took t k) p c else unfit c
 
 -- the innermost one is that of the directive
-abbrev pub asked : List Condition → Bool → Bool → Table Place → Spelled → Pending → Conditions → Behind
-asked [] wanted is_quiet names t p c = unfit c
-asked (k ∷ conditions) wanted is_quiet names t p c = offered_condition wanted is_quiet names t k p (record c { conditions = conditions })
+abbrev pub asked : List Condition → Bool → Bool → Out → Spelled → Pending → Conditions → Behind
+asked [] wanted is_quiet o t p c = unfit c
+asked (k ∷ conditions) wanted is_quiet o t p c = offered_condition wanted is_quiet o t k p (record c { conditions = conditions })
 
 -- a token comes to a directive that waits so; the conditions are those without it
-abbrev pub awaited : Awaits → Bool → Table Place → Spelled → Pending → Conditions → Behind
-awaited awaits.Word is_quiet names t p c = behind_front (word_of t) t p c
-awaited (awaits.Name if_declared) is_quiet names t p c = named t.kind t.bytes if_declared names p c
-awaited (awaits.Condition wanted) is_quiet names t p c = asked c.conditions wanted is_quiet names t p c
-awaited (awaits.End e) is_quiet names t p c = if is_mark mark.Semicolon t.kind then effected e is_quiet p c else unfit c
+abbrev pub awaited : Awaits → Bool → Out → Spelled → Pending → Conditions → Behind
+awaited awaits.Word is_quiet o t p c = behind_front (word_of t) t p c
+awaited (awaits.Name if_declared) is_quiet o t p c = named t.kind t.bytes if_declared o p c
+awaited (awaits.Condition wanted) is_quiet o t p c = asked c.conditions wanted is_quiet o t p c
+awaited (awaits.End e) is_quiet o t p c = if is_mark mark.Semicolon t.kind then effected e is_quiet p c else unfit c
 
 -- A token of a kept side
 
@@ -167,13 +173,13 @@ at_front None t c = kept c
 at_front (Some word) t c = begun word t t.place false c
 
 -- a token where no side is left out and no `#` is held back, at the front of a piece or not
-abbrev pub offered_to : List Pending → Bool → Bool → Table Place → Spelled → Conditions → Behind
-offered_to [] is_front is_quiet names t c = if is_front then at_front (word_of t) t c else kept c
-offered_to (p ∷ pending) is_front is_quiet names t c = awaited p.awaits is_quiet names t p (record c { pending = pending })
+abbrev pub offered_to : List Pending → Bool → Bool → Out → Spelled → Conditions → Behind
+offered_to [] is_front is_quiet o t c = if is_front then at_front (word_of t) t c else kept c
+offered_to (p ∷ pending) is_front is_quiet o t c = awaited p.awaits is_quiet o t p (record c { pending = pending })
 
-abbrev pub offered : Bool → Bool → Table Place → Spelled → Conditions → Behind
-offered is_front is_quiet names t c =
-    if is_mark mark.Hash t.kind then passed (held is_front t.place c) else offered_to c.pending is_front is_quiet names t c
+abbrev pub offered : Bool → Bool → Out → Spelled → Conditions → Behind
+offered is_front is_quiet o t c =
+    if is_mark mark.Hash t.kind then passed (held is_front t.place c) else offered_to c.pending is_front is_quiet o t c
 
 abbrev pub is_none_pending : List Pending → Bool
 is_none_pending [] = true
@@ -181,10 +187,10 @@ is_none_pending (p ∷ pending) = false
 
 -- A token behind a `#` that was held back inside a directive. Where it is no word of a conditional the `#` is kept, or does not
 -- fit the conditional directive in which it stands.
-abbrev pub behind_sign : Option ConditionalWord → Place → Bool → Table Place → Spelled → Conditions → Behind
-behind_sign (Some word) place is_quiet names t c = begun word t place true (record c { sign = None })
-behind_sign None place is_quiet names t c =
-    let b = offered false is_quiet names t (given_up (record c { sign = None })) in
+abbrev pub behind_sign : Option ConditionalWord → Place → Bool → Out → Spelled → Conditions → Behind
+behind_sign (Some word) place is_quiet o t c = begun word t place true (record c { sign = None })
+behind_sign None place is_quiet o t c =
+    let b = offered false is_quiet o t (given_up (record c { sign = None })) in
     record b { judged = record b.judged { sign = Some (record { place = place; handed = if is_none_pending c.pending then handed.Kept else handed.Unfit }) } }
 
 -- A token of a side that is left out
@@ -201,20 +207,20 @@ passed_by None t side c = record c { sign = if is_mark mark.Hash t.kind then Som
 passed_by (Some word) t side c = word_passed word t.place side c
 
 -- at the end of the file nothing is left out any more
-abbrev pub in_side : Bool → Table Place → Spelled → LeftOut → Conditions → Behind
-in_side is_quiet names t side c =
-    if is_end t.kind then offered false is_quiet names t (record c { left_out = None; sign = None })
+abbrev pub in_side : Bool → Out → Spelled → LeftOut → Conditions → Behind
+in_side is_quiet o t side c =
+    if is_end t.kind then offered false is_quiet o t (record c { left_out = None; sign = None })
     else passed (passed_by (word_of t) t side c)
 
 -- Any token
 
-abbrev pub judged_by : Option LeftOut → Option Place → Site → Table Place → Spelled → Conditions → Behind
-judged_by (Some side) sign site names t c = in_side site.is_quiet names t side c
-judged_by None (Some place) site names t c = behind_sign (word_of t) place site.is_quiet names t c
-judged_by None None site names t c = offered (site.is_between && is_none_pending c.pending) site.is_quiet names t c
+abbrev pub judged_by : Option LeftOut → Option Place → Site → Out → Spelled → Conditions → Behind
+judged_by (Some side) sign site o t c = in_side site.is_quiet o t side c
+judged_by None (Some place) site o t c = behind_sign (word_of t) place site.is_quiet o t c
+judged_by None None site o t c = offered (site.is_between && is_none_pending c.pending) site.is_quiet o t c
 
-abbrev pub judged : Site → Table Place → Spelled → Conditions → Behind
-judged site names t c = judged_by c.left_out c.sign site names t c
+abbrev pub judged : Site → Out → Spelled → Conditions → Behind
+judged site o t c = judged_by c.left_out c.sign site o t c
 
 -- Where a part of the reading may end
 

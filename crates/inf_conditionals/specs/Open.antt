@@ -15,7 +15,8 @@ use Rattle.inf_conditionals.specs.declared.words.ConditionalWord.TheVariants as 
 -- The conditionals of the innermost file that were opened between its directives, and those that were opened inside the directive
 -- at hand, the latest first; those of the files that wait, the inner files first; the conditional directives that are being read,
 -- the inner ones first, and the conditions of those that have one; the side that is left out, if one is; a `#` that is held back; how
--- many names were declared before the directive at hand; how many tokens a condition may have; and what is to be told of one.
+-- many names were declared before the directive at hand; how many tokens a condition may have, and how many one
+-- had; and what is to be told of one.
 pub record Conditions : Type 0 where
   pub among : List Conditional
   pub inner : List Conditional
@@ -26,6 +27,7 @@ pub record Conditions : Type 0 where
   pub sign : Option Place
   pub declared : ℕ
   pub longest : ℕ
+  pub most_tokens : ℕ
   pub said : Option Said
 
 abbrev pub no_conditions : Settings → Conditions
@@ -39,6 +41,7 @@ no_conditions settings = record {
   sign = None;
   declared = 0;
   longest = setting_number ExpressionNodes settings;
+  most_tokens = 0;
   said = None;
 }
 

@@ -1,5 +1,5 @@
 -- What the names of a condition stand for: those that were declared by the directives before the one in which it stands.
-use Rattle.std.specs.Prelude.{ℕ, List, [], ◌∷◌, ◌++◌, if◌then◌else◌, Option, Some, None}
+use Rattle.std.specs.Prelude.{ℕ, List, [], ◌∷◌, ◌++◌, false, if◌then◌else◌, Option, Some, None}
 use Rattle.inf_area.specs.declared.targets.Target.TheVariants as target
 use Rattle.inf_scanner.specs.declared.tokens.Place.{Place}
 use Rattle.inf_expressions.specs.declared.operators.Function.{Function}
@@ -8,7 +8,10 @@ use Rattle.inf_expressions.specs.declared.operators.Operand.{Operand}
 use Rattle.inf_expressions.specs.declared.operators.Operand.TheVariants as operand
 use Rattle.inf_gathering.specs.declared.gathering.Leaf.{Leaf}
 use Rattle.inf_gathering.specs.declared.gathering.Leaf.TheVariants as leaf
-use Rattle.inf_names.specs.Symbols.{Table, declared_before, found_in}
+use Rattle.inf_names.specs.Symbols.{Table, declared_before, found_in, no_names}
+use Rattle.inf_output.specs.Actions.{action_of}
+use Rattle.inf_output.specs.Output.{Code, Out}
+use Rattle.inf_statements.specs.Operands.{looked_action}
 use Rattle.inf_names.specs.declared.meanings.Function.{Function as NamedFunction}
 use Rattle.inf_names.specs.declared.meanings.Function.TheVariants as named
 use Rattle.inf_names.specs.declared.meanings.Meaning.{Meaning}
@@ -46,6 +49,7 @@ operand_of (meaning.Word place) = later
 operand_of (meaning.LowString place) = later
 operand_of (meaning.Array place) = later
 operand_of (meaning.Routine place) = later
+operand_of (meaning.PackedAddress place) = later
 
 abbrev pub found_operand : Found Place → Operand
 found_operand (found.System m) = operand_of m
@@ -72,11 +76,29 @@ leaf_operand declared names tokens (leaf.Text at) = later
 leaf_operand declared names tokens (leaf.Action at) = operand.Unknown
 leaf_operand declared names tokens (leaf.System at) = operand.Unknown
 
--- behind others
-abbrev pub operands_from : ℕ → Table Place → List Spelled → List Leaf → List Operand → List Operand
-operands_from declared names tokens [] operands = operands
-operands_from declared names tokens (l ∷ leaves) operands =
-    operands_from declared names tokens leaves (operands ++ leaf_operand declared names tokens l ∷ [])
+-- an action has its number: one that did not appear is the next, behind new ones of its condition
+abbrev pub operand_behind : ℕ → Out → List Spelled → Leaf → Table Place → Table Place × Operand
+operand_behind declared o tokens (leaf.Action at) ahead = looked_action (name_at tokens at) o ahead
+operand_behind declared o tokens l ahead = (ahead, leaf_operand declared o.names tokens l)
 
-abbrev pub operands_of : ℕ → Table Place → List Spelled → List Leaf → List Operand
-operands_of declared names tokens leaves = operands_from declared names tokens leaves []
+-- behind others
+abbrev pub operands_from : ℕ → Out → List Spelled → List Leaf → Table Place → List Operand → List Operand
+operands_from declared o tokens [] ahead operands = operands
+operands_from declared o tokens (l ∷ leaves) ahead operands =
+    let s = operand_behind declared o tokens l ahead in operands_from declared o tokens leaves s.0 (operands ++ s.1 ∷ [])
+
+abbrev pub operands_of : ℕ → Out → List Spelled → List Leaf → List Operand
+operands_of declared o tokens leaves = operands_from declared o tokens leaves (no_names 4294967295 false) []
+
+-- Where nothing is wrong with a condition its actions appear.
+abbrev pub appeared_by : Option Name → Code
+appeared_by None o = o
+appeared_by (Some n) o = (action_of n.bytes n.place o).0
+
+abbrev pub action_added : List Spelled → Leaf → Code
+action_added tokens (leaf.Action at) o = appeared_by (name_at tokens at) o
+action_added tokens _ o = o
+
+abbrev pub actions_added : List Spelled → List Leaf → Code
+actions_added tokens [] o = o
+actions_added tokens (l ∷ leaves) o = actions_added tokens leaves (action_added tokens l o)

@@ -1,5 +1,7 @@
 -- What is told of a condition.
-use Rattle.std.specs.Prelude.{ℕ, ◌==◌, nat_lt, slice_get, ◌&&◌, if◌then◌else◌, Option, Some, None}
+use Rattle.std.specs.Prelude.{ℕ, ◌==◌, List, nat_lt, slice_get, ◌&&◌, if◌then◌else◌, Option, Some, None}
+use Rattle.inf_gathering.specs.declared.gathering.Leaf.{Leaf}
+use Rattle.inf_output.specs.Output.{Code}
 use Rattle.inf_scanner.specs.declared.tokens.Mark.TheVariants as mark
 use Rattle.inf_scanner.specs.declared.tokens.Place.{Place}
 use Rattle.inf_settings.specs.declared.setting.Setting.TheVariants.{ExpressionNodes}
@@ -9,19 +11,27 @@ use Rattle.inf_unit.specs.Messages.{Blame, FileNames, Reported, location, with_e
 use Rattle.inf_unit.specs.Tokens.{Spelled, is_mark, told}
 use Rattle.inf_unit.specs.Units.{long_at}
 use Rattle.inf_conditionals.specs.Condition.{Condition}
+use Rattle.inf_conditionals.specs.Operands.{actions_added}
 
--- An error, of a directive that begins at a place; the first token that it has more than it may have; and a bracket that stands too
--- deep in others.
+-- That nothing is wrong with it: then the actions of its leaves appear. An error, of a directive that begins at a place; the first token that it has more
+-- than it may have; and a bracket that stands too deep in others.
 pub data Said : Type 0 where
+  Right : (tokens : List Spelled) (leaves : List Leaf) → Said
   Wrong : (directive : Place) (blame : Blame) → Said
   Long : (place : Place) → Said
   Deep : (place : Place) → Said
 
 abbrev pub with_said : FileNames → Option Said → Reported → Reported
 with_said files None r = r
+with_said files (Some (Right tokens leaves)) r = r
 with_said files (Some (Wrong directive b)) r = with_error (location files b.place) (location files directive) b.message r
 with_said files (Some (Long place)) r = with_fatal (location files place) (Exceeded ExpressionNodes) r
 with_said files (Some (Deep place)) r = with_fatal (location files place) DeepNesting r
+
+-- what it adds to a story
+abbrev pub with_right : Option Said → Code
+with_right (Some (Right tokens leaves)) o = actions_added tokens leaves o
+with_right _ o = o
 
 -- Errors
 
@@ -40,9 +50,12 @@ blame_of directive k f = blame_at directive f.number (slice_get k.unit.tokens f.
 abbrev pub wrong : Place → Condition → Finding → Said
 wrong directive k f = Wrong directive (blame_of directive k f)
 
-abbrev pub wrong_by : Place → Condition → Option Finding → Option Said
-wrong_by directive k None = None
-wrong_by directive k (Some f) = Some (wrong directive k f)
+abbrev pub right : Condition → Said
+right k = Right k.unit.tokens k.unit.gathering.leaves
+
+abbrev pub told_by : Place → Condition → Option Finding → Option Said
+told_by directive k None = Some (right k)
+told_by directive k (Some f) = Some (wrong directive k f)
 
 -- Sizes
 

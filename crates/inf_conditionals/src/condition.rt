@@ -14,8 +14,7 @@ use crate::operands::operands_of;
 use inf_area::Value;
 use inf_expressions::{Finding, Forest, Wanted, build, constant, judge};
 use inf_grammar::{Action, Machine, PIECE};
-use inf_names::symbols::Symbols;
-use inf_scanner::Place;
+use inf_output::Output;
 use inf_unit::tokens::Spelled;
 use inf_unit::unit::Unit;
 use std::alloc::{AllocError, Global};
@@ -82,18 +81,14 @@ impl Condition {
     }
 
     /// What it comes to, where so many names were declared by the directives before.
-    pub(crate) fn judge(
-        &self,
-        declared: usize,
-        names: &Symbols<Place>,
-    ) -> Result<Verdict, AllocError>
-        ensures { IfOk result (λ v. v ≡ verdict_of declared names.now (condition self.now)) }
+    pub(crate) fn judge(&self, declared: usize, out: &Output) -> Result<Verdict, AllocError>
+        ensures { IfOk result (λ v. v ≡ verdict_of declared out.now (condition self.now)) }
     {
         let symbols = self.unit.gathering.symbols();
         let operands = operands_of(
             self.alloc,
             declared,
-            names,
+            out,
             &self.unit.tokens,
             self.unit.gathering.leaves(),
         )?;

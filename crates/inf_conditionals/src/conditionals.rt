@@ -14,7 +14,7 @@ use crate::said::{Said, too_much};
 use crate::words::{ConditionalWord, ends_side, levels_behind, word_of};
 use inf_expressions::Finding;
 use inf_lexer::Stack;
-use inf_names::symbols::Symbols;
+use inf_output::Output;
 use inf_scanner::{Mark, Place, TokenKind};
 use inf_settings::setting::Setting;
 use inf_settings::settings::Settings;
@@ -44,8 +44,9 @@ pub struct Conditionals {
     sign: Option<Place>,
     /// How many names were declared before the directive at hand.
     declared: usize,
-    /// The most tokens of a condition.
+    /// The most tokens that a condition may have, and that one had so far.
     longest: usize,
+    pub most_tokens: usize,
     /// What there is to tell of a condition.
     said: Option<Said>,
     /// One that was read, whose memory the next one has.
@@ -69,18 +70,19 @@ impl Model for Conditionals {
       sign = c.sign;
       declared = c.declared;
       longest = c.longest;
+      most_tokens = c.most_tokens;
       said = option_map said_of c.said;
     } };
 }
 
 impl Conditionals {
     ghost use Rattle.inf_conditionals.specs.Ends.{file_entered, file_left, file_told, piece_ended, piece_told};
-    ghost use Rattle.inf_conditionals.specs.Judging.{asked, asked_first, asking, awaited, awaiting, begun, behind_front, behind_sign, decided, effected, held, in_side, is_behind_side, is_none_pending, judged, kept, may_part, offered, saying, unfit, word_passed};
-    ghost use Rattle.inf_names.specs.Symbols.{Table};
+    ghost use Rattle.inf_conditionals.specs.Judging.{asked, asked_first, asking, awaited, awaiting, begun, behind_front, behind_sign, decided, effected, held, in_side, is_behind_side, is_none_pending, judged, kept, may_part, offered, saying, tokens_counted, unfit, word_passed};
+    ghost use Rattle.inf_output.specs.Output.{Out};
     ghost use Rattle.inf_conditionals.specs.Condition.{verdict_of};
     ghost use Rattle.inf_conditionals.specs.Meant.{condition as condition_of, said_of};
     ghost use Rattle.inf_conditionals.specs.Open.{closed, is_none_open, is_second, latest, no_conditions, opened, silent, turned};
-    ghost use Rattle.inf_conditionals.specs.Said.{with_said, wrong_by};
+    ghost use Rattle.inf_conditionals.specs.Said.{told_by, with_right, with_said};
 
     /// None. It takes no memory until one is read.
     pub fn new(alloc: Global, settings: &Settings) -> Conditionals
@@ -97,6 +99,7 @@ impl Conditionals {
             sign: None,
             declared: 0,
             longest: settings.of(Setting::ExpressionNodes) as usize,
+            most_tokens: 0,
             said: None,
             spare: None,
         }
@@ -104,7 +107,7 @@ impl Conditionals {
 
     /// Whether it is seen at once that a token is kept and nothing else comes of it, as of most tokens.
     fn keeps(&self, site: Site, token: &Spelled<'_>) -> bool
-        ensures { (names : Table Place) → result ≡ true → judged site names (spelled token.now) self.now ≡ kept self.now }
+        ensures { (o : Out) → result ≡ true → judged site o (spelled token.now) self.now ≡ kept self.now }
     {
         self.left_out.is_none()
             && self.sign.is_none()
@@ -117,35 +120,51 @@ impl Conditionals {
     pub fn take(
         &mut self,
         site: Site,
-        names: &Symbols<Place>,
+        out: &Output,
         token: &Spelled<'_>,
     ) -> Result<Judged, AllocError>
         requires { IsSome (name_of (spelled token.now)) → length token.now.bytes.now ≤ 32 }
-        ensures { IfOk result (λ j. record { now = self.new; judged = j } ≡ judged site names.now (spelled token.now) self.old) }
+        ensures { IfOk result (λ j. record { now = self.new; judged = j } ≡ judged site out.now (spelled token.now) self.old) }
     {
         if self.keeps(site, token) {
             return Ok(KEPT);
         }
         if let Some(side) = self.left_out {
-            return self.take_in_side(side, site.is_quiet, names, token);
+            return self.take_in_side(side, site.is_quiet, out, token);
         }
         if let Some(place) = self.sign {
-            return self.take_behind_sign(place, site.is_quiet, names, token);
+            return self.take_behind_sign(place, site.is_quiet, out, token);
         }
         let is_front = site.is_between && self.pending.is_empty();
-        self.offer(is_front, site.is_quiet, names, token)
+        self.offer(is_front, site.is_quiet, out, token)
     }
 
-    /// Tells what there is to tell of a condition.
-    pub fn tell(&mut self, files: &Stack, report: &mut Messages) -> Result<(), AllocError>
+    /// Tells what there is to tell of a condition. The actions of one with which nothing is wrong appear.
+    pub fn tell(
+        &mut self,
+        files: &Stack,
+        report: &mut Messages,
+        out: &mut Output,
+    ) -> Result<(), AllocError>
         ensures told { OnOk result (report.new ≡ with_said files.now.names self.old.said report.old) }
+        ensures right { OnOk result (out.new ≡ with_right self.old.said out.old) }
         ensures silent { OnOk result (self.new ≡ silent self.old) }
     {
         if let Some(said) = &self.said {
             said.tell(files, report)?;
-            self.said = None;
+            said.add(out)?;
+            self.silence();
         }
         Ok(())
+    }
+
+    /// What there was to tell of a condition was told. The next one has its memory.
+    fn silence(&mut self)
+        ensures { self.new ≡ silent self.old }
+    {
+        if let Some(said) = self.said.take() {
+            self.spare = said.into_condition();
+        }
     }
 
     /// Whether no conditional directive is being read.
@@ -222,16 +241,16 @@ impl Conditionals {
         &mut self,
         side: LeftOut,
         is_quiet: bool,
-        names: &Symbols<Place>,
+        out: &Output,
         token: &Spelled<'_>,
     ) -> Result<Judged, AllocError>
         requires { IsSome (name_of (spelled token.now)) → length token.now.bytes.now ≤ 32 }
-        ensures { IfOk result (λ j. record { now = self.new; judged = j } ≡ in_side is_quiet names.now (spelled token.now) side self.old) }
+        ensures { IfOk result (λ j. record { now = self.new; judged = j } ≡ in_side is_quiet out.now (spelled token.now) side self.old) }
     {
         if is_end(token.kind) {
             self.left_out = None;
             self.sign = None;
-            return self.offer(false, is_quiet, names, token);
+            return self.offer(false, is_quiet, out, token);
         }
         if let Some(word) = word_of(token) {
             self.pass_word(word, token.place, side)?;
@@ -276,12 +295,12 @@ impl Conditionals {
         &mut self,
         place: Place,
         is_quiet: bool,
-        names: &Symbols<Place>,
+        out: &Output,
         token: &Spelled<'_>,
     ) -> Result<Judged, AllocError>
         requires { IsSome (name_of (spelled token.now)) → length token.now.bytes.now ≤ 32 }
         ensures { IfOk result (λ j. record { now = self.new; judged = j } ≡
-            behind_sign (word_of (spelled token.now)) place is_quiet names.now (spelled token.now) self.old) }
+            behind_sign (word_of (spelled token.now)) place is_quiet out.now (spelled token.now) self.old) }
     {
         self.sign = None;
         if let Some(word) = word_of(token) {
@@ -294,7 +313,7 @@ impl Conditionals {
         };
         self.pending.clear();
         self.conditions.clear();
-        let judged = self.offer(false, is_quiet, names, token)?;
+        let judged = self.offer(false, is_quiet, out, token)?;
         Ok(Judged {
             sign: Some(Sign { place, handed }),
             ..judged
@@ -306,18 +325,18 @@ impl Conditionals {
         &mut self,
         is_front: bool,
         is_quiet: bool,
-        names: &Symbols<Place>,
+        out: &Output,
         token: &Spelled<'_>,
     ) -> Result<Judged, AllocError>
         requires { IsSome (name_of (spelled token.now)) → length token.now.bytes.now ≤ 32 }
-        ensures { IfOk result (λ j. record { now = self.new; judged = j } ≡ offered is_front is_quiet names.now (spelled token.now) self.old) }
+        ensures { IfOk result (λ j. record { now = self.new; judged = j } ≡ offered is_front is_quiet out.now (spelled token.now) self.old) }
     {
         if is_mark(token.kind, Mark::Hash) {
             self.hold(is_front, token.place)?;
             return Ok(NONE);
         }
         if let Some(pending) = self.pending.pop() {
-            return self.go_on(pending, is_quiet, names, token);
+            return self.go_on(pending, is_quiet, out, token);
         }
         if is_front {
             if let Some(word) = word_of(token) {
@@ -343,17 +362,17 @@ impl Conditionals {
         &mut self,
         pending: Pending,
         is_quiet: bool,
-        names: &Symbols<Place>,
+        out: &Output,
         token: &Spelled<'_>,
     ) -> Result<Judged, AllocError>
         requires { IsSome (name_of (spelled token.now)) → length token.now.bytes.now ≤ 32 }
         ensures { IfOk result (λ j. record { now = self.new; judged = j } ≡
-            awaited pending.awaits is_quiet names.now (spelled token.now) pending self.old) }
+            awaited pending.awaits is_quiet out.now (spelled token.now) pending self.old) }
     {
         match pending.awaits {
             Awaits::Word => self.name_directive(pending, token),
             Awaits::Name(if_declared) if matches!(token.kind, TokenKind::Name) => {
-                let is_declared = names.declared_before(token.bytes, self.declared);
+                let is_declared = out.names.declared_before(token.bytes, self.declared);
                 let effect = Effect::Opens(is_declared == if_declared);
                 self.wait(pending.place, pending.is_inner, Awaits::End(effect))?;
                 Ok(NONE)
@@ -362,7 +381,7 @@ impl Conditionals {
                 self.carry_out(effect, is_quiet, pending)
             }
             Awaits::Condition(wanted) => {
-                self.go_on_asking(wanted, pending, is_quiet, names, token)
+                self.go_on_asking(wanted, pending, is_quiet, out, token)
             }
             Awaits::Name(_) | Awaits::End(_) => Ok(self.give_up()),
         }
@@ -434,11 +453,11 @@ impl Conditionals {
         wanted: bool,
         directive: Pending,
         is_quiet: bool,
-        names: &Symbols<Place>,
+        out: &Output,
         token: &Spelled<'_>,
     ) -> Result<Judged, AllocError>
         ensures { IfOk result (λ j. record { now = self.new; judged = j } ≡
-            asked self.old.conditions wanted is_quiet names.now (spelled token.now) directive self.old) }
+            asked self.old.conditions wanted is_quiet out.now (spelled token.now) directive self.old) }
     {
         let Some(mut condition) = self.conditions.pop() else {
             return Ok(self.give_up());
@@ -447,11 +466,21 @@ impl Conditionals {
             return Ok(self.give_up());
         }
         if condition.is_whole() {
-            return self.decide(wanted, directive, is_quiet, names, condition);
+            return self.decide(wanted, directive, is_quiet, out, condition);
         }
+        self.count_tokens(is_quiet, &condition);
         self.say(too_much(is_quiet, self.longest, token, &condition));
         self.ask(directive.place, directive.is_inner, wanted, condition)?;
         Ok(TAKEN)
+    }
+
+    /// The tokens of a condition so far are counted, unless it is passed over.
+    fn count_tokens(&mut self, is_quiet: bool, condition: &Condition)
+        ensures { self.new ≡ tokens_counted is_quiet (condition_of condition.now) self.old }
+    {
+        if !is_quiet {
+            self.most_tokens = self.most_tokens.max(condition.unit.outer_tokens());
+        }
     }
 
     /// A conditional directive with a condition is whole.
@@ -460,36 +489,36 @@ impl Conditionals {
         wanted: bool,
         directive: Pending,
         is_quiet: bool,
-        names: &Symbols<Place>,
+        out: &Output,
         condition: Condition,
     ) -> Result<Judged, AllocError>
         ensures { let k = condition_of condition in IfOk result (λ j. record { now = self.new; judged = j } ≡
-            decided (verdict_of self.old.declared names.now k) wanted is_quiet k directive self.old) }
+            decided (verdict_of self.old.declared out.now k) wanted is_quiet k directive self.old) }
     {
-        let verdict = condition.judge(self.declared, names)?;
-        self.refuse(is_quiet, directive.place, condition, verdict.finding);
+        let verdict = condition.judge(self.declared, out)?;
+        self.found(is_quiet, directive.place, condition, verdict.finding);
         let effect = Effect::Opens(verdict.is_true == wanted);
         self.carry_out(effect, is_quiet, directive)
     }
 
-    /// What is wrong with the condition of a directive is to be told, unless nothing is or it is passed over.
-    fn refuse(
+    /// What is wrong with the condition of a directive is to be told, or that nothing is, unless it is passed over.
+    fn found(
         &mut self,
         is_quiet: bool,
         directive: Place,
         condition: Condition,
         finding: Option<Finding>,
     )
-        ensures { self.new ≡ saying is_quiet (wrong_by directive (condition_of condition) finding) self.old }
+        ensures { self.new ≡ saying is_quiet (told_by directive (condition_of condition) finding) self.old }
     {
+        if is_quiet {
+            self.say(None);
+            self.spare = Some(condition);
+            return;
+        }
         match finding {
-            Some(finding) if !is_quiet => {
-                self.say(Some(Said::Wrong(directive, condition, finding)));
-            }
-            _ => {
-                self.say(None);
-                self.spare = Some(condition);
-            }
+            Some(finding) => self.say(Some(Said::Wrong(directive, condition, finding))),
+            None => self.say(Some(Said::Right(condition))),
         }
     }
 

@@ -1,13 +1,15 @@
 //! What the names of a condition stand for.
-ghost use Rattle.std.specs.Prelude.{◌≡◌, ◌≤◌, IfOk, IfSome, length, option_map};
+ghost use Rattle.std.specs.Prelude.{◌≡◌, ◌≤◌, IfOk, IfSome, OnOk, length, option_map};
+ghost use Rattle.inf_statements.specs.Operands.{looked_action, new_action, word_sum};
 ghost use Rattle.inf_unit.specs.NameTokens.{named};
-ghost use Rattle.inf_conditionals.specs.Operands.{bytes_of, found_operand, function_of, leaf_operand, name_operand, operand_of, operands_of};
+ghost use Rattle.inf_conditionals.specs.Operands.{action_added, actions_added, appeared_by, bytes_of, found_operand, function_of, leaf_operand, name_operand, operand_behind, operand_of, operands_of};
 
 use inf_area::Target;
 use inf_expressions::{Function, Operand};
 use inf_gathering::gathering::Leaf;
 use inf_names::meanings::{Function as NamedFunction, Meaning};
 use inf_names::symbols::{Found, Symbols};
+use inf_output::{Output, action_key};
 use inf_scanner::Place;
 use inf_unit::unit_tokens::{NameToken, UnitTokens};
 use std::alloc::{AllocError, Global};
@@ -47,7 +49,8 @@ fn operand_of(meaning: Meaning) -> Operand
         | Meaning::Word(_)
         | Meaning::LowString(_)
         | Meaning::Array(_)
-        | Meaning::Routine(_) => LATER,
+        | Meaning::Routine(_)
+        | Meaning::PackedAddress(_) => LATER,
     }
 }
 
@@ -99,19 +102,112 @@ fn leaf_operand(declared: usize, names: &Symbols<Place>, tokens: &UnitTokens, le
     }
 }
 
+/// The sum of two numbers, modulo 65536.
+fn word_sum(a: usize, b: usize) -> u16
+    ensures { result ≡ word_sum a b }
+{
+    ((a % 65536 + b % 65536) % 65536) as u16
+}
+
+/// The number of an action that did not appear, behind other such ones.
+fn new_action(
+    name: NameToken<'_>,
+    out: &Output,
+    ahead: &mut Symbols<Place>,
+) -> Result<u16, AllocError>
+    requires { length name.bytes.now ≤ 32 }
+    ensures { IfOk result (λ number. (ahead.new, number) ≡ new_action (named name.entry) out.now ahead.old) }
+{
+    let key = action_key(name.bytes);
+    match ahead.refer(key.as_slice(), name.place) {
+        Ok(number) => Ok(word_sum(out.seen.len(), number.unwrap_or(0))),
+        Err(_) => Err(AllocError),
+    }
+}
+
+/// The number of an action, behind others.
+fn action_operand(
+    name: Option<NameToken<'_>>,
+    out: &Output,
+    ahead: &mut Symbols<Place>,
+) -> Result<Operand, AllocError>
+    requires { IfSome name (λ n. length n.bytes.now ≤ 32) }
+    ensures { IfOk result (λ operand. (ahead.new, operand) ≡ looked_action (option_map named name.entry) out.now ahead.old) }
+{
+    let Some(name) = name else {
+        return Ok(Operand::Known(0));
+    };
+    match out.action_number(name.bytes) {
+        Some(number) => Ok(Operand::Known(number)),
+        None => Ok(Operand::Known(new_action(name, out, ahead)?)),
+    }
+}
+
+/// What a leaf stands for of a condition with these tokens, behind other leaves with new actions.
+fn operand_behind(
+    declared: usize,
+    out: &Output,
+    tokens: &UnitTokens,
+    leaf: Leaf,
+    ahead: &mut Symbols<Place>,
+) -> Result<Operand, AllocError>
+    ensures { IfOk result (λ operand. (ahead.new, operand) ≡ operand_behind declared out.now tokens.now leaf ahead.old) }
+{
+    match leaf {
+        Leaf::Action(at) => action_operand(tokens.name_at(at), out, ahead),
+        _ => Ok(leaf_operand(declared, &out.names, tokens, leaf)),
+    }
+}
+
 /// What the leaves stand for of a condition with these tokens.
 pub(crate) fn operands_of(
     alloc: Global,
     declared: usize,
-    names: &Symbols<Place>,
+    out: &Output,
     tokens: &UnitTokens,
     leaves: &[Leaf],
 ) -> Result<Vec<Operand>, AllocError>
-    ensures { IfOk result (λ operands. operands.items ≡ operands_of declared names.now tokens.now leaves.now) }
+    ensures { IfOk result (λ operands. operands.items ≡ operands_of declared out.now tokens.now leaves.now) }
 {
+    let mut ahead = Symbols::new(alloc, u32::MAX, false);
     let mut operands = Vec::with_capacity(alloc, leaves.len())?;
     for leaf in leaves {
-        operands.push(leaf_operand(declared, names, tokens, *leaf))?;
+        operands.push(operand_behind(declared, out, tokens, *leaf, &mut ahead)?)?;
     }
     Ok(operands)
+}
+
+/// An action appears, if there is one.
+fn add_action(name: Option<NameToken<'_>>, out: &mut Output) -> Result<(), AllocError>
+    requires { IfSome name (λ n. length n.bytes.now ≤ 32) }
+    ensures { OnOk result (out.new ≡ appeared_by (option_map named name.entry) out.old) }
+{
+    if let Some(name) = name {
+        out.action(name.bytes, name.place)?;
+    }
+    Ok(())
+}
+
+/// The action that a leaf is of a condition with these tokens appears.
+fn add_leaf(tokens: &UnitTokens, leaf: Leaf, out: &mut Output) -> Result<(), AllocError>
+    ensures { OnOk result (out.new ≡ action_added tokens.now leaf out.old) }
+{
+    match leaf {
+        Leaf::Action(at) => add_action(tokens.name_at(at), out),
+        _ => Ok(()),
+    }
+}
+
+/// The actions among the leaves of a condition with these tokens appear.
+pub(crate) fn add_actions(
+    tokens: &UnitTokens,
+    leaves: &[Leaf],
+    out: &mut Output,
+) -> Result<(), AllocError>
+    ensures { OnOk result (out.new ≡ actions_added tokens.now leaves.now out.old) }
+{
+    for leaf in leaves {
+        add_leaf(tokens, *leaf, out)?;
+    }
+    Ok(())
 }

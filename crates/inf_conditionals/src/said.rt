@@ -4,11 +4,13 @@ ghost use Rattle.inf_report.specs.Meant.{meant, named};
 ghost use Rattle.inf_unit.specs.Blames.{blamed};
 ghost use Rattle.inf_unit.specs.Tokens.{spelled};
 ghost use Rattle.inf_conditionals.specs.Meant.{condition as condition_of, said_of};
-ghost use Rattle.inf_conditionals.specs.Said.{blame_of, message_of, too_deep, too_much, with_said};
+ghost use Rattle.inf_conditionals.specs.Said.{blame_of, message_of, too_deep, too_much, with_right, with_said};
 
 use crate::condition::Condition;
+use crate::operands::add_actions;
 use inf_expressions::{Finding, NOT_CONSTANT, OUT_OF_RANGE, WRONG_KIND};
 use inf_lexer::Stack;
+use inf_output::Output;
 use inf_report::messages::{Message, Told};
 use inf_scanner::{Mark, Place};
 use inf_settings::setting::Setting;
@@ -22,6 +24,8 @@ const MOST_NESTED: u32 = 64;
 /// What there is to tell of a condition.
 #[derive(Drop)]
 pub enum Said {
+    /// That nothing is wrong with it.
+    Right(Condition),
     /// What is wrong with it. Its directive begins at this place.
     Wrong(Place, Condition, Finding),
     /// That it has too many tokens, of which the first stands here.
@@ -36,6 +40,7 @@ impl Said {
         ensures { OnOk result (report.new ≡ with_said files.now.names (Some (said_of self.now)) report.old) }
     {
         match self {
+            Said::Right(_) => Ok(()),
             Said::Wrong(directive, condition, finding) => {
                 let blame = blame_of(*directive, condition, *finding);
                 report.fault(files, *directive, Some(blame))
@@ -45,6 +50,27 @@ impl Said {
                 &Message::Exceeded(Setting::ExpressionNodes),
             ),
             Said::Deep(place) => report.fatal(location(files, *place), &Message::DeepNesting),
+        }
+    }
+
+    /// Adds what one uses with which nothing is wrong: its actions appear.
+    pub(crate) fn add(&self, out: &mut Output) -> Result<(), AllocError>
+        ensures { OnOk result (out.new ≡ with_right (Some (said_of self.now)) out.old) }
+    {
+        match self {
+            Said::Right(condition) => {
+                let unit = &condition.unit;
+                add_actions(&unit.tokens, unit.gathering.leaves(), out)
+            }
+            Said::Wrong(..) | Said::Long(_) | Said::Deep(_) => Ok(()),
+        }
+    }
+
+    /// The condition, whose memory another one may have.
+    pub(crate) fn into_condition(self) -> Option<Condition> {
+        match self {
+            Said::Right(condition) | Said::Wrong(_, condition, _) => Some(condition),
+            Said::Long(_) | Said::Deep(_) => None,
         }
     }
 }

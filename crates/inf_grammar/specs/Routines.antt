@@ -1,5 +1,5 @@
--- Whether a routine is open.
-use Rattle.std.specs.Prelude.{List, [], ◌∷◌, Bool, true, false, ◌||◌}
+-- Whether a routine is open, and which of its statements are over.
+use Rattle.std.specs.Prelude.{ℕ, ◌+◌, List, [], ◌∷◌, Bool, true, false, ◌||◌}
 use Rattle.inf_machine.specs.declared.symbols.Symbol.{Symbol}
 use Rattle.inf_machine.specs.declared.symbols.Symbol.TheVariants.{Token, Rule, Act}
 use Rattle.inf_syntax.specs.declared.actions.Action.{Action}
@@ -15,3 +15,8 @@ is_in_routine [] = false
 is_in_routine (Token class ∷ symbols) = is_in_routine symbols
 is_in_routine (Act a ∷ symbols) = ends_routine a || is_in_routine symbols
 is_in_routine (Rule rule ∷ symbols) = is_in_routine symbols
+
+-- How many compound statements are over, whatever the next token is: their ends come next.
+abbrev pub closings : List (Symbol Action) → ℕ
+closings ((Act action.Close) ∷ symbols) = 1 + closings symbols
+closings _ = 0

@@ -1,7 +1,7 @@
 //! The machine that reads tokens by the grammar of the language.
 ghost use Rattle.std.specs.Prelude.{◌≡◌, [], ◌∷◌, ◌++◌, ◌↔◌, reverse, IsTrue, IfOk, OnOk, OnErr, true, false};
 ghost use Rattle.inf_grammar.specs.Language.{grammar, known};
-ghost use Rattle.inf_grammar.specs.Routines.{is_in_routine};
+ghost use Rattle.inf_grammar.specs.Routines.{closings, is_in_routine};
 ghost use Rattle.inf_machine.specs.Machine.{fits, can_end, taken};
 
 use crate::grammar_table::Language;
@@ -65,6 +65,13 @@ impl Machine {
         is_in_routine(self.machine.symbols())
     }
 
+    /// How many compound statements are over, whatever the next token is.
+    pub fn closings(&self) -> usize
+        ensures { result ≡ closings self.now }
+    {
+        closings(self.machine.symbols())
+    }
+
     /// Gives up what is to be read.
     pub fn clear(&mut self)
         ensures { self.new ≡ [] }
@@ -119,4 +126,18 @@ fn is_in_routine(stack: &[Symbol<Action>]) -> bool
         }
     }
     false
+}
+
+/// How many compound statements are over on a stack, the top last, whatever comes next.
+fn closings(stack: &[Symbol<Action>]) -> usize
+    ensures { result ≡ closings (reverse stack.now) }
+{
+    let mut count = 0;
+    for symbol in stack.iter().rev() {
+        match *symbol {
+            Symbol::Act(Action::Close) => count += 1,
+            _ => return count,
+        }
+    }
+    count
 }

@@ -34,7 +34,7 @@ answered_reading (Include text unit) sources o s = included_reading sources o un
 answered_reading End sources o s = refl
 answered_reading Nothing sources o s = refl
 
-heeded_reading : (sources : Sources) (o : Choices) (s : State) → is_mode_ended s.reading.mode ≡ false → (heeded sources o s).reading ≡ s.reading
+pub heeded_reading : (sources : Sources) (o : Choices) (s : State) → is_mode_ended s.reading.mode ≡ false → (heeded sources o s).reading ≡ s.reading
 heeded_reading sources o s going =
     of_both (λ (x : State). x.reading ≡ s.reading) s.work.report.counts.is_over s
     (cond (is_mode_ended s.reading.mode) (left s) (answered s.work.asked sources o (asked_nothing s)))
@@ -46,7 +46,7 @@ rested_reading s =
     of_both (λ (x : State). x.reading ≡ s.reading) (has_ended s) s (cond (is_resting s) (piece_closed s) s) (λ _. refl)
     (λ _. of_both (λ (x : State). x.reading ≡ s.reading) (is_resting s) (piece_closed s) s (λ _. refl) (λ _. refl))
 
-turn_reading : (sources : Sources) (o : Choices) (s : State) → is_mode_ended (stepped s).reading.mode ≡ false → (turn sources o s).reading ≡ (stepped s).reading
+pub turn_reading : (sources : Sources) (o : Choices) (s : State) → is_mode_ended (stepped s).reading.mode ≡ false → (turn sources o s).reading ≡ (stepped s).reading
 turn_reading sources o s going = rested_reading (heeded sources o (stepped s)) ∙ heeded_reading sources o (stepped s) going
 
 -- By what is handed on
@@ -54,7 +54,7 @@ turn_reading sources o s going = rested_reading (heeded sources o (stepped s)) �
 stepped_reading : (s : State) → (stepped s).reading ≡ all_given_to (given_by s) s.reading
 stepped_reading s =
     let t = token_of s.nesting.cursor in
-    let b = judged (site_of s.reading) s.work.output.names t s.conditions in
+    let b = judged (site_of s.reading) s.work.output t s.conditions in
     tokens_are_handed_on s.nesting.names t b.judged (said_told b.now.said s.nesting.names (stand_of s))
 
 all_reading : (sources : Sources) (o : Choices) (n : ℕ) (s : State) → StayInFile sources o n s

@@ -10,3 +10,7 @@ pub mod Counts
 pub mod MissingEnds
 pub mod KeptTokens
 pub mod KeptTurns
+pub mod LoneEnds
+pub mod InnerSides
+pub mod KeptSides
+pub mod SideTurns

@@ -13,7 +13,7 @@ use Rattle.inf_laws.specs.KeptTokens.{Given, GoesOn, Stands, given_of}
 abbrev pub given_by : State → List Given
 given_by s =
     let t = token_of s.nesting.cursor in
-    let b = judged (site_of s.reading) s.work.output.names t s.conditions in
+    let b = judged (site_of s.reading) s.work.output t s.conditions in
     given_of s.nesting.names b.judged t (said_told b.now.said s.nesting.names (stand_of s))
 
 -- so many turns, and what they hand on

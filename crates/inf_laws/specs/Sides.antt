@@ -1,6 +1,7 @@
 -- Which side of a conditional is left out, and how far it goes.
 use Rattle.std.specs.Prelude.{◌≡◌, ◌≤◌, ◌+◌, ◌-◌, ◌==◌, ◌&&◌, ℕ, List, [], ◌∷◌, length, Bool, true, false, not, if◌then◌else◌, Option, Some, None}
-use Rattle.inf_names.specs.Symbols.{Table, declared_before}
+use Rattle.inf_names.specs.Symbols.{declared_before}
+use Rattle.inf_output.specs.Output.{Out}
 use Rattle.inf_scanner.specs.declared.tokens.Mark.TheVariants as mark
 use Rattle.inf_scanner.specs.declared.tokens.Place.{Place}
 use Rattle.inf_scanner.specs.declared.tokens.TokenKind.TheVariants as kind
@@ -25,16 +26,16 @@ use Rattle.inf_conditionals.specs.Words.{word_of}
 -- What comes to the conditionals of a file: a token at a site, where names are known; and the end of a directive, behind which so many names
 -- are declared.
 pub data Event : Type 0 where
-  Token : (site : Site) (names : Table Place) (token : Spelled) → Event
+  Token : (site : Site) (out : Out) (token : Spelled) → Event
   Piece : (declared : ℕ) → Event
 
 -- the conditionals behind it, and what becomes of it
 abbrev pub behind : Event → Conditions → Conditions
-behind (Token site names t) c = (judged site names t c).now
+behind (Token site out t) c = (judged site out t c).now
 behind (Piece declared) c = piece_ended declared c
 
 abbrev pub became : Event → Conditions → Judged
-became (Token site names t) c = (judged site names t c).judged
+became (Token site out t) c = (judged site out t c).judged
 became (Piece declared) c = none_handed
 
 abbrev pub behind_all : List Event → Conditions → Conditions
@@ -65,13 +66,13 @@ ends_side second level (Some w) = (level == 0) && is_last second w
 -- none of these ends a side that so many levels are open in, nor the file
 abbrev pub StayIn : Bool → ℕ → List Event → Type 0
 StayIn second level [] = Unit {0}
-StayIn second level (Token site names t ∷ events) =
+StayIn second level (Token site out t ∷ events) =
     (is_end t.kind ≡ false) × ((ends_side second level (word_of t) ≡ false) × StayIn second (level_behind (word_of t) level) events)
 StayIn second level (Piece declared ∷ events) = StayIn second level events
 
 abbrev pub level_after : List Event → ℕ → ℕ
 level_after [] level = level
-level_after (Token site names t ∷ events) level = level_after events (level_behind (word_of t) level)
+level_after (Token site out t ∷ events) level = level_after events (level_behind (word_of t) level)
 level_after (Piece declared ∷ events) level = level_after events level
 
 -- all of them are cut out
@@ -100,8 +101,8 @@ pub record EndsSide (c now : Conditions) (j : Judged) : Type 0 where
   pub kept_on : now.left_out ≡ None
 
 abbrev pub SidesEnd : Type 0
-SidesEnd = (site : Site) (names : Table Place) (t : Spelled) (c : Conditions) (side : LeftOut) → c.left_out ≡ Some side → is_end t.kind ≡ false
-    → ends_side (is_second (latest c)) side.levels (word_of t) ≡ true → EndsSide c (judged site names t c).now (judged site names t c).judged
+SidesEnd = (site : Site) (out : Out) (t : Spelled) (c : Conditions) (side : LeftOut) → c.left_out ≡ Some side → is_end t.kind ≡ false
+    → ends_side (is_second (latest c)) side.levels (word_of t) ≡ true → EndsSide c (judged site out t c).now (judged site out t c).judged
 
 -- Which side is left out
 
@@ -113,9 +114,9 @@ pub record IsBetween (site : Site) (c : Conditions) : Type 0 where
   pub no_sign : c.sign ≡ None
 
 -- the three tokens of a directive with a name, at sites, where names are known
-abbrev pub directive : Site → Site → Site → Table Place → Spelled → List ℕ → Place → Spelled → List Event
-directive first second third names w name place end =
-    Token first names w ∷ Token second names (record { kind = kind.Name; bytes = name; place = place }) ∷ Token third names end ∷ []
+abbrev pub directive : Site → Site → Site → Out → Spelled → List ℕ → Place → Spelled → List Event
+directive first second third out w name place end =
+    Token first out w ∷ Token second out (record { kind = kind.Name; bytes = name; place = place }) ∷ Token third out end ∷ []
 
 -- a conditional is open more, from a place on, whose first side is left out or not
 abbrev pub opened_at : Place → Bool → Conditions → Conditions → Type 0
@@ -125,9 +126,9 @@ opened_at place is_kept c now =
 
 -- The first side of `Ifdef` is kept where a directive before this one declared the name, and that of `Ifndef` where none did.
 abbrev pub FirstSides : ConditionalWord → (Bool → Bool) → Type 0
-FirstSides directive_word is_kept = (first second third : Site) (names : Table Place) (w end : Spelled) (name : List ℕ) (place : Place) (c : Conditions)
+FirstSides directive_word is_kept = (first second third : Site) (out : Out) (w end : Spelled) (name : List ℕ) (place : Place) (c : Conditions)
     → IsBetween first c → w.kind ≡ kind.Name → word_of w ≡ Some directive_word → is_mark mark.Semicolon end.kind ≡ true → is_mark mark.Hash end.kind ≡ false
-    → opened_at w.place (is_kept (declared_before name c.declared names)) c (behind_all (directive first second third names w name place end) c)
+    → opened_at w.place (is_kept (declared_before name c.declared out.names)) c (behind_all (directive first second third out w name place end) c)
 
 pub record SidesAgree : Type 0 where
   pub of_ifdef : FirstSides word.Ifdef (λ b. b)
@@ -153,6 +154,6 @@ is_wanted wanted is_true = if wanted then is_true else not is_true
 -- The first side of `Iftrue` is kept where its condition is true, and that of `Iffalse` where it is not, by the names that were declared by the directives
 -- before.
 abbrev pub ValuesDecide : Type 0
-ValuesDecide = (site : Site) (names : Table Place) (t : Spelled) (wanted : Bool) (p : Pending) (k : Condition) (c : Conditions) → IsLastOf t wanted p k c
-    → (judged site names t c).now.left_out
-    ≡ (if is_wanted wanted (verdict_of c.declared names (condition_took t k)).is_true then None else Some (record { is_inner = p.is_inner; levels = 0 }))
+ValuesDecide = (site : Site) (out : Out) (t : Spelled) (wanted : Bool) (p : Pending) (k : Condition) (c : Conditions) → IsLastOf t wanted p k c
+    → (judged site out t c).now.left_out
+    ≡ (if is_wanted wanted (verdict_of c.declared out (condition_took t k)).is_true then None else Some (record { is_inner = p.is_inner; levels = 0 }))

@@ -48,6 +48,8 @@ enum Step {
     Len(usize),
     /// With the first routine there are so many bytes, and so many references.
     Counts(usize, usize),
+    /// So many labels, bytes and references there may be beside the open routine; nothing of a limit that is passed.
+    Leaves(Option<usize>, Option<usize>, Option<usize>),
 }
 
 use Addition::*;
@@ -141,6 +143,10 @@ fn take(rt: &impl Abort, alloc: Global, code: &mut Code, step: &Step, at: (&str,
         Counts(bytes, references) => {
             let counts = (code.count(), code.references());
             expect(rt, &at, &counts, &(*bytes, *references));
+        }
+        Leaves(labels, bytes, references) => {
+            let left = (code.labels_left(), code.code_left(), code.references_left());
+            expect(rt, &at, &left, &(*labels, *bytes, *references));
         }
     }
 }
@@ -305,7 +311,7 @@ fn routines_are_written_out(rt: HostRuntime) -> Result<(), Fail> {
     Ok(())
 }
 
-/// What a case shows, the most bytes and references, and the steps.
+/// What a case shows, the most bytes and references, and the steps. A routine may have three labels.
 const LIMITED: [(&str, usize, usize, &[Step]); 13] = [
     // Its bytes and references are counted for nothing, its labels are counted.
     (
@@ -319,11 +325,14 @@ const LIMITED: [(&str, usize, usize, &[Step]); 13] = [
             Adds(BranchTo(0)),
             Adds(BranchTo(0)),
             Adds(MarkAt(0)),
-            Refuses(MarkAt(1), Setting::Labels),
+            Leaves(Some(0), Some(0), Some(0)),
+            Adds(MarkAt(1)),
+            Leaves(None, Some(0), Some(0)),
             Adds(Close),
             Counts(8, 5),
         ],
     ),
+    // Two branches back are long, the one over nothing is short.
     (
         "labels and branches count together",
         1_000,
@@ -333,11 +342,15 @@ const LIMITED: [(&str, usize, usize, &[Step]); 13] = [
             Adds(BranchTo(0)),
             Adds(MarkAt(0)),
             Adds(BranchTo(0)),
-            Refuses(BranchTo(0), Setting::Labels),
-            Refuses(MarkAt(1), Setting::Labels),
-            Adds(Close),
-            Adds(Open(1)),
+            Leaves(Some(0), Some(983), Some(95)),
             Adds(BranchTo(0)),
+            Leaves(None, Some(979), Some(95)),
+            Adds(Close),
+            Len(16),
+            Adds(Open(1)),
+            Leaves(Some(3), Some(975), Some(95)),
+            Adds(BranchTo(0)),
+            Leaves(Some(2), Some(971), Some(95)),
         ],
     ),
     // The first routine; the number of locals, the five bytes of a call, what returns, and a zero.
@@ -345,7 +358,13 @@ const LIMITED: [(&str, usize, usize, &[Step]); 13] = [
         "a routine takes the last byte",
         16,
         100,
-        &[Adds(Whole(1)), Len(8), Refuses(Open(0), Setting::Code)],
+        &[
+            Adds(Whole(1)),
+            Len(8),
+            Leaves(Some(3), Some(0), Some(94)),
+            Adds(Open(0)),
+            Leaves(Some(3), None, Some(94)),
+        ],
     ),
     // No reference of a refused routine is left.
     (
@@ -369,13 +388,13 @@ const LIMITED: [(&str, usize, usize, &[Step]); 13] = [
         "the first routine takes bytes",
         7,
         4,
-        &[Begins(Some(Setting::Code))],
+        &[Begins(Some(Setting::Code)), Refuses(Open(0), Setting::Code)],
     ),
     (
         "the first routine takes a reference",
-        8,
+        9,
         4,
-        &[Begins(Some(Setting::Refs))],
+        &[Begins(Some(Setting::Refs)), Refuses(Open(0), Setting::Refs)],
     ),
     (
         "the end of a routine takes a byte",
@@ -384,27 +403,33 @@ const LIMITED: [(&str, usize, usize, &[Step]); 13] = [
         &[
             Adds(Open(1)),
             Adds(Call(1)),
+            Leaves(Some(3), Some(0), Some(94)),
             Refuses(Close, Setting::Code),
             Len(0),
         ],
     ),
     (
         "nothing returns behind an instruction that leaves",
-        13,
+        12,
         100,
         &[
             Adds(Open(1)),
-            Refuses(Call(1), Setting::Code),
             Adds(Return(1)),
+            Leaves(Some(3), Some(0), Some(94)),
             Adds(Close),
             Len(4),
         ],
     ),
     (
-        "no routine is opened in no bytes",
+        "the number of locals takes a byte",
         8,
         100,
-        &[Refuses(Open(0), Setting::Code)],
+        &[
+            Refuses(Open(0), Setting::Code),
+            Begins(None),
+            Adds(Open(0)),
+            Leaves(Some(3), None, Some(95)),
+        ],
     ),
     // A routine that is given up does not count.
     (
@@ -415,8 +440,11 @@ const LIMITED: [(&str, usize, usize, &[Step]); 13] = [
             Adds(Whole(1)),
             Adds(Open(1)),
             Adds(Call(1)),
-            Refuses(Quit, Setting::Code),
+            Leaves(Some(3), Some(0), Some(93)),
+            Adds(Quit),
+            Leaves(Some(3), None, Some(93)),
             Adds(Open(0)),
+            Leaves(Some(3), Some(5), Some(94)),
             Adds(Quit),
             Adds(Close),
             Len(12),
@@ -430,21 +458,24 @@ const LIMITED: [(&str, usize, usize, &[Step]); 13] = [
             Adds(Whole(1)),
             Adds(Open(1)),
             Adds(Call(1)),
-            Refuses(Call(1), Setting::Refs),
-            Refuses(Return(1), Setting::Refs),
-            Adds(Quit),
-            Adds(Close),
-            Len(16),
+            Leaves(Some(3), Some(978), Some(0)),
+            Adds(Return(1)),
+            Leaves(Some(3), Some(975), None),
+            GivesUp,
+            Leaves(Some(3), Some(984), Some(1)),
+            Len(8),
         ],
     ),
     (
-        "of two limits that of the bytes comes first",
+        "two limits are passed at once",
         13,
         5,
         &[
             Adds(Open(1)),
-            Refuses(Call(1), Setting::Code),
-            Refuses(Return(1), Setting::Refs),
+            Adds(Call(1)),
+            Leaves(Some(3), None, None),
+            Refuses(Close, Setting::Code),
+            Leaves(Some(3), Some(5), Some(0)),
         ],
     ),
 ];

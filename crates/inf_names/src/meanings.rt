@@ -36,6 +36,8 @@ pub enum Meaning {
     Class(u16),
     Array(usize),
     Routine(usize),
+    /// A constant that is the packed address of a routine, by its place.
+    PackedAddress(usize),
     /// An action that no grammar line names, by its number.
     FakeAction(u16),
     Function(Function),

@@ -108,10 +108,10 @@ stepped_takes : (s : State) → (is_mode_ended (stepped s).reading.mode ≡ true
 stepped_takes s =
     let c = s.nesting.cursor in
     let t = token_of c in
-    let b = judged (site_of s.reading) s.work.output.names t s.conditions in
+    let b = judged (site_of s.reading) s.work.output t s.conditions in
     elim (tokens_take_bytes c.set c.limit c.lines c.rest).one as
     (λ _. (is_mode_ended (stepped s).reading.mode ≡ true) ⊎ (length (stepped s).nesting.cursor.rest < length s.nesting.cursor.rest)) [
-      | inl end ↦ inl (end_ends s.nesting.names t.kind t.bytes t.place s.work.output.names s.conditions (said_told b.now.said s.nesting.names (stand_of s)) (site_of s.reading)
+      | inl end ↦ inl (end_ends s.nesting.names t.kind t.bytes t.place s.work.output s.conditions (said_told b.now.said s.nesting.names (stand_of s)) (site_of s.reading)
           b.now b.judged refl end)
       | inr less ↦ inr less
     ]

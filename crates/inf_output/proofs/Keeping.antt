@@ -29,7 +29,7 @@ use Rattle.inf_verbs.specs.Routines.{action_fault}
 use Rattle.inf_verbs.specs.declared.routines.ActionFault.{ActionFault}
 use Rattle.inf_output.specs.Actions.{action_by, action_of, appeared, fake_number, faked, faked_by, first_seen, key_of, next_fake, numbered_as, numbered_by, one_fake, routine_name, routine_of, routine_used, seen_by}
 use Rattle.inf_output.specs.Strings.{fits}
-use Rattle.inf_output.specs.Output.{Code, Out, apart, behind, begun, begun_by, closed, closed_by, declared, declared_by, fitted, full_item, grown, in_routine, instruction, jumped, laid, laid_all, laid_by, marked, naming, next_label, nothing, opened, opened_by, passed, passed_table, referred, referred_as, referred_by, routine, symbols_passed, together, used, used_by, with_label, with_routine, with_text, with_text_by, with_word, with_word_by, ◌▸◌}
+use Rattle.inf_output.specs.Output.{Code, Out, apart, behind, begun, begun_by, closed, closed_by, code_closed, declared, declared_by, fitted, full_item, grown, in_routine, instruction, jumped, laid, laid_all, laid_by, marked, naming, next_label, nothing, opened, opened_by, passed, passed_table, past_of, referred, referred_as, referred_by, routine, symbols_passed, together, used, used_by, with_label, with_labels_left, with_routine, with_text, with_text_by, with_word, with_word_by, ◌▸◌}
 use Rattle.inf_dictionary.specs.declared.dictionary.AddFault.{AddFault as WordFault}
 use Rattle.inf_dictionary.specs.declared.dictionary.AddFault.TheVariants as word_fault
 use Rattle.inf_dictionary.specs.declared.uses.WordUse.{WordUse}
@@ -144,8 +144,14 @@ closed_by_keeps None kind o = (refl, refl)
 closed_by_keeps (Some (close_fault.Full limit)) kind o = (refl, refl)
 closed_by_keeps (Some _) kind o = (refl, refl)
 
+labels_left_keep : (rest : Option ℕ) → Keeps (with_labels_left rest)
+labels_left_keep None o = (refl, refl)
+labels_left_keep (Some rest) o = (refl, refl)
+
 pub closed_keeps : (kind : RoutineKind) → Keeps (closed kind)
-closed_keeps kind o = closed_by_keeps (fault_closed kind o.code) kind o
+closed_keeps kind o =
+    let c = code_closed kind o in
+    same_then o c (closed kind o) (closed_by_keeps (fault_closed kind o.code) kind o) (labels_left_keep (past_of o).labels c)
 
 -- Names
 

@@ -21,8 +21,7 @@ use Rattle.inf_assembler.specs.declared.routines.CloseFault.TheVariants as close
 use Rattle.inf_assembler.specs.declared.routines.RoutineKind.{RoutineKind}
 use Rattle.inf_assembler.specs.declared.routines.Setting.{Setting as CodeSetting}
 use Rattle.inf_assembler.specs.declared.routines.Setting.TheVariants as code_setting
-use Rattle.inf_code.specs.declared.code.CodeLimits.{CodeLimits}
-use Rattle.inf_code.specs.Code.{Routines, begun as code_begun, fault_closed, full_begun, full_label, full_opened, full_with, left, with_item, with_closed, with_label as with_mark, with_none_open, with_opened}
+use Rattle.inf_code.specs.Code.{Routines, begun as code_begun, code_left, fault_closed, full_begun, full_label, full_opened, full_with, labels_left, references_left, with_item, with_closed, with_label as with_mark, with_none_open, with_opened}
 use Rattle.inf_names.specs.declared.meanings.Meaning.{Meaning}
 use Rattle.inf_names.specs.declared.meanings.Meaning.TheVariants as meaning
 use Rattle.inf_names.specs.declared.symbols.Found.{Found}
@@ -62,9 +61,9 @@ Code = Out → Out
 
 -- Limits
 
--- so much is left, and no limit was passed
-abbrev pub whole : CodeLimits → Past
-whole limits = record { symbols = false; labels = Some limits.labels; tables = None; code = Some limits.code; strings = false; refs = Some limits.refs }
+-- what is left beside some code
+abbrev pub whole : Routines → Past
+whole code = record { symbols = false; labels = labels_left code; tables = None; code = code_left code; strings = false; refs = references_left code }
 
 -- so much more of a limit; nothing is left of one that is passed
 abbrev pub less : Option ℕ → ℕ → Option ℕ
@@ -75,13 +74,13 @@ abbrev pub taken : Counts → Past → Past
 taken counts past =
     record past { labels = less past.labels counts.labels; code = less past.code counts.bytes; refs = less past.refs counts.fixups }
 
-abbrev pub past_by : Option Past → CodeLimits → Past
-past_by None limits = whole limits
-past_by (Some past) limits = past
+abbrev pub past_by : Option Past → Routines → Past
+past_by None code = whole code
+past_by (Some past) code = past
 
 -- what is left now
 abbrev pub past_of : Out → Past
-past_of o = past_by o.past (left o.code)
+past_of o = past_by o.past o.code
 
 -- what is left behind an item: an instruction, whose text has bytes of its own, or a label's place
 abbrev pub without_bytes : ℕ → Past → Past
@@ -182,7 +181,7 @@ abbrev pub opened_by : Option CodeSetting → ℕ → Bool → Code
 opened_by None locals is_lost o = record o { code = with_opened locals is_lost o.code; next = 0 }
 opened_by (Some limit) locals is_lost o =
     let code = with_none_open o.code in
-    record o { code = code; next = 0; past = Some (passed_limit limit (past_by o.past (left code))) }
+    record o { code = code; next = 0; past = Some (passed_limit limit (past_by o.past code)) }
 
 abbrev pub opened : ℕ → Bool → Code
 opened locals is_lost o = opened_by (full_opened is_lost o.code) locals is_lost o
@@ -198,11 +197,19 @@ begun o = begun_by (full_begun o.code) o
 -- The open routine is closed, if there is one. Where something is wrong with it, it is given up.
 abbrev pub closed_by : Option CloseFault → RoutineKind → Code
 closed_by None kind o = record o { code = with_closed kind o.code }
-closed_by (Some (close_fault.Full limit)) kind o = record o { code = with_none_open o.code; past = Some (passed_limit limit (past_by o.past (left (with_none_open o.code)))) }
+closed_by (Some (close_fault.Full limit)) kind o = record o { code = with_none_open o.code; past = Some (passed_limit limit (past_by o.past (with_none_open o.code))) }
 closed_by (Some fault) kind o = record o { code = with_none_open o.code }
 
+abbrev pub code_closed : RoutineKind → Code
+code_closed kind o = closed_by (fault_closed kind o.code) kind o
+
+-- where it had too many labels, their limit is passed
+abbrev pub with_labels_left : Option ℕ → Code
+with_labels_left None o = record o { past = Some (passed_limit code_setting.Labels (past_of o)) }
+with_labels_left (Some rest) o = o
+
 abbrev pub closed : RoutineKind → Code
-closed kind o = closed_by (fault_closed kind o.code) kind o
+closed kind o = with_labels_left (past_of o).labels (code_closed kind o)
 
 -- Strings
 
@@ -344,6 +351,7 @@ standing_simple (meaning.Word place) = None
 standing_simple (meaning.LowString place) = None
 standing_simple (meaning.Array place) = None
 standing_simple (meaning.Routine place) = None
+standing_simple (meaning.PackedAddress place) = None
 standing_simple (meaning.Function function) = None
 
 -- a name that has a number among the names is a reference by that, unless it stands for something itself

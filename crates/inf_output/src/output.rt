@@ -7,7 +7,7 @@ ghost use Rattle.inf_code.specs.Code.{fault_closed};
 ghost use Rattle.inf_names.specs.Symbols.{declare_fault};
 ghost use Rattle.inf_names.specs.declared.meanings.Meaning.{Meaning as Standing};
 ghost use Rattle.inf_output.specs.declared.items.Item.TheVariants as item;
-ghost use Rattle.inf_output.specs.Output.{Takes, TakesVariable, apart, begun, behind, closed, counted, declared, first_table, found_simple, full, full_of, full_past, in_routine, instruction, items_of, jumped, laid, laid_all, less, marked, naming, next_label, opened, or_full, passed, passed_limit, passed_table, past_of, referred, referred_as, routine, simple_by, standing_simple, string_at, symbols_passed, table_passed, taken, together, used, whole, with_text, with_word};
+ghost use Rattle.inf_output.specs.Output.{Takes, TakesVariable, apart, begun, behind, closed, code_closed, counted, declared, first_table, found_simple, full, full_of, full_past, in_routine, instruction, items_of, jumped, laid, laid_all, less, marked, naming, next_label, opened, or_full, passed, passed_limit, passed_table, past_of, referred, referred_as, routine, simple_by, standing_simple, string_at, symbols_passed, table_passed, taken, together, used, whole, with_text, with_word};
 
 use crate::items::{Item, Items, proper_operands};
 use crate::operands::{Simple, with_written};
@@ -16,7 +16,7 @@ use crate::veneer::Veneer;
 use arrayvec::ArrayVec;
 use inf_area::{AreaName, Target};
 use inf_assembler::{CloseFault, GrowFault, RoutineKind, Setting as CodeSetting};
-use inf_code::code::{Code, CodeLimits};
+use inf_code::code::Code;
 use inf_names::meanings::Meaning;
 use inf_names::symbols::{DeclareFault, Found, ReferFault, Symbols};
 use inf_opcode::{Branch, Counts, Instruction, Label, Opcode, Operand, instruction_counts};
@@ -100,17 +100,17 @@ fn first_table(passed: Option<Setting>, limit: Setting) -> Setting
 }
 
 impl Past {
-    /// So much is left, and no limit was passed.
-    fn whole(limits: CodeLimits) -> Past
-        ensures { result ≡ whole limits }
+    /// What is left beside some code.
+    fn whole(code: &Code) -> Past
+        ensures { result ≡ whole code.now }
     {
         Past {
             symbols: false,
-            labels: Some(limits.labels),
+            labels: code.labels_left(),
             tables: None,
-            code: Some(limits.code),
+            code: code.code_left(),
             strings: false,
-            refs: Some(limits.refs),
+            refs: code.references_left(),
         }
     }
 
@@ -210,6 +210,7 @@ fn standing(meaning: Meaning) -> Option<Simple>
         | Meaning::LowString(_)
         | Meaning::Array(_)
         | Meaning::Routine(_)
+        | Meaning::PackedAddress(_)
         | Meaning::Function(_) => None,
     }
 }
@@ -292,7 +293,7 @@ impl Output {
     {
         match self.past {
             Some(past) => past,
-            None => Past::whole(self.code.left()),
+            None => Past::whole(&self.code),
         }
     }
 
@@ -459,9 +460,23 @@ impl Output {
     }
 
     /// The open routine is closed, if there is one. Answers what is wrong with it, if anything is: then it is given up, and where that is a limit, it is
-    /// passed.
+    /// passed. So is the limit of labels where it had too many.
     pub fn close(&mut self, kind: RoutineKind) -> Result<Option<CloseFault>, AllocError>
         ensures value { OnOk result (self.new ≡ closed kind self.old) }
+        ensures fault { IfOk result (λ fault. fault ≡ fault_closed kind self.old.code) }
+    {
+        let labels = self.rest().labels;
+        let fault = self.close_code(kind)?;
+        if labels.is_none() {
+            self.past = Some(self.rest().passed(CodeSetting::Labels));
+        }
+        Ok(fault)
+    }
+
+    /// The code of the open routine is closed, if there is one. Answers what is wrong with it, if anything is: then it is given up, and where that is a
+    /// limit, it is passed.
+    fn close_code(&mut self, kind: RoutineKind) -> Result<Option<CloseFault>, AllocError>
+        ensures value { OnOk result (self.new ≡ code_closed kind self.old) }
         ensures fault { IfOk result (λ fault. fault ≡ fault_closed kind self.old.code) }
     {
         match self.code.close(kind) {

@@ -12,13 +12,24 @@ use Rattle.inf_conditionals.specs.declared.judged.Handed.{Handed}
 use Rattle.inf_conditionals.specs.declared.judged.Handed.TheVariants as handed
 use Rattle.inf_conditionals.specs.declared.judged.Judged.{Judged}
 use Rattle.inf_conditionals.specs.declared.judged.Sign.{Sign}
-use Rattle.inf_work.specs.Actions.{Work, is_class, piece_begun as work_begun, took as work_took}
+use Rattle.inf_work.specs.Actions.{Work, begun_at, is_class, piece_begun as work_begun, took as work_took}
 use Rattle.inf_work.specs.Acting.{acted}
 use Rattle.inf_work.specs.Limits.{SameLimits}
-use Rattle.inf_work.proofs.Limits.{acted_same, begun_at_same, cut_same, same_then, took_same as work_took_same}
+use Rattle.inf_grammar.specs.Routines.{closings}
+use Rattle.inf_work.specs.Parts.{closed_ahead}
+use Rattle.inf_work.proofs.Limits.{acted_same, begun_at_same, closed_ahead_same, cut_same, same_then, took_same as work_took_same}
 use Rattle.inf_reader.specs.Handing.{handed_as, hash, judged_taken, lone_told, sign_taken, token_taken, unfit_in, unit_ended}
 use Rattle.inf_reader.specs.Reading.{Reading, Stand, bad, judged, piece_begun, read_at, step, step_in, took}
+use Rattle.inf_symbol.specs.Spellings.{Name}
+use Rattle.inf_gathering.specs.declared.gathering.Leaf.{Leaf}
+use Rattle.inf_gathering.specs.declared.gathering.Leaf.TheVariants as leaf
+use Rattle.inf_unit.specs.Units.{name_at}
+use Rattle.inf_conditionals.specs.Operands.{action_added, actions_added, appeared_by}
 use Rattle.inf_conditionals.specs.Atoms.{atom_as}
+use Rattle.inf_conditionals.specs.Said.{Deep, Long, Right, Said, Wrong, with_right}
+use Rattle.inf_output.specs.Limits.{Keeps as KeepsAll, SameLimits as SameOutLimits}
+use Rattle.inf_output.proofs.Keeping.{action_same, same_then as out_same_then}
+use Rattle.inf_output.specs.Output.{Out}
 use Rattle.inf_reader.specs.declared.mode.Mode.{Mode}
 use Rattle.inf_reader.specs.declared.mode.Mode.TheVariants as mode
 
@@ -79,7 +90,9 @@ lone_same (Some place) files s = (refl, refl)
 
 ended_same : (o : Option Place) (files : FileNames) (s : Stand) → Keeps s.work (unit_ended o files s)
 ended_same None files s = (refl, refl)
-ended_same (Some place) files s = begun_at_same files place s.work
+ended_same (Some place) files s =
+    let closed = closed_ahead (closings s.reading.stack) s.work in
+    same_then s.work closed (begun_at files place closed) (closed_ahead_same (closings s.reading.stack) s.work) (begun_at_same files place closed)
 
 pub judged_taken_same : (files : FileNames) (t : Spelled) (j : Judged) (s : Stand) → SameLimits s.work (judged_taken files t j s).work
 judged_taken_same files t j s =
@@ -90,3 +103,31 @@ judged_taken_same files t j s =
     same_then s.work token.work ended.work
     (same_then s.work signed.work token.work (sign_same j.sign files s) (token_same j.token files t signed))
     (same_then token.work told.work ended.work (lone_same j.lone files token) (ended_same j.ended files told))
+
+-- what a condition adds
+appeared_keeps : (name : Option Name) → KeepsAll (appeared_by name)
+appeared_keeps None o = (refl, refl)
+appeared_keeps (Some n) o = action_same n.bytes n.place o
+
+action_keeps : (tokens : List Spelled) (l : Leaf) → KeepsAll (action_added tokens l)
+action_keeps tokens (leaf.Action at) o = appeared_keeps (name_at tokens at) o
+action_keeps tokens (leaf.Name at) o = (refl, refl)
+action_keeps tokens (leaf.Alone at) o = (refl, refl)
+action_keeps tokens (leaf.Number n) o = (refl, refl)
+action_keeps tokens (leaf.Char z) o = (refl, refl)
+action_keeps tokens (leaf.Word w) o = (refl, refl)
+action_keeps tokens (leaf.Text at) o = (refl, refl)
+action_keeps tokens (leaf.System at) o = (refl, refl)
+
+actions_keep : (tokens : List Spelled) (leaves : List Leaf) → KeepsAll (actions_added tokens leaves)
+actions_keep tokens [] o = (refl, refl)
+actions_keep tokens (l ∷ leaves) o =
+    let one = action_added tokens l o in
+    out_same_then o one (actions_added tokens leaves one) (action_keeps tokens l o) (actions_keep tokens leaves one)
+
+pub said_same : (said : Option Said) (o : Out) → SameOutLimits o (with_right said o)
+said_same None o = (refl, refl)
+said_same (Some (Right tokens leaves)) o = actions_keep tokens leaves o
+said_same (Some (Wrong directive b)) o = (refl, refl)
+said_same (Some (Long place)) o = (refl, refl)
+said_same (Some (Deep place)) o = (refl, refl)

@@ -8,13 +8,15 @@ use Rattle.inf_syntax.specs.declared.actions.Action.{Action}
 use Rattle.inf_unit.specs.Messages.{FileNames}
 use Rattle.inf_unit.specs.Tokens.{Spelled}
 use Rattle.inf_conditionals.specs.Ends.{with_lone}
-use Rattle.inf_conditionals.specs.Said.{Said, with_said}
+use Rattle.inf_conditionals.specs.Said.{Said, with_right, with_said}
 use Rattle.inf_conditionals.specs.declared.judged.Handed.{Handed}
 use Rattle.inf_conditionals.specs.declared.judged.Handed.TheVariants as handed
 use Rattle.inf_conditionals.specs.declared.judged.Judged.{Judged}
 use Rattle.inf_conditionals.specs.declared.judged.Sign.{Sign}
 use Rattle.inf_conditionals.specs.declared.judged.Site.{Site}
+use Rattle.inf_grammar.specs.Routines.{closings}
 use Rattle.inf_work.specs.Actions.{begun_at}
+use Rattle.inf_work.specs.Parts.{closed_ahead}
 use Rattle.inf_reader.specs.Reading.{Reading, Stand, bad, step}
 use Rattle.inf_reader.specs.declared.mode.Mode.{Mode}
 use Rattle.inf_reader.specs.declared.mode.Mode.TheVariants as mode
@@ -63,18 +65,19 @@ abbrev pub token_taken : Option Handed → FileNames → Spelled → Stand → S
 token_taken None files t s = s
 token_taken (Some h) files t s = handed_as h files t s
 
--- what there is to tell of a condition comes before anything else that its token does
+-- What there is to tell of a condition comes before anything else that its token does; the actions of one with which nothing is wrong appear.
 abbrev pub said_told : Option Said → FileNames → Stand → Stand
-said_told said files s = record s { work = record s.work { report = with_said files said s.work.report } }
+said_told said files s =
+    record s { work = record s.work { report = with_said files said s.work.report; output = with_right said s.work.output } }
 
 abbrev pub lone_told : Option Place → FileNames → Stand → Stand
 lone_told None files s = s
 lone_told (Some place) files s = record s { work = record s.work { report = with_lone files place s.work.report } }
 
--- a conditional directive is a unit
+-- A conditional directive is a unit. Before it the statements are closed that are over, whatever the next token is.
 abbrev pub unit_ended : Option Place → FileNames → Stand → Stand
 unit_ended None files s = s
-unit_ended (Some place) files s = record s { work = begun_at files place s.work }
+unit_ended (Some place) files s = record s { work = begun_at files place (closed_ahead (closings s.reading.stack) s.work) }
 
 -- first the `#` before the token, then the token, and then a conditional directive that has ended: one that has no conditional to
 -- end or to turn is told

@@ -103,6 +103,7 @@ impl Progress {
             tell_lone(place, files, &mut self.work.report)?;
         }
         if let Some(place) = judged.ended {
+            self.work.close_ahead(self.reader.machine.closings())?;
             self.work.begin(files, place)?;
         }
         Ok(())

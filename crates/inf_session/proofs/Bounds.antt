@@ -11,11 +11,11 @@ use Rattle.inf_conditionals.specs.declared.judged.Site.{Site}
 use Rattle.inf_code.specs.declared.code.CodeLimits.{CodeLimits}
 use Rattle.inf_settings.specs.Settings.{all_settings, number_of}
 use Rattle.inf_settings.specs.declared.setting.Setting.{Setting}
-use Rattle.inf_settings.specs.declared.setting.Setting.TheVariants.{Objects, PropertyTables, References, Strings, Symbols}
+use Rattle.inf_settings.specs.declared.setting.Setting.TheVariants.{ExpressionNodes, Labels, LowStrings, Objects, PropertyTables, References, Symbols}
 use Rattle.inf_unit.proofs.Cases.{of_both}
 use Rattle.inf_unit.specs.Messages.{FileNames, none_reported, with_full}
 use Rattle.inf_unit.specs.Tokens.{Spelled}
-use Rattle.inf_work.specs.Actions.{Work, left, left_to, limits_of}
+use Rattle.inf_work.specs.Actions.{Work, left, left_to}
 use Rattle.inf_output.specs.Limits.{TableBounds, bounds, table_bounds}
 use Rattle.inf_work.specs.Limits.{SameLimits}
 use Rattle.inf_work.specs.Works.{work as work_of}
@@ -108,11 +108,15 @@ first_fits o names going =
     let objects = number_of Objects o.settings in
     let bytes = number_of PropertyTables o.settings in
     let refs = number_of References o.settings in
+    let low = number_of LowStrings o.settings in
     let none = none_told (tables_full o.settings) names o.has_warnings going in
-    let first = none_then (nat_lt objects 4) Objects (cond (nat_lt bytes 30) (Some PropertyTables) (cond (nat_lt refs 4) (Some References) None)) none in
-    let second = none_then (nat_lt bytes 30) PropertyTables (cond (nat_lt refs 4) (Some References) None) first.1 in
-    let third = none_then (nat_lt refs 4) References None second.1 in
-    (ltb-false objects 4 first.0, ltb-false bytes 30 second.0, ltb-false refs 4 third.0)
+    let behind_low = cond (nat_lt refs 4) (Some References) None in
+    let behind_bytes = cond (nat_lt low 2) (Some LowStrings) behind_low in
+    let first = none_then (nat_lt objects 4) Objects (cond (nat_lt bytes 30) (Some PropertyTables) behind_bytes) none in
+    let second = none_then (nat_lt bytes 30) PropertyTables behind_bytes first.1 in
+    let third = none_then (nat_lt low 2) LowStrings behind_low second.1 in
+    let fourth = none_then (nat_lt refs 4) References None third.1 in
+    (ltb-false objects 4 first.0, ltb-false bytes 30 second.0, ltb-false low 2 third.0, ltb-false refs 4 fourth.0)
 
 pub bounded_first : (p : Setup) (progress : Progress) (names : FileNames) → standing progress ≡ begun_with (chosen p) names
     → (progress.work.output.names.limit ≡ number_of Symbols (chosen p).settings)
@@ -152,13 +156,15 @@ pub record FitBounds (c : TableCounts) (b : TableBounds) : Type 0 where
 at_most : (n least most : ℕ) → n ≤ max least most → least ≤ most → n ≤ most
 at_most n least most few room = omega (arith, few, room)
 
-pub within : (s : Session) (names code strings refs : ℕ) (tables : TableCounts) → IsBounded s → is_fatal s ≡ false → names ≤ s.progress.work.output.names.limit
+pub within : (s : Session) (tokens names labels code strings refs : ℕ) (tables : TableCounts) → IsBounded s → is_fatal s ≡ false → names ≤ s.progress.work.output.names.limit
     → code ≤ s.progress.work.output.code.limits.code → strings ≤ s.progress.work.output.strings.limit
     → refs ≤ number_of References (chosen s.setup).settings
+    → tokens ≤ number_of ExpressionNodes (chosen s.setup).settings
+    → labels ≤ number_of Labels (chosen s.setup).settings
     → FitBounds tables (table_bounds s.progress.work.output.tables)
-    → AreWithin (s.quoted ∷ 0 ∷ names ∷ 0 ∷ tables.words ∷ tables.objects ∷ tables.verbs ∷ tables.actions ∷ tables.lines ∷ tables.properties ∷ tables.arrays ∷ 0
+    → AreWithin (s.quoted ∷ tokens ∷ names ∷ labels ∷ tables.words ∷ tables.objects ∷ tables.verbs ∷ tables.actions ∷ tables.lines ∷ tables.properties ∷ tables.arrays ∷ 2
     ∷ code ∷ strings ∷ refs ∷ []) all_settings (chosen s.setup).settings
-within s names code strings refs tables bounded going few_names few_code few_strings few_refs few =
+within s tokens names labels code strings refs tables bounded going few_names few_code few_strings few_refs few_tokens few_labels few =
     let settings = (chosen s.setup).settings in
     let most_code = ap (λ (l : CodeLimits × ℕ × TableBounds). l.0.code) bounded.1.0 in
     let most_strings = ap (λ (l : CodeLimits × ℕ × TableBounds). l.1) bounded.1.0 in
@@ -169,7 +175,7 @@ within s names code strings refs tables bounded going few_names few_code few_str
     let stringed = subst (λ n. strings ≤ n) most_strings few_strings in
     let objects = at_most tables.objects 4 (number_of Objects settings) most.objects has.0 in
     let properties = at_most tables.properties 30 (number_of PropertyTables settings) most.properties has.1 in
-    (bounded.1.1.0, (omega arith, (named, (omega arith, (most.words, (objects, (most.verbs, (most.actions, (most.lines, (properties, (most.arrays, (omega arith, (coded, (stringed, (few_refs, tt)))))))))))))))
+    (bounded.1.1.0, (few_tokens, (named, (few_labels, (most.words, (objects, (most.verbs, (most.actions, (most.lines, (properties, (most.arrays, (has.2, (coded, (stringed, (few_refs, tt)))))))))))))))
 
 -- the lesser of two numbers is at most the second
 pub min_few : (a b n : ℕ) → n ≡ min a b → n ≤ b

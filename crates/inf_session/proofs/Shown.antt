@@ -1,9 +1,9 @@
 -- The text of an inclusion that can name a file is of ASCII.
-use Rattle.std.proofs.Common.{◌≡◌, ℕ, zero, suc, ◌<◌, ◌==◌, nat_lt, List, [], ◌∷◌, length, get_or, Bool, true, false, not, ◌&&◌, cond, ap, refl, sym, ◌∙◌, arith}
+use Rattle.std.proofs.Common.{◌≡◌, ℕ, zero, suc, ◌==◌, nat_lt, List, [], ◌∷◌, length, Bool, true, false, not, ◌&&◌, cond, refl, arith}
 use Rattle.std.specs.List.{list_all}
 use Rattle.std.specs.Str.{IsAscii}
 use Rattle.std.proofs.lemmas.Bool.{eqb-true, ltb-true}
-use Rattle.inf_lexer.specs.Names.{behind_sign, can_name, is_fit}
+use Rattle.inf_lexer.specs.Names.{can_name, is_fit}
 
 -- each of two tests
 first_holds : (a b : Bool) → (a && b) ≡ true → a ≡ true

@@ -1,5 +1,5 @@
 -- What the session stands for behind a file that was left or entered, a refused inclusion, and a turn.
-use Rattle.std.proofs.Common.{◌≡◌, ◌⊎◌, inl, inr, ℕ, ◌+◌, ◌≤◌, List, [], ◌∷◌, ◌++◌, length, drop, reverse, get_or, Bool, true, false, Option, refl, sym, ap, subst, ◌∙◌, arith, append_assoc, Result, Ok, Err, IfErr}
+use Rattle.std.proofs.Common.{◌≡◌, ℕ, List, [], ◌∷◌, ◌++◌, length, drop, reverse, get_or, Option, refl, sym, ap, subst, ◌∙◌, append_assoc, Result, Ok, Err, IfErr}
 use Rattle.inf_token.specs.Files.{Openings, Sources, opened}
 use Rattle.inf_lexer.specs.Readers.{Reader}
 use Rattle.inf_sources.specs.Cursors.{Cursor}

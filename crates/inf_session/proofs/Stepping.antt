@@ -3,7 +3,7 @@ use Rattle.std.proofs.Common.{◌≡◌, ℕ, List, true, ap, sym, subst, ◌∙
 use Rattle.inf_scanner.specs.declared.tokens.Place.{Place}
 use Rattle.inf_scanner.specs.declared.tokens.TokenKind.{TokenKind}
 use Rattle.inf_scanner.specs.declared.tokens.TokenKind.TheVariants as kind
-use Rattle.inf_names.specs.Symbols.{Table}
+use Rattle.inf_output.specs.Output.{Out}
 use Rattle.inf_unit.specs.Messages.{FileNames}
 use Rattle.inf_unit.specs.Tokens.{Spelled}
 use Rattle.inf_conditionals.specs.Judging.{Behind, judged}
@@ -18,16 +18,16 @@ use Rattle.inf_reader.specs.Reading.{Stand, is_mode_ended}
 abbrev pub spelled_as : TokenKind → List ℕ → Place → Spelled
 spelled_as k bytes place = record { kind = k; bytes = bytes; place = place }
 
-at_end : (files : FileNames) (bytes : List ℕ) (place : Place) (names : Table Place) (c : Conditions) (s : Stand) (site : Site) (now : Conditions) (j : Judged)
-    → record { now = now; judged = j } ≡ judged site names (end_of bytes place) c → is_mode_ended (judged_taken files (end_of bytes place) j s).reading.mode ≡ true
-at_end files bytes place names c s site now j e =
-    let h = end_is_handed site names bytes place c in
+at_end : (files : FileNames) (bytes : List ℕ) (place : Place) (out : Out) (c : Conditions) (s : Stand) (site : Site) (now : Conditions) (j : Judged)
+    → record { now = now; judged = j } ≡ judged site out (end_of bytes place) c → is_mode_ended (judged_taken files (end_of bytes place) j s).reading.mode ≡ true
+at_end files bytes place out c s site now j e =
+    let h = end_is_handed site out bytes place c in
     ap is_mode_ended (end_taken files bytes place j h.handed s (ap (λ (b : Behind). b.judged.token) e ∙ h.is) h.on)
 
 -- the end of a file is handed on, in some way, and ends the reading
-pub end_ends : (files : FileNames) (k : TokenKind) (bytes : List ℕ) (place : Place) (names : Table Place) (c : Conditions) (s : Stand) (site : Site) (now : Conditions) (j : Judged)
-    → record { now = now; judged = j } ≡ judged site names (spelled_as k bytes place) c → k ≡ kind.End
+pub end_ends : (files : FileNames) (k : TokenKind) (bytes : List ℕ) (place : Place) (out : Out) (c : Conditions) (s : Stand) (site : Site) (now : Conditions) (j : Judged)
+    → record { now = now; judged = j } ≡ judged site out (spelled_as k bytes place) c → k ≡ kind.End
     → is_mode_ended (judged_taken files (spelled_as k bytes place) j s).reading.mode ≡ true
-end_ends files k bytes place names c s site now j e is =
+end_ends files k bytes place out c s site now j e is =
     subst (λ (x : TokenKind). is_mode_ended (judged_taken files (spelled_as x bytes place) j s).reading.mode ≡ true) (sym is)
-    (at_end files bytes place names c s site now j (subst (λ (x : TokenKind). record { now = now; judged = j } ≡ judged site names (spelled_as x bytes place) c) is e))
+    (at_end files bytes place out c s site now j (subst (λ (x : TokenKind). record { now = now; judged = j } ≡ judged site out (spelled_as x bytes place) c) is e))

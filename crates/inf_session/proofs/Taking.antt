@@ -1,5 +1,5 @@
 -- What a token does, by what each call of its turn says.
-use Rattle.std.proofs.Common.{◌≡◌, ℕ, List, ap, sym, ◌∙◌}
+use Rattle.std.proofs.Common.{◌≡◌, ℕ, List, ap, ◌∙◌}
 use Rattle.inf_scanner.specs.declared.tokens.Place.{Place}
 use Rattle.inf_scanner.specs.declared.tokens.TokenKind.{TokenKind}
 use Rattle.inf_sources.specs.Cursors.{behind, read}
@@ -8,6 +8,7 @@ use Rattle.inf_unit.specs.Messages.{Reported}
 use Rattle.inf_unit.specs.Tokens.{Spelled}
 use Rattle.inf_conditionals.specs.Judging.{Behind, judged}
 use Rattle.inf_conditionals.specs.Open.{Conditions, silent}
+use Rattle.inf_output.specs.Output.{Out}
 use Rattle.inf_reader.specs.Handing.{judged_taken, said_told, site_of}
 use Rattle.inf_reader.specs.Reading.{Stand}
 use Rattle.inf_session.specs.Session.{State, quoted_behind, stand_of, stepped, token_of}
@@ -28,9 +29,9 @@ with_all s n c x quoted = record {
 abbrev pub moved : State → Nesting
 moved s = record s.nesting { cursor = behind s.nesting.cursor (read s.nesting.cursor) }
 
--- what is read and was compiled, with other lines
-abbrev pub reporting : Stand → Reported → Stand
-reporting s r = record s { work = record s.work { report = r } }
+-- what is read and was compiled, with other lines and names
+abbrev pub reporting : Stand → Reported → Out → Stand
+reporting s r o = record s { work = record s.work { report = r; output = o } }
 
 -- behind what there is to tell of a condition
 abbrev pub told_stand : State → Behind → Stand
@@ -42,10 +43,10 @@ by_behind s t b =
     with_all s (moved s) (silent b.now) (judged_taken s.nesting.names t b.judged (told_stand s b)) (quoted_behind (site_of s.reading) b.judged t s.quoted)
 
 abbrev by_token : State → Spelled → State
-by_token s t = by_behind s t (judged (site_of s.reading) s.work.output.names t s.conditions)
+by_token s t = by_behind s t (judged (site_of s.reading) s.work.output t s.conditions)
 
 pub step_is : (s : State) (n : Nesting) (b : Behind) (c : Conditions) (x : Stand) (quoted : ℕ) (t : Spelled)
-    → n ≡ moved s → t ≡ token_of s.nesting.cursor → b ≡ judged (site_of s.reading) s.work.output.names t s.conditions
+    → n ≡ moved s → t ≡ token_of s.nesting.cursor → b ≡ judged (site_of s.reading) s.work.output t s.conditions
     → c ≡ silent b.now → x ≡ judged_taken s.nesting.names t b.judged (told_stand s b) → quoted ≡ quoted_behind (site_of s.reading) b.judged t s.quoted
     → with_all s n c x quoted ≡ stepped s
 step_is s n b c x quoted t goes is behind_it quiet taken longest =

@@ -23,7 +23,7 @@ use Rattle.inf_unit.specs.Directives.{Asked, Nothing, Include, End}
 use Rattle.inf_settings.specs.Settings.{number_of}
 use Rattle.inf_settings.specs.declared.setting.Setting.{Setting}
 use Rattle.inf_settings.specs.declared.settings.Settings.{Settings}
-use Rattle.inf_settings.specs.declared.setting.Setting.TheVariants.{Objects, PropertyTables, References}
+use Rattle.inf_settings.specs.declared.setting.Setting.TheVariants.{LowStrings, Objects, PropertyTables, References}
 use Rattle.inf_unit.specs.Messages.{FileNames, flushed, location, none_reported, with_fatal, with_full}
 use Rattle.inf_unit.specs.Tokens.{Spelled}
 use Rattle.inf_reader.specs.Handing.{judged_taken, said_told, site_of}
@@ -47,12 +47,13 @@ pub record State : Type 0 where
 abbrev pub first_place : Place
 first_place = record { file = 0; line = 1 }
 
--- Each story has four objects, whose property tables have 30 bytes and their addresses four references. Where they alone would pass a setting, this is
--- told before the first token.
+-- Each story has four objects, whose property tables have 30 bytes and their addresses four references, and a low string of two bytes. Where they alone would
+-- pass a setting, this is told before the first token.
 abbrev pub tables_full : Settings → Option Setting
 tables_full settings =
     if nat_lt (number_of Objects settings) 4 then Some Objects else
     if nat_lt (number_of PropertyTables settings) 30 then Some PropertyTables else
+    if nat_lt (number_of LowStrings settings) 2 then Some LowStrings else
     if nat_lt (number_of References settings) 4 then Some References else None
 
 -- how the first token of a main source is read, and what there is before it
@@ -105,7 +106,7 @@ quoted_behind site j t quoted =
 abbrev pub stepped : State → State
 stepped s =
     let t = token_of s.nesting.cursor in
-    let b = judged (site_of s.reading) s.work.output.names t s.conditions in
+    let b = judged (site_of s.reading) s.work.output t s.conditions in
     let n = judged_taken s.nesting.names t b.judged (said_told b.now.said s.nesting.names (stand_of s)) in
     record {
       nesting = record s.nesting { cursor = behind s.nesting.cursor (read s.nesting.cursor) };

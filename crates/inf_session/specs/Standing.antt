@@ -1,5 +1,5 @@
 -- What the code's session stands for, with a reader that keeps to its sources.
-use Rattle.std.specs.Prelude.{◌≡◌, ℕ, ◌≤◌, List, Bool, false, ◌&&◌, ◌||◌, if◌then◌else◌, length, min, [], ◌∷◌}
+use Rattle.std.specs.Prelude.{◌≡◌, ℕ, ◌≤◌, List, Bool, false, ◌&&◌, ◌||◌, if◌then◌else◌, length, max, min, [], ◌∷◌}
 use Rattle.inf_code.specs.Code.{code_count, reference_count}
 use Rattle.inf_arrays.specs.Arrays.{all_of, arrays_size}
 use Rattle.inf_verbs.specs.Verbs.{verbs_size}
@@ -11,7 +11,7 @@ use Rattle.inf_token.specs.Files.{Openings, Sources}
 use Rattle.inf_sources.specs.Open.{nesting}
 use Rattle.inf_settings.specs.Settings.{number_of}
 use Rattle.inf_settings.specs.declared.setting.Setting.{Setting}
-use Rattle.inf_settings.specs.declared.setting.Setting.TheVariants.{Objects, PropertyTables, References, Strings, Symbols}
+use Rattle.inf_settings.specs.declared.setting.Setting.TheVariants.{ExpressionNodes, Labels, LowStrings, Objects, PropertyTables, References, Strings, Symbols}
 use Rattle.inf_settings.specs.declared.settings.Settings.{Settings}
 use Rattle.inf_work.specs.Actions.{limits_of}
 use Rattle.inf_output.specs.Limits.{TableBounds, bounds, table_bounds}
@@ -55,9 +55,10 @@ is_fatal s = (standing s.progress).work.report.counts.is_over
 abbrev pub bounds_of : Settings → CodeLimits × ℕ × TableBounds
 bounds_of settings = (limits_of settings, number_of Strings settings, table_bounds (no_tables settings))
 
--- that the first four objects alone pass no setting
+-- that the first four objects and the first low string alone pass no setting
 abbrev pub HasObjects : Settings → Type 0
-HasObjects settings = (4 ≤ number_of Objects settings) × (30 ≤ number_of PropertyTables settings) × (4 ≤ number_of References settings)
+HasObjects settings =
+    (4 ≤ number_of Objects settings) × (30 ≤ number_of PropertyTables settings) × (2 ≤ number_of LowStrings settings) × (4 ≤ number_of References settings)
 
 -- What the settings bound stands under them: the names, the code, the strings, the tables, the quoted tokens, and, unless a fatal message came, the first
 -- four objects.
@@ -89,14 +90,17 @@ parted s = ended s || ((site_of (reading s.progress.reader)).is_between && may_p
 abbrev pub came_to : Bool → Session → Step
 came_to had_ended s = if is_fatal s then step.Fatal else if had_ended then step.End else step.More
 
--- How much there is so far of what each setting bounds, in the order of the settings: the longest quoted token, the names, the words, objects, verbs and
--- actions, the bytes of grammar, properties, arrays, code and strings, and the references, at most as many as there may be. Nothing is told of expressions,
--- labels and low strings.
+-- How much there is so far of what each setting bounds, in the order of the settings: the longest quoted token, the tokens of the longest expression, the names, the
+-- most labels of a routine, the words, objects, verbs and actions, the bytes of grammar, properties, arrays, low strings, code and strings, and the references; of
+-- tokens, labels and references at most as many as there may be.
 abbrev pub held : Session → List ℕ
 held s =
-    let output = s.progress.work.output in
+    let settings = (chosen s.setup).settings in
+    let w = s.progress.work in
+    let output = w.output in
     let tables = output.tables in
-    s.quoted ∷ 0 ∷ length output.names.names ∷ 0
+    s.quoted ∷ min (max w.most_tokens s.conditionals.most_tokens) (number_of ExpressionNodes settings) ∷ length output.names.names
+    ∷ min w.most_labels (number_of Labels settings)
     ∷ length tables.dictionary.list ∷ object_count tables.world ∷ length tables.verbs.list ∷ length tables.actions.routines ∷ verbs_size tables.verbs.list
-    ∷ bytes_now tables.world ∷ arrays_size (all_of tables.arrays) ∷ 0
-    ∷ code_count output.code ∷ length output.strings.bytes ∷ min (references_with (reference_count output.code) tables) (number_of References (chosen s.setup).settings) ∷ []
+    ∷ bytes_now tables.world ∷ arrays_size (all_of tables.arrays) ∷ 2
+    ∷ code_count output.code ∷ length output.strings.bytes ∷ min (references_with (reference_count output.code) tables) (number_of References settings) ∷ []

@@ -22,7 +22,7 @@ ghost use Rattle.inf_session.specs.Weights.{GoesOn, room, weight};
 
 use crate::compiled::{Compiled, Status, conclude};
 use crate::faults::{Fault, unread};
-use crate::setup::Setup;
+use crate::setup::{FIRST_LOW_STRING_BYTES, Setup};
 use inf_conditionals::conditionals::Conditionals;
 use inf_conditionals::judged::{Judged, Site};
 use inf_lexer::{LexFault, Place};
@@ -257,18 +257,23 @@ impl<'a> Session<'a> {
         self.progress.site().is_between && self.conditionals.is_resting()
     }
 
-    /// How much there is so far of what each setting bounds, in the order of the settings: the bytes of the longest quoted token, the names, the words,
-    /// objects, verbs and actions, the bytes of grammar, properties, arrays, code and strings, and the references, at most as many as there may be. Expressions,
-    /// labels and low strings are not told. None is above its setting unless a fatal message came.
+    /// How much there is so far of what each setting bounds, in the order of the settings: the bytes of the longest quoted token, the tokens of the longest
+    /// expression, the names, the most labels of a routine, the words, objects, verbs and actions, the bytes of grammar, properties, arrays, low strings, code and
+    /// strings, and the references; of tokens, labels and references at most as many as there may be. None is above its setting unless a fatal message came.
     pub fn held(&self) -> [usize; 15]
         ensures counts { result ≡ held self.now }
         ensures within { IsBounded self.now → is_fatal self.now ≡ false → AreWithin result all_settings (chosen self.now.setup).settings }
     {
-        let output = &self.progress.work.output;
+        let settings = self.setup.settings;
+        let work = &self.progress.work;
+        let output = &work.output;
         let tables = &output.tables;
+        let tokens = work.most_tokens.max(self.conditionals.most_tokens);
         let mut held = [0; 15];
         held[0] = self.quoted;
+        held[1] = tokens.min(settings.of(Setting::ExpressionNodes) as usize);
         held[2] = output.names.len();
+        held[3] = work.most_labels.min(settings.of(Setting::Labels) as usize);
         held[4] = tables.dictionary.len();
         held[5] = tables.world.object_count();
         held[6] = tables.verbs.len();
@@ -276,10 +281,11 @@ impl<'a> Session<'a> {
         held[8] = tables.verbs.size();
         held[9] = tables.world.property_bytes();
         held[10] = tables.arrays.size();
+        held[11] = FIRST_LOW_STRING_BYTES as usize;
         held[12] = output.code.count();
         held[13] = output.strings.len();
         let references = tables.references_with(output.code.references());
-        held[14] = references.min(self.setup.settings.of(Setting::References) as usize);
+        held[14] = references.min(settings.of(Setting::References) as usize);
         held
     }
 
@@ -357,10 +363,13 @@ impl<'a> Session<'a> {
         let site = self.progress.site();
         let judged = self
             .conditionals
-            .take(site, &self.progress.work.output.names, &spelled)?;
+            .take(site, &self.progress.work.output, &spelled)?;
         self.quoted = quoted_behind(site, judged, &spelled, self.quoted);
-        self.conditionals
-            .tell(self.open_files.names(), &mut self.progress.work.report)?;
+        self.conditionals.tell(
+            self.open_files.names(),
+            &mut self.progress.work.report,
+            &mut self.progress.work.output,
+        )?;
         self.progress
             .take_judged(self.open_files.names(), &spelled, judged)?;
         Ok(())

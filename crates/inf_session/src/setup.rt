@@ -19,6 +19,9 @@ const FIRST_OBJECTS: u32 = 4;
 /// The bytes of these tables.
 const FIRST_PROPERTY_BYTES: u32 = 30;
 
+/// The bytes of the low string that each story has: three spaces.
+pub(crate) const FIRST_LOW_STRING_BYTES: u32 = 2;
+
 /// What the words of a command choose for a compilation: the character set of the sources, whether warnings are told, the
 /// settings, and the directories in which included files are looked for.
 #[derive(Clone, Copy)]
@@ -31,7 +34,7 @@ pub struct Setup<'a> {
 
 impl Setup<'_> {
     /// What there is before the first token of a main source, the first of these files. A setting that the first
-    /// four objects alone would pass is told at its first line, and ends the compilation.
+    /// four objects or the first low string alone would pass is told at its first line, and ends the compilation.
     pub(crate) fn begin(&self, alloc: Global, files: &Stack) -> Result<Progress, AllocError>
         ensures { IfOk result (λ progress. standing progress ≡ begun_with (chosen self.now) files.now.names) }
     {
@@ -42,7 +45,7 @@ impl Setup<'_> {
         Ok(progress)
     }
 
-    /// The first setting that the first four objects alone would pass.
+    /// The first setting that the first four objects or the first low string alone would pass.
     fn tables_full(&self) -> Option<Setting>
         ensures { result ≡ tables_full self.now.settings.now }
     {
@@ -50,6 +53,8 @@ impl Setup<'_> {
             Some(Setting::Objects)
         } else if self.settings.of(Setting::PropertyTables) < FIRST_PROPERTY_BYTES {
             Some(Setting::PropertyTables)
+        } else if self.settings.of(Setting::LowStrings) < FIRST_LOW_STRING_BYTES {
+            Some(Setting::LowStrings)
         } else if self.settings.of(Setting::References) < FIRST_OBJECTS {
             Some(Setting::References)
         } else {

@@ -1,6 +1,6 @@
 -- No statement changes what there may be of names and of code.
-use Rattle.std.proofs.Common.{◌≡◌, ℕ, ◌==◌, Bool, true, false, cond, List, [], ◌∷◌, Option, Some, None, refl}
-use Rattle.std.specs.Prelude.{is_some, codes, unwrap_or}
+use Rattle.std.proofs.Common.{zero, suc, ℕ, ◌==◌, Bool, true, false, cond, List, [], ◌∷◌, Option, Some, None, refl}
+use Rattle.std.specs.Prelude.{codes, unwrap_or}
 use Rattle.std.specs.Str.{str_eq_ignore_ascii_case}
 use Rattle.inf_characters.specs.declared.characters.CharSet.{CharSet}
 use Rattle.inf_characters.specs.declared.texts.TextItem.{TextItem}
@@ -18,7 +18,6 @@ use Rattle.inf_expressions.specs.Rooted.{Rooted}
 use Rattle.inf_expressions.specs.Trees.{Tree}
 use Rattle.inf_gathering.specs.declared.gathering.Leaf.{Leaf}
 use Rattle.inf_gathering.specs.declared.gathering.Leaf.TheVariants as leaf
-use Rattle.inf_output.specs.declared.items.Item.{Item as OutItem}
 use Rattle.inf_output.specs.declared.items.Item.TheVariants.{Instruction}
 use Rattle.inf_output.specs.declared.operands.Simple.{Simple}
 use Rattle.inf_output.specs.declared.operands.Simple.TheVariants.{Known, Later, Variable}
@@ -28,7 +27,7 @@ use Rattle.inf_output.specs.Limits.{Keeps, SameLimits}
 use Rattle.inf_output.specs.Output.{Code, Out, apart, behind, instruction, items_of, jumped, laid_all, marked, naming, nothing, to, together, ◌▸◌}
 use Rattle.inf_output.proofs.Keeping.{action_same, apart_keeps, instruction_keeps, jumped_keeps, laid_all_keeps, laid_keeps, marked_keeps, naming_keeps, nothing_keeps, of_both_keeps, referred_keeps, same_then, then3_keeps, then4_keeps, then_keeps, together_keeps, with_label_keeps, with_text_keeps, with_word_keeps}
 use Rattle.inf_templates.specs.Limits.{PartKeeps}
-use Rattle.inf_templates.specs.Meaning.{Meaning as Means, meaning, part}
+use Rattle.inf_templates.specs.Meaning.{meaning, part}
 use Rattle.inf_templates.specs.Parts.{Part, SP, TEMP, is, worked}
 use Rattle.inf_templates.proofs.Keeping.{alone_keeps, branch_keeps, call_keeps, call_routine_keeps, is_keeps, part_keeps, value_keeps, worked_keeps}
 use Rattle.inf_symbol.specs.Locals.{Local, number_of}
@@ -43,8 +42,8 @@ use Rattle.inf_unit.specs.declared.items.Item.TheVariants as item
 use Rattle.inf_unit.specs.declared.items.PrintRule.{PrintRule}
 use Rattle.inf_unit.specs.declared.items.PrintRule.TheVariants as rule
 use Rattle.inf_statements.specs.Assembly.{branch_to, branched, branched_to, ends_of, fits, instructed, jumped_on, labelled, line_instructed, line_laid, line_laid_as, line_laid_by, named_first, operands_in, placed, printing_of, some_printed, store_of, text_printed, variable_of}
-use Rattle.inf_statements.specs.Cases.{beside, case_code, case_tested, group_behind, group_tested, grouped, is_empty, is_open, laid_before, operand_in, range_tested, value_grouped, value_laid, within}
-use Rattle.inf_statements.specs.Constructs.{Laying, begun, between, case_closed, case_entered, cases_begun, changed, closed, ended, ending, entered, entered_by, front, joint, left_to, looped, looped_by, looped_on, looped_over, opened, over_all, over_children, stepped, tested_over, with_labels}
+use Rattle.inf_statements.specs.Cases.{case_code, group_tested, grouped, is_empty, is_open, laid_before, operand_in, range_tested, value_grouped, value_laid, within}
+use Rattle.inf_statements.specs.Constructs.{all_ended, Laying, begun, between, case_closed, case_entered, cases_begun, changed, closed, ended, ending, entered, entered_by, front, joint, left_to, looped, looped_by, looped_on, looped_over, opened, over_all, stepped, tested_over, with_labels}
 use Rattle.inf_statements.specs.Effects.{Site, jump_laid, name_behind, place_laid, statement_code, statement_laid}
 use Rattle.inf_statements.specs.Labels.{NamedLabel}
 use Rattle.inf_statements.specs.Limits.{LayingKeeps}
@@ -350,6 +349,11 @@ closed_keeps c = ending_keeps c c.kind
 pub ended_keeps : (constructs : List Construct) → LayingKeeps (ended constructs)
 ended_keeps [] o = (refl, refl)
 ended_keeps (c ∷ constructs) o = closed_keeps c o
+
+pub all_ended_keep : (n : ℕ) (constructs : List Construct) → LayingKeeps (all_ended n constructs)
+all_ended_keep zero constructs o = (refl, refl)
+all_ended_keep (suc n) constructs o =
+    let e = ended constructs o in same_then o e.1 (all_ended n e.0 e.1).1 (ended_keeps constructs o) (all_ended_keep n e.0 e.1)
 
 case_entered_keeps : (are_own is_default : Bool) (old : Case) (had : Bool) (c : Construct) → LayingKeeps (case_entered are_own is_default old had c)
 case_entered_keeps are_own true old had c o = case_closed_keeps old c.end o

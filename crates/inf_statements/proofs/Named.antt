@@ -1,6 +1,6 @@
 -- What the code does with its map is what the definitions do with the list of labels.
 use Rattle.std.proofs.Common.{◌≡◌, ◌<◌, ◌+◌, ℕ, suc, zero, Bool, true, false, cond, List, [], ◌∷◌, drop, length, map, Option, None, Some, refl, sym, ap, ◌∙◌, arith}
-use Rattle.std.specs.Prelude.{◌==◌, option_map, slice_get}
+use Rattle.std.specs.Prelude.{option_map, slice_get}
 use Rattle.std.specs.Borrow.{Bor}
 use Rattle.std.specs.Option.{option_copied}
 use Rattle.std.specs.Map.{lookup}
@@ -8,7 +8,7 @@ use Rattle.std.specs.Str.{bytes_eq}
 use Rattle.arrayvec.specs.declared.array_vec.ArrayVec.{ArrayVec}
 use Rattle.indexmap.specs.IndexMap.{insert_entry}
 use Rattle.inf_statements.specs.Entries.{as_named, known}
-use Rattle.inf_statements.specs.Labels.{Known, NamedLabel, known_at, known_of, missing, missing_at, put}
+use Rattle.inf_statements.specs.Labels.{NamedLabel, known_at, known_of, missing, missing_at, put}
 use Rattle.inf_statements.specs.declared.labels.Entry.{Entry}
 
 abbrev pub Key : Type 0

@@ -1,5 +1,5 @@
 -- Assembly lines. Z-Machine Standard 1.1, sections 4 and 14.
-use Rattle.std.specs.Prelude.{ℕ, ◌+◌, ◌==◌, List, [], ◌∷◌, length, nat_le, codes, Bool, true, false, not, ◌&&◌, if◌then◌else◌, Option, Some, None, is_some, unwrap_or}
+use Rattle.std.specs.Prelude.{ℕ, ◌==◌, List, [], ◌∷◌, length, nat_le, codes, Bool, true, false, not, ◌&&◌, if◌then◌else◌, Option, Some, None, is_some, unwrap_or}
 use Rattle.std.specs.Str.{str_eq_ignore_ascii_case}
 use Rattle.inf_characters.specs.declared.characters.CharSet.{CharSet}
 use Rattle.inf_scanner.specs.declared.tokens.Place.{Place}
@@ -18,7 +18,7 @@ use Rattle.inf_expressions.specs.Trees.{Tree}
 use Rattle.inf_names.specs.Symbols.{Table}
 use Rattle.inf_output.specs.declared.operands.Simple.{Simple}
 use Rattle.inf_output.specs.declared.operands.Simple.TheVariants as simple
-use Rattle.inf_output.specs.Output.{Code, Out, behind, instruction, jumped, naming, next_label, nothing}
+use Rattle.inf_output.specs.Output.{Code, behind, instruction, jumped, naming, next_label, nothing}
 use Rattle.inf_templates.specs.Meaning.{meaning}
 use Rattle.inf_symbol.specs.Locals.{Local, number_of}
 use Rattle.inf_unit.specs.Opcodes.{opcode_of}

@@ -1,6 +1,6 @@
 -- The statements that hold others: what each lays where it begins, between its parts, and where it ends. Designer's Manual, fourth edition, sections
 -- 1.7 to 1.9.
-use Rattle.std.specs.Prelude.{ℕ, ◌-◌, Bool, true, false, if◌then◌else◌, List, [], ◌∷◌, length, Option, Some, None, unwrap_or}
+use Rattle.std.specs.Prelude.{ℕ, zero, suc, ◌-◌, Bool, true, false, if◌then◌else◌, List, [], ◌∷◌, length, Option, Some, None, unwrap_or}
 use Rattle.inf_opcode.specs.declared.instructions.Label.{Label}
 use Rattle.inf_opcode.specs.declared.opcodes.Opcode.TheVariants as opcode
 use Rattle.inf_area.specs.declared.targets.Target.TheVariants as target
@@ -227,6 +227,11 @@ stepped constructs o = (with_step (Some (items_of o.kept)) constructs, together 
 abbrev pub ended : List Construct → Laying (List Construct)
 ended [] o = ([], o)
 ended (c ∷ constructs) o = (constructs, closed c o)
+
+-- so many of them, the innermost first
+abbrev pub all_ended : ℕ → List Construct → Laying (List Construct)
+all_ended zero constructs o = (constructs, o)
+all_ended (suc n) constructs o = let e = ended constructs o in all_ended n e.0 e.1
 
 -- what a condition of the innermost is, and what a loop over objects goes over
 abbrev pub condition_label : List Construct → Option Label

@@ -1,5 +1,5 @@
 -- What the statements of a routine do, and what is wrong with them beside their expressions.
-use Rattle.std.specs.Prelude.{ℕ, ◌+◌, List, [], ◌∷◌, map, Bool, true, false, if◌then◌else◌, Option, Some, None}
+use Rattle.std.specs.Prelude.{ℕ, List, Bool, true, false, if◌then◌else◌, Option, Some, None}
 use Rattle.inf_characters.specs.declared.characters.CharSet.{CharSet}
 use Rattle.inf_scanner.specs.declared.tokens.Place.{Place}
 use Rattle.inf_opcode.specs.declared.opcodes.Opcode.TheVariants as opcode
@@ -7,11 +7,9 @@ use Rattle.inf_expressions.specs.declared.findings.Finding.{Finding}
 use Rattle.inf_expressions.specs.declared.units.Wanted.{Wanted}
 use Rattle.inf_expressions.specs.declared.units.Wanted.TheVariants as wanted
 use Rattle.inf_expressions.specs.Findings.{wrong_kind}
-use Rattle.inf_expressions.specs.Rooted.{Rooted}
 use Rattle.inf_expressions.specs.Trees.{Tree}
 use Rattle.inf_names.specs.Symbols.{Table}
-use Rattle.inf_opcode.specs.declared.instructions.Label.{Label}
-use Rattle.inf_output.specs.Output.{Code, Out, apart, jumped, marked, nothing, ◌▸◌}
+use Rattle.inf_output.specs.Output.{Code, jumped, marked, nothing, ◌▸◌}
 use Rattle.inf_symbol.specs.Locals.{Local}
 use Rattle.inf_unit.specs.Opcodes.{opcode_of}
 use Rattle.inf_unit.specs.Tokens.{Spelled}

@@ -58,6 +58,7 @@ standing (meaning.Word place) = None
 standing (meaning.LowString place) = None
 standing (meaning.Array place) = None
 standing (meaning.Routine place) = None
+standing (meaning.PackedAddress place) = None
 
 -- every other name is a reference by its number among the names
 abbrev pub referring : Option ℕ → Operand

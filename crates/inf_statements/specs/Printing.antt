@@ -9,7 +9,7 @@ use Rattle.inf_output.specs.declared.veneer.Veneer.{Veneer}
 use Rattle.inf_output.specs.declared.veneer.Veneer.TheVariants as veneer
 use Rattle.inf_output.specs.Output.{Code, nothing, ◌▸◌}
 use Rattle.inf_templates.specs.Meaning.{meaning, part}
-use Rattle.inf_templates.specs.Parts.{call, call_routine, worked}
+use Rattle.inf_templates.specs.Parts.{call, call_routine}
 use Rattle.inf_unit.specs.Texts.{read_of}
 use Rattle.inf_unit.specs.Tokens.{Spelled}
 use Rattle.inf_unit.specs.declared.items.Item.{Item}

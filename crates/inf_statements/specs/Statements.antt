@@ -1,7 +1,6 @@
 -- What statements are, and their code.
-use Rattle.std.specs.Prelude.{◌≡◌, ℕ, ◌+◌, ◌==◌, List, [], ◌∷◌, codes, map, Bool, true, false, ◌&&◌, not, slice_get, if◌then◌else◌, Option, Some, None}
+use Rattle.std.specs.Prelude.{◌≡◌, ℕ, ◌==◌, List, [], ◌∷◌, codes, map, Bool, true, false, slice_get, if◌then◌else◌, Option, Some, None}
 use Rattle.std.specs.Str.{str_eq_ignore_ascii_case}
-use Rattle.inf_characters.specs.declared.characters.CharSet.{CharSet}
 use Rattle.inf_characters.specs.declared.texts.TextItem.{TextItem}
 use Rattle.inf_scanner.specs.declared.tokens.Mark.{Mark}
 use Rattle.inf_scanner.specs.declared.tokens.Mark.TheVariants as mark
@@ -21,10 +20,10 @@ use Rattle.inf_output.specs.declared.items.Item.TheVariants.{Instruction}
 use Rattle.inf_output.specs.declared.operands.Simple.{Simple}
 use Rattle.inf_output.specs.declared.operands.Simple.TheVariants.{Known, Variable}
 use Rattle.inf_output.specs.declared.veneer.Veneer.TheVariants as veneer
-use Rattle.inf_output.specs.Output.{Code, instruction, jumped, laid, marked, nothing, ◌▸◌}
+use Rattle.inf_output.specs.Output.{Code, instruction, jumped, laid, nothing, ◌▸◌}
 use Rattle.inf_templates.specs.Meaning.{Meaning, meaning, part}
 use Rattle.inf_templates.specs.Parts.{Part, SP, TEMP, call_routine, is, worked}
-use Rattle.inf_unit.specs.Tokens.{Spelled, is_mark, is_word}
+use Rattle.inf_unit.specs.Tokens.{Spelled, is_word}
 use Rattle.inf_unit.specs.declared.items.Item.{Item}
 use Rattle.inf_unit.specs.declared.items.Item.TheVariants as item
 use Rattle.inf_statements.specs.Cases.{SWITCHED}

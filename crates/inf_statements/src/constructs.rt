@@ -5,7 +5,7 @@ ghost use Rattle.inf_expressions.specs.Nodes.{tree_at};
 ghost use Rattle.inf_expressions.specs.Questions.{children_of};
 ghost use Rattle.inf_output.specs.Output.{items_of};
 ghost use Rattle.inf_templates.specs.Tasks.{at};
-ghost use Rattle.inf_statements.specs.Constructs.{are_cases, are_own, begun, between, break_of, case_closed, case_entered, cases_begun, changed, closed, condition_label, continue_of, default_entered, depth, depth_by, ended, ending, entered, entered_by, front, is_late, is_late_in, joint, kind_behind, left_to, left_to_by, looped, looped_by, looped_on, looped_over, next_case, next_case_in, opened, otherwise, outermost, over_all, over_children, stepped, tested_over, values_entered, with_case, with_labels};
+ghost use Rattle.inf_statements.specs.Constructs.{all_ended, are_cases, are_own, begun, between, break_of, case_closed, case_entered, cases_begun, changed, closed, condition_label, continue_of, default_entered, depth, depth_by, ended, ending, entered, entered_by, front, is_late, is_late_in, joint, kind_behind, left_to, left_to_by, looped, looped_by, looped_on, looped_over, next_case, next_case_in, opened, otherwise, outermost, over_all, over_children, stepped, tested_over, values_entered, with_case, with_labels};
 
 use inf_area::{SystemConstant, Target};
 use inf_expressions::{Forest, Nodes, Root, children_of};
@@ -614,6 +614,18 @@ impl Constructs {
             return Ok(());
         };
         close(&construct, out)
+    }
+
+    /// So many end, the innermost first.
+    pub fn end_all(&mut self, count: usize, out: &mut Output) -> Result<(), AllocError>
+        ensures { OnOk result ((self.new, out.new) ≡ all_ended count self.old out.old) }
+    {
+        let mut left = count;
+        while left > 0 {
+            self.end(out)?;
+            left -= 1;
+        }
+        Ok(())
     }
 
     /// Where a branch goes where the condition of the innermost is not true.

@@ -52,7 +52,8 @@ fn standing(meaning: Meaning) -> Option<Operand>
         | Meaning::Word(_)
         | Meaning::LowString(_)
         | Meaning::Array(_)
-        | Meaning::Routine(_) => None,
+        | Meaning::Routine(_)
+        | Meaning::PackedAddress(_) => None,
     }
 }
 

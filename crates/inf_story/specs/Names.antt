@@ -24,6 +24,7 @@ value_of (meaning.Text place) = Some (value.Later (target.Place area.Strings pla
 value_of (meaning.LowString place) = Some (value.Later (target.Place area.LowStrings place))
 value_of (meaning.Array place) = Some (value.Later (target.Place area.Arrays place))
 value_of (meaning.Routine place) = Some (value.Later (target.Place area.Code place))
+value_of (meaning.PackedAddress place) = Some (value.Later (target.Place area.Code place))
 value_of (meaning.Word text) = Some (value.Later (target.Word text))
 value_of (meaning.Function function) = None
 

@@ -25,7 +25,10 @@ fn value_of(meaning: Meaning) -> Option<Value>
         Meaning::Text(place) => Some(Value::Later(Target::Place(AreaName::Strings, place))),
         Meaning::LowString(place) => Some(Value::Later(Target::Place(AreaName::LowStrings, place))),
         Meaning::Array(place) => Some(Value::Later(Target::Place(AreaName::Arrays, place))),
-        Meaning::Routine(place) => Some(Value::Later(Target::Place(AreaName::Code, place))),
+        Meaning::Routine(place) | Meaning::PackedAddress(place) => Some(Value::Later(Target::Place(
+            AreaName::Code,
+            place,
+        ))),
         Meaning::Word(text) => Some(Value::Later(Target::Word(text))),
         Meaning::Function(_) => None,
     }

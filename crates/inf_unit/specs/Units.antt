@@ -168,6 +168,14 @@ long_by tokens most is_sure (Some outer) = long_from tokens most outer is_sure
 abbrev pub long_at : ℕ → Unit → Option Place
 long_at most u = long_by u.tokens most u.is_sure u.outer
 
+-- How many tokens the outermost expression has so far; none, where it may be none.
+abbrev pub outer_count : List Spelled → Bool → Option ℕ → ℕ
+outer_count tokens is_sure None = 0
+outer_count tokens is_sure (Some outer) = if is_sure then length tokens - outer else 0
+
+abbrev pub outer_tokens : Unit → ℕ
+outer_tokens u = outer_count u.tokens u.is_sure u.outer
+
 -- Actions
 
 -- the place of the last token among them

@@ -3,7 +3,7 @@ ghost use Rattle.std.specs.Prelude.{◌≡◌, ◌≤◌, ◌++◌, ◌∷◌, [
 ghost use Rattle.inf_unit.specs.AtHand.{unit};
 ghost use Rattle.inf_unit.specs.Steps.{step_of};
 ghost use Rattle.inf_unit.specs.Tokens.{spelled};
-ghost use Rattle.inf_unit.specs.Units.{acted, begun, depth_behind, first_place, forgotten, is_alone, is_assembly, is_sign, jump_label, jump_of, last_leaf, leaf_of, long_at, marked_from, next_place, no_unit, opcode_text, order, over, own_place, prepared, ruled, stepped, taken, told_leaf, with_item};
+ghost use Rattle.inf_unit.specs.Units.{acted, begun, depth_behind, first_place, forgotten, is_alone, is_assembly, is_sign, jump_label, jump_of, last_leaf, leaf_of, long_at, marked_from, next_place, no_unit, opcode_text, order, over, outer_tokens, own_place, prepared, ruled, stepped, taken, told_leaf, with_item};
 
 use crate::items::{Item, rule_of};
 use crate::opcodes::{opcode_of, takes_text};
@@ -399,5 +399,15 @@ impl Unit {
             return None;
         }
         self.tokens.place(outer.saturating_add(most))
+    }
+
+    /// How many tokens its outermost expression has so far; none, where it may be none.
+    pub fn outer_tokens(&self) -> usize
+        ensures { result ≡ outer_tokens (unit self.now) }
+    {
+        match self.outer {
+            Some(outer) if self.is_sure => self.tokens.len().saturating_sub(outer),
+            _ => 0,
+        }
     }
 }

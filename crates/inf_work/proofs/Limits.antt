@@ -43,8 +43,8 @@ use Rattle.inf_statements.specs.declared.constructs.Construct.{Construct}
 use Rattle.inf_statements.specs.declared.constructs.Kind.{Kind}
 use Rattle.inf_statements.specs.declared.constructs.Kind.TheVariants as kind
 use Rattle.inf_statements.specs.declared.constructs.Over.TheVariants as over
-use Rattle.inf_statements.proofs.Keeping.{alone_keep, begun_keeps as begun_construct_keeps, case_keeps, cases_begun_keeps, cases_keep, ended_keeps, joined_keeps, leaf_added_keeps, leaves_same, looped_over_keeps, statement_keeps, stepped_keeps, switched_keeps, tested_keeps}
-use Rattle.inf_work.specs.Actions.{Work, begun_at, body_ended, cases_ended, close, close_open, constant, constant_added, constant_finding, constant_meaning, constant_of, constant_with, cut, finding_at, header_end, header_of, header_with, is_deep, is_first_declared, is_replaced, kind_ended, name_finding, named, nested, new_stub, opened_with, opens, operands_of, passed, replace, routine_declared, settled_of, sized, stopped, stub, stub_code, stub_locals, stubbed, token_checked, told, took, trees_at, unit_ended}
+use Rattle.inf_statements.proofs.Keeping.{all_ended_keep, alone_keep, begun_keeps as begun_construct_keeps, case_keeps, cases_begun_keeps, cases_keep, ended_keeps, joined_keeps, leaf_added_keeps, leaves_same, looped_over_keeps, statement_keeps, stepped_keeps, switched_keeps, tested_keeps}
+use Rattle.inf_work.specs.Actions.{Work, begun_at, body_ended, cases_ended, close, close_open, constant, constant_added, constant_finding, constant_meaning, constant_of, constant_with, cut, finding_at, given_up, header_end, header_of, header_with, is_deep, is_first_declared, is_replaced, kind_ended, name_finding, named, nested, new_stub, opened_with, opens, operands_of, passed, replace, routine_declared, settled_of, sized, stopped, stub, stub_code, stub_locals, stubbed, token_checked, told, took, trees_at, unit_ended}
 use Rattle.inf_work.specs.Declarations.{alias_by, is_alias, alias_finding, alias_meaning, alias_told, alias_with, aliased, attribute, attribute_added, attribute_number, attribute_with, global_added, global_variable, global_with, is_additive, last_meaning, new_attribute, new_attribute_by, new_global, new_property, new_property_by, nothing_of, name_known, property, property_added, property_named, property_names, property_number, property_order, property_with, value_of, valued, with_variable}
 use Rattle.inf_work.proofs.Bounds.{attribute_read_same, body_ended_same, class_read_same, embedded_read_same, property_read_same, value_read_same}
 use Rattle.inf_work.specs.Directives.{carried_out, default, directive_end, directive_of_names}
@@ -52,9 +52,8 @@ use Rattle.inf_work.specs.declared.declarations.Declared.{Declared}
 use Rattle.inf_work.specs.Acting.{act, acted}
 use Rattle.inf_work.specs.Findings.{header_fault, name_fault}
 use Rattle.inf_work.specs.Limits.{LimitsStay, SameLimits}
-use Rattle.inf_work.specs.Parts.{constructs_laid, construct_ended, construct_joined, construct_opened, found_in as found_in_part, has_last, is_default, order_of, part_begun, part_carried, part_effect, part_ended, part_finished, part_prepared, place_of, site_of, statement_at, wanted_of}
 use Rattle.inf_work.proofs.ArrayLimits.{entry_same, header_same}
-use Rattle.inf_work.specs.Parts.{actions_named, case_prepared, constructs_laid, construct_ended, construct_joined, construct_opened, found_in as found_in_part, has_last, is_default, order_of, part_begun, part_carried, part_effect, part_ended, part_finished, part_prepared, place_of, site_of, statement_at, wanted_of}
+use Rattle.inf_work.specs.Parts.{actions_named, case_prepared, closed_ahead, construct_closed, constructs_laid, construct_ended, construct_joined, construct_opened, found_in as found_in_part, has_last, is_default, order_of, part_begun, part_carried, part_effect, part_ended, part_finished, part_prepared, place_of, site_of, statement_at, wanted_of}
 use Rattle.inf_work.proofs.VerbLimits.{fake_same, line_same}
 use Rattle.inf_work.specs.declared.parts.Part.{Part}
 use Rattle.inf_work.specs.declared.parts.Part.TheVariants as part
@@ -306,6 +305,15 @@ names_same files first (word ∷ names) w =
     let c = carried_out (directive_of word.bytes) files first names w in
     same_then w c (begun_at files first c) (carried_same (directive_of word.bytes) files first names w) (begun_at_same files first c)
 
+-- Statements that are over
+
+closed_same : (w : Work) → SameLimits w (construct_closed w)
+closed_same w =
+    of_both (SameLimits w) (nat_lt 0 w.closed) (record w { closed = w.closed - 1 }) (construct_ended w) (λ _. (refl, refl)) (λ _. ended_keeps w.constructs w.output)
+
+pub closed_ahead_same : (count : ℕ) (w : Work) → SameLimits w (closed_ahead count w)
+closed_ahead_same count w = all_ended_keep (count - w.closed) w.constructs w.output
+
 -- Actions
 
 act_same : (files : FileNames) (place : Place) (a : Action) (w : Work) → SameLimits w (act files place a w)
@@ -317,7 +325,7 @@ act_same files place action.Deeper w = nested_same files place (is_deep w 1) w
 act_same files place action.OpenIf w = opened_same files place kind.If w
 act_same files place action.EndIf w = part_same files place part.Condition w
 act_same files place action.Else w = joined_keeps w.constructs w.output
-act_same files place action.Close w = ended_keeps w.constructs w.output
+act_same files place action.Close w = closed_same w
 act_same files place action.OuterSure w = sized_same files (record w { unit = unit_acted action.OuterSure w.unit })
 act_same files place action.Routine w = (refl, refl)
 act_same files place action.EndHeader w = header_same files place w
@@ -409,7 +417,7 @@ act_same files place action.PrintValue w = (refl, refl)
 act_same files place action.Rule w = (refl, refl)
 act_same files place action.PrintRule w = (refl, refl)
 act_same files place action.Default w = (refl, refl)
-act_same files place action.OuterWord w = (refl, refl)
+act_same files place action.OuterWord w = sized_same files (record w { unit = unit_acted action.OuterWord w.unit })
 act_same files place action.EndCase w = part_same files place part.Case w
 act_same files place action.To w = (refl, refl)
 
@@ -430,4 +438,5 @@ took_same files t w =
 pub cut_same : (files : FileNames) (w : Work) → SameLimits w (cut files w)
 cut_same files w =
     let sure = record w { unit = record w.unit { is_sure = true } } in
-    let c = body_ended sure in same_then w c (sized files c) (body_ended_same sure) (sized_same files c)
+    let c = body_ended sure in
+    let g = given_up c in same_then w c (sized files g) (body_ended_same sure) (sized_same files g)

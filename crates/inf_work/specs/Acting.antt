@@ -13,7 +13,7 @@ use Rattle.inf_work.specs.Directives.{directive_end}
 use Rattle.inf_work.specs.Arrays.{entry_ended, header_ended}
 use Rattle.inf_work.specs.Bodies.{attribute_read, class_read, property_read}
 use Rattle.inf_work.specs.Values.{embedded_read, value_read}
-use Rattle.inf_work.specs.Parts.{construct_ended, construct_joined, construct_opened, part_ended, statement_at}
+use Rattle.inf_work.specs.Parts.{construct_closed, construct_joined, construct_opened, part_ended, statement_at}
 use Rattle.inf_work.specs.Verbs.{line_ended}
 use Rattle.inf_work.specs.declared.parts.Part.TheVariants as part
 
@@ -53,8 +53,9 @@ act files place action.Else w = construct_joined w
 act files place action.Until w = construct_joined w
 act files place action.ForTop w = construct_joined w
 act files place action.Loop w = construct_joined w
-act files place action.Close w = construct_ended w
+act files place action.Close w = construct_closed w
 act files place action.OuterSure w = sized files (record w { unit = unit_acted action.OuterSure w.unit })
+act files place action.OuterWord w = sized files (record w { unit = unit_acted action.OuterWord w.unit })
 act files place a w = record w { unit = unit_acted a w.unit }
 
 abbrev pub acted : FileNames → Place → List Action → Work → Work

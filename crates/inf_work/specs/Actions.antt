@@ -1,5 +1,5 @@
 -- What the actions of the grammar do. While a unit is read they gather what it has, and at its end it acts, as a whole.
-use Rattle.std.specs.Prelude.{ℕ, ◌+◌, ◌-◌, ◌==◌, List, [], ◌∷◌, ◌++◌, length, map, drop, nat_lt, slice_get, Bool, true, false, ◌&&◌, if◌then◌else◌, Option, Some, None, is_some, unwrap_or}
+use Rattle.std.specs.Prelude.{ℕ, ◌+◌, ◌-◌, ◌==◌, max, List, [], ◌∷◌, ◌++◌, length, map, drop, nat_lt, slice_get, Bool, true, false, ◌&&◌, if◌then◌else◌, Option, Some, None, is_some, unwrap_or}
 use Rattle.inf_characters.specs.declared.characters.CharSet.{CharSet}
 use Rattle.inf_scanner.specs.declared.tokens.Mark.{Mark}
 use Rattle.inf_scanner.specs.declared.tokens.Mark.TheVariants as mark
@@ -26,7 +26,7 @@ use Rattle.inf_gathering.specs.declared.gathering.Leaf.{Leaf as UnitLeaf}
 use Rattle.inf_gathering.specs.declared.gathering.Leaf.TheVariants as leaf
 use Rattle.inf_cells.specs.declared.scale.Scale.TheVariants as scale
 use Rattle.inf_code.specs.declared.code.CodeLimits.{CodeLimits}
-use Rattle.inf_code.specs.Code.{fault_closed, no_routines, place_behind}
+use Rattle.inf_code.specs.Code.{fault_closed, labels as labels_of, no_routines, place_behind, with_none_open}
 use Rattle.inf_names.specs.Symbols.{Table, declare_fault, found_in, no_names, refer_fault, with_used}
 use Rattle.inf_names.specs.declared.symbols.DeclareFault.{DeclareFault}
 use Rattle.inf_names.specs.declared.symbols.DeclareFault.TheVariants as declaring
@@ -46,7 +46,7 @@ use Rattle.inf_unit.specs.declared.directives.Directive.TheVariants as directive
 use Rattle.inf_unit.specs.Messages.{FileNames, Blame, Reported, location, nothing_reported, with_error, with_fatal, with_fault, with_full, with_warning, with_words}
 use Rattle.inf_unit.specs.Names.{no_symbols}
 use Rattle.inf_unit.specs.Tokens.{Spelled, is_mark, number_of}
-use Rattle.inf_unit.specs.Units.{Unit, acted as unit_acted, bytes_at, first_place, kind_at, long_at, name_order, names_in, no_unit, over, quoted_in, short_name_of, taken as unit_taken}
+use Rattle.inf_unit.specs.Units.{Unit, acted as unit_acted, bytes_at, first_place, kind_at, long_at, name_order, names_in, no_unit, outer_tokens, over, quoted_in, short_name_of, taken as unit_taken}
 use Rattle.inf_output.specs.Strings.{no_strings}
 use Rattle.inf_tables.specs.Tables.{no_tables}
 use Rattle.inf_output.specs.Output.{Code, Out, begun, closed, declared, full, opened, referred}
@@ -85,16 +85,19 @@ no_output settings = record {
   kept = None;
 }
 
--- What was compiled so far: the character set of the sources; how many tokens an expression may have; the unit at hand; the statements that are open, the
--- innermost first; the labels with names and the locals of the open routine; the code and the names of the source; the messages; what a directive asks of the reading; the names of
+-- What was compiled so far: the character set of the sources; how many tokens an expression may have, and how many one had; how many labels a routine had, where
+-- units were finished; the unit at hand; the statements that are open, the innermost first, and how many that are over were closed ahead of a conditional; the labels with names and the locals of the open routine; the code and the names of the source; the messages; what a directive asks of the reading; the names of
 -- routines that are to be replaced, whether those of the file at hand may be, and those of the files that wait, the inner files first; whether the
 -- routine at hand is passed over for that; the array whose entries are read, and where they go if its header had an error; whether the
 -- values that are read are those of the property `name`, and whether the open routine is a value of a property.
 pub record Work : Type 0 where
   pub set : CharSet
   pub longest : ℕ
+  pub most_tokens : ℕ
+  pub most_labels : ℕ
   pub unit : Unit
   pub constructs : List Construct
+  pub closed : ℕ
   pub labels : List NamedLabel
   pub locals : List Local
   pub output : Out
@@ -115,8 +118,11 @@ abbrev pub no_work : CharSet → Settings → Work
 no_work set settings = record {
   set = set;
   longest = setting_number setting.ExpressionNodes settings;
+  most_tokens = 0;
+  most_labels = 0;
   unit = no_unit;
   constructs = [];
+  closed = 0;
   labels = [];
   locals = [];
   output = no_output settings;
@@ -137,12 +143,17 @@ no_work set settings = record {
 
 -- A piece begins. No locals of a routine before it are known in it.
 abbrev pub piece_begun : Work → Work
-piece_begun w = record w { unit = no_unit; constructs = []; locals = [] }
+piece_begun w = record w { unit = no_unit; constructs = []; closed = 0; locals = [] }
+
+-- the labels, branches and jumps of the open routine are counted
+abbrev pub labels_counted : Work → Work
+labels_counted w = record w { most_labels = max w.most_labels (labels_of w.output.code) }
 
 -- The end of a unit, which begins at a place: its error is told, if it has one, and then the first limit that was passed.
 abbrev pub unit_ended : FileNames → Place → Bool → Option Blame → Work → Work
 unit_ended files first has_last blame w = record w {
   unit = over has_last w.unit;
+  most_labels = max w.most_labels (labels_of w.output.code);
   report = with_full files first (full w.output) (with_fault files first blame w.report);
 }
 
@@ -153,11 +164,11 @@ laid first code w = record w { output = code (record w.output { first = first })
 -- Code begins with the first unit that is finished.
 abbrev pub begun_at : FileNames → Place → Work → Work
 begun_at files first w =
-    let o = begun w.output in record w { output = o; report = with_full files first (full o) w.report }
+    let o = begun w.output in record w { output = o; most_labels = max w.most_labels (labels_of o.code); report = with_full files first (full o) w.report }
 
--- a message at a place ends the compilation, if there is a place
+-- a message at a place ends the compilation, if there is a place; and else the tokens of the expression are counted
 abbrev pub stopped : FileNames → Option Place → Work → Work
-stopped files None w = w
+stopped files None w = record w { most_tokens = max w.most_tokens (outer_tokens w.unit) }
 stopped files (Some place) w = record w { report = with_fatal (location files place) (Exceeded setting.ExpressionNodes) w.report }
 
 -- An expression of more tokens than it may have ends the compilation, at the first token too many.
@@ -197,9 +208,13 @@ world_ended o = record o { tables = record o.tables { world = world_ended_by (no
 abbrev pub body_ended : Work → Work
 body_ended w = record w { output = world_ended w.output }
 
--- a bad token cuts the unit at hand, which surely was an expression, and the body in which it stands
+-- the routine that is open is given up
+abbrev pub given_up : Work → Work
+given_up w = record w { output = record w.output { code = with_none_open w.output.code } }
+
+-- a bad token cuts the unit at hand, which surely was an expression, and the body and the routine in which it stands
 abbrev pub cut : FileNames → Work → Work
-cut files w = sized files (body_ended (record w { unit = record w.unit { is_sure = true } }))
+cut files w = sized files (given_up (body_ended (record w { unit = record w.unit { is_sure = true } })))
 
 -- whether a token is the name of a class
 abbrev pub names_class_of : Meaning → Bool
@@ -312,6 +327,7 @@ abbrev pub close_as : RoutineKind → FileNames → Place → Work → Work
 close_as how files place w =
     let fault = fault_closed how w.output.code in
     unit_ended files place true None (record w {
+      most_labels = max w.most_labels (labels_of w.output.code);
       output = closed how w.output;
       report = with_all_unused files place w.locals (with_routine_fault files place w.labels fault w.report);
       locals = [];
@@ -338,8 +354,13 @@ abbrev pub words_of : CharSet → Unit → Words
 words_of set u = record { bytes = quoted_in u.tokens; set = set }
 
 -- What a constant stands for, by its expression: a known number, or what a name stands for that was declared before.
+-- a constant that is a routine is none itself
+abbrev pub as_constant : Meaning → Meaning
+as_constant (meaning.Routine place) = meaning.PackedAddress place
+as_constant m = m
+
 abbrev pub declared_meaning : Found Place → Option Meaning
-declared_meaning (found.Declared m place) = Some m
+declared_meaning (found.Declared m place) = Some (as_constant m)
 declared_meaning (found.System m) = None
 declared_meaning found.Used = None
 declared_meaning found.Unknown = None

@@ -1,5 +1,5 @@
 -- The units of a routine that have expressions, and the statements that hold others.
-use Rattle.std.specs.Prelude.{ℕ, List, [], ◌∷◌, map, Bool, true, false, if◌then◌else◌, Option, Some, None}
+use Rattle.std.specs.Prelude.{ℕ, ◌-◌, nat_lt, max, List, [], ◌∷◌, map, Bool, true, false, if◌then◌else◌, Option, Some, None}
 use Rattle.inf_scanner.specs.declared.tokens.Place.{Place}
 use Rattle.inf_expressions.specs.declared.findings.Finding.{Finding}
 use Rattle.inf_expressions.specs.declared.units.Wanted.{Wanted}
@@ -13,7 +13,7 @@ use Rattle.inf_unit.specs.Units.{first_place, last_place, order, own_place, prep
 use Rattle.inf_unit.specs.declared.items.Item.{Item}
 use Rattle.inf_unit.specs.declared.items.Item.TheVariants as item
 use Rattle.inf_statements.specs.Cases.{case_code}
-use Rattle.inf_statements.specs.Constructs.{Laying, are_own, begun, between, cases_begun, changed, condition_label, ended, entered, is_late, looped_over, next_case, stepped}
+use Rattle.inf_statements.specs.Constructs.{Laying, all_ended, are_own, begun, between, cases_begun, changed, condition_label, ended, entered, is_late, looped_over, next_case, stepped}
 use Rattle.inf_statements.specs.Effects.{Site, misplaced_default, only_if, site_finding, statement_finding, statement_laid, wanted_by}
 use Rattle.inf_statements.specs.Statements.{alone, statement_in, switched, tested, tree_in}
 use Rattle.inf_statements.specs.declared.constructs.Construct.{Construct}
@@ -137,3 +137,11 @@ construct_joined w = constructs_laid (changed between w.constructs) w
 
 abbrev pub construct_ended : Work → Work
 construct_ended w = constructs_laid (ended w.constructs) w
+
+-- The innermost is over. It may have been closed ahead of a conditional.
+abbrev pub construct_closed : Work → Work
+construct_closed w = if nat_lt 0 w.closed then record w { closed = w.closed - 1 } else construct_ended w
+
+-- Where a conditional stands next, so many of the innermost are closed that the next token ends, whatever it is.
+abbrev pub closed_ahead : ℕ → Work → Work
+closed_ahead count w = record (constructs_laid (all_ended (count - w.closed) w.constructs) w) { closed = max w.closed count }

@@ -10,8 +10,11 @@ abbrev pub work : CodeWork → Work
 work w = record {
   set = w.set;
   longest = w.longest;
+  most_tokens = w.most_tokens;
+  most_labels = w.most_labels;
   unit = unit w.unit;
   constructs = w.constructs;
+  closed = w.closed;
   labels = w.labels;
   locals = listed w.locals;
   output = w.output;

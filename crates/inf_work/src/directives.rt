@@ -7,7 +7,7 @@ ghost use Rattle.inf_symbol.specs.Spellings.{as_name};
 ghost use Rattle.inf_unit.specs.Blames.{blamed};
 ghost use Rattle.inf_unit.specs.Messages.{location, with_words};
 ghost use Rattle.inf_unit.specs.Units.{quoted_in};
-ghost use Rattle.inf_work.specs.Actions.{constant_blame, constant_finding, constant_meaning, declared_meaning, is_declared, leaf_meaning, name_finding, named_leaf, stub_locals, used_name};
+ghost use Rattle.inf_work.specs.Actions.{as_constant, constant_blame, constant_finding, constant_meaning, declared_meaning, is_declared, leaf_meaning, name_finding, named_leaf, stub_locals, used_name};
 ghost use Rattle.inf_statements.specs.Operands.{leaf_added};
 
 use crate::findings::{blame_of, name_fault};
@@ -238,7 +238,7 @@ impl Work {
     {
         let name = named_leaf(&self.unit.tokens, self.unit.gathering.leaves());
         match self.output.names.look(name) {
-            Found::Declared(meaning, _) => Some(meaning),
+            Found::Declared(meaning, _) => Some(as_constant(meaning)),
             Found::System(_) | Found::Used | Found::Unknown => None,
         }
     }
@@ -329,6 +329,16 @@ fn named_leaf<'t>(tokens: &'t UnitTokens, leaves: &[Leaf]) -> &'t [u8]
     match leaves.first() {
         Some(Leaf::Name(at)) => tokens.bytes_at(*at),
         _ => b"",
+    }
+}
+
+/// What a constant stands for that is what something else stands for: one that is a routine is none itself.
+fn as_constant(meaning: Meaning) -> Meaning
+    ensures { result ≡ as_constant meaning }
+{
+    match meaning {
+        Meaning::Routine(place) => Meaning::PackedAddress(place),
+        _ => meaning,
     }
 }
 

@@ -120,6 +120,7 @@ impl Work {
     fn close_code(&mut self, files: &Stack, place: Place) -> Result<(), AllocError>
         ensures { OnOk result (work self.new ≡ code_closed files.now.names place (work self.old)) }
     {
+        self.count_labels();
         let fault = self.output.close(kind_ended(self.is_embedded))?;
         tell_fault(fault, &self.labels, files, place, &mut self.report)?;
         tell_unused(&self.locals, files, place, &mut self.report)?;

@@ -44,11 +44,16 @@ pub struct Work {
     pub(crate) alloc: Global,
     /// The character set of the sources.
     pub(crate) set: CharSet,
-    /// The most tokens of an expression.
+    /// The most tokens that an expression may have, and that one had so far.
     longest: usize,
+    pub most_tokens: usize,
+    /// The most labels, branches and jumps that a routine had so far, where units were finished.
+    pub most_labels: usize,
     pub(crate) unit: Unit,
     /// The statements that are open.
     pub(crate) constructs: Constructs,
+    /// How many that the next token ends, whatever it is, were closed before it, since a conditional stands before it.
+    closed: usize,
     /// The labels with names of the routine that was opened last.
     pub(crate) labels: Labels,
     /// Its locals.
@@ -109,7 +114,8 @@ fn names_class(found: Found<Place>) -> bool
 
 impl Work {
     ghost use Rattle.inf_unit.specs.Directives.{Nothing, asked, asks};
-    ghost use Rattle.inf_work.specs.Actions.{begun_at, cut, entered, is_class, is_deep, left, nested, no_work, passed, piece_begun, sized, token_checked, took, unit_ended};
+    ghost use Rattle.inf_work.specs.Actions.{begun_at, cut, entered, is_class, is_deep, labels_counted, left, nested, no_work, passed, piece_begun, sized, token_checked, took, unit_ended};
+    ghost use Rattle.inf_work.specs.Parts.{closed_ahead, construct_closed};
     ghost use Rattle.inf_work.specs.Acting.{act, acted};
     ghost use Rattle.inf_work.specs.Works.{work};
 
@@ -121,8 +127,11 @@ impl Work {
             alloc,
             set,
             longest: settings.of(Setting::ExpressionNodes) as usize,
+            most_tokens: 0,
+            most_labels: 0,
             unit: Unit::new(alloc),
             constructs: Constructs::new(alloc),
+            closed: 0,
             labels: Labels::new(alloc),
             locals: Locals::new(),
             output: no_output(alloc, settings)?,
@@ -198,6 +207,7 @@ impl Work {
     {
         self.unit.clear();
         self.constructs.clear();
+        self.closed = 0;
         self.locals = Locals::new();
     }
 
@@ -207,7 +217,36 @@ impl Work {
         ensures { OnOk result (work self.new ≡ begun_at files.now.names first (work self.old)) }
     {
         self.output.begin();
+        self.count_labels();
         self.report.full(files, first, self.output.full())
+    }
+
+    /// The labels, branches and jumps of the open routine are counted.
+    pub(crate) fn count_labels(&mut self)
+        ensures { work self.new ≡ labels_counted (work self.old) }
+    {
+        self.most_labels = self.most_labels.max(self.output.code.labels());
+    }
+
+    /// So many of the innermost statements are over, whatever the next token is, and a conditional stands before it: they are closed now.
+    pub fn close_ahead(&mut self, count: usize) -> Result<(), AllocError>
+        ensures { OnOk result (work self.new ≡ closed_ahead count (work self.old)) }
+    {
+        let more = count.saturating_sub(self.closed);
+        self.constructs.end_all(more, &mut self.output)?;
+        self.closed = self.closed.max(count);
+        Ok(())
+    }
+
+    /// The innermost statement is over. It may have been closed before.
+    fn close_construct(&mut self) -> Result<(), AllocError>
+        ensures { OnOk result (work self.new ≡ construct_closed (work self.old)) }
+    {
+        if self.closed > 0 {
+            self.closed -= 1;
+            return Ok(());
+        }
+        self.constructs.end(&mut self.output)
     }
 
     /// A token is taken.
@@ -219,12 +258,13 @@ impl Work {
         self.check_token(files, token)
     }
 
-    /// A bad token cuts the unit at hand, of which the outermost expression surely was one.
+    /// A bad token cuts the unit at hand, of which the outermost expression surely was one. The routine in which it stands is given up.
     pub fn cut(&mut self, files: &Stack) -> Result<(), AllocError>
         ensures { OnOk result (work self.new ≡ cut files.now.names (work self.old)) }
     {
         self.unit.is_sure = true;
         self.end_body()?;
+        self.output.code.give_up();
         self.size(files)
     }
 
@@ -287,8 +327,8 @@ impl Work {
             Action::Else | Action::Until | Action::ForTop | Action::Loop => {
                 self.constructs.go_on(&mut self.output)
             }
-            Action::Close => self.constructs.end(&mut self.output),
-            Action::OuterSure => {
+            Action::Close => self.close_construct(),
+            Action::OuterSure | Action::OuterWord => {
                 self.unit.act(action)?;
                 self.size(files)
             }
@@ -300,13 +340,14 @@ impl Work {
     fn size(&mut self, files: &Stack) -> Result<(), AllocError>
         ensures { OnOk result (work self.new ≡ sized files.now.names (work self.old)) }
     {
-        match self.unit.long_at(self.longest) {
-            Some(place) => self.report.fatal(
+        if let Some(place) = self.unit.long_at(self.longest) {
+            return self.report.fatal(
                 location(files, place),
                 &Message::Exceeded(Setting::ExpressionNodes),
-            ),
-            None => Ok(()),
+            );
         }
+        self.most_tokens = self.most_tokens.max(self.unit.outer_tokens());
+        Ok(())
     }
 
     /// Whether brackets, braces and compound statements, with so many more, stand too deep in one another.
@@ -357,6 +398,7 @@ impl Work {
         ensures { OnOk result (work self.new ≡ unit_ended files.now.names first has_last None (work self.old)) }
     {
         self.unit.end(has_last);
+        self.count_labels();
         self.report.full(files, first, self.output.full())
     }
 

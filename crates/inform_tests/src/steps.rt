@@ -25,6 +25,14 @@ const SOURCE: &[u8] =
 const SIDES: &[u8] =
     b"Constant K;\nIfdef L; Constant A; #Endif; Ifndef K;\nMessage \"x\";\n#Ifnot; Message \"y\"; Endif; [ Main; #Ifdef L; print \"a\"; #Ifnot; print \"b\"; #Endif; ];\n";
 
+/// Expressions of some tokens, in conditions between directives and inside a routine, too; labels of two routines, one of which a bad token ends: what
+/// stands behind its last whole statement does not count.
+const EXPRESSIONS: &[u8] =
+    b"Iftrue 1 + 2 * 3 == 7;\nEndif;\n[ Main i; while (i < 9) if (i == 4) i++; #Iftrue (2 + 3 + 4 + 5 + 6) > 1; i = 1; #Endif; ];\n[ R x; if (x) if (x > 1) if (x > 2) { x = 1; 5 } ];\nConstant C = 1 + 2;\n[ S; do { } until (1); ];\n";
+
+/// The line behind the bad token of these.
+const CUT: &str = "t.inf(4): Error: Syntax error at \"}\"\n";
+
 /// The lines behind the bad token.
 const BAD: &str = "abc\ne\nt.inf(4): Error: Syntax error at \"5\"\n";
 
@@ -53,13 +61,25 @@ impl<'a> Run<'a> {
         Ok(came)
     }
 
+    /// Makes two steps, and answers how much there is behind them of what the settings bound.
+    fn two_parts(&mut self) -> Result<[usize; 15], Fail>
+        requires is_open { length self.old.session.open_files.outer < length self.old.files.openings.open_places }
+        requires goes { self.old.session.open_files.lexer.has_failed ≡ false }
+        requires set { IsSet self.old.session }
+        ensures is_open { length self.new.session.open_files.outer < length self.new.files.openings.open_places }
+    {
+        self.go_on()?;
+        self.go_on()?;
+        Ok(self.session.held())
+    }
+
     /// Makes a step, and asserts what has to stand behind it.
     fn step(
         &mut self,
         rt: &impl Abort,
         wanted: Step,
         lines: &str,
-        counts: [usize; 4],
+        counts: [usize; 6],
     ) -> Result<(), Fail>
         requires is_open { length self.old.session.open_files.outer < length self.old.files.openings.open_places }
         requires goes { self.old.session.open_files.lexer.has_failed ≡ false }
@@ -166,58 +186,72 @@ impl<'a> Run<'a> {
     }
 }
 
-/// What a step comes to, the messages behind it, and the longest quoted token, the names, the bytes of code, and the references then.
-type Wanted = (Step, &'static str, [usize; 4]);
+/// What a step comes to, the messages behind it, and the longest quoted token, the tokens of the longest expression, the names, the most
+/// labels of a routine, the bytes of code, and the references then.
+type Wanted = (Step, &'static str, [usize; 6]);
 
-/// Asserts the longest quoted token, the names, the bytes of code, and the references. Nothing else is counted yet.
-fn assert_held(rt: &impl Abort, held: [usize; 15], counts: [usize; 4]) {
-    let [quoted, names, code, references] = counts;
-    // Each story has four objects, whose property tables have 30 bytes.
+/// Asserts the longest quoted token, the tokens of the longest expression, the names, the most labels of a routine, the bytes of code, and the
+/// references. Nothing else is counted yet.
+fn assert_held(rt: &impl Abort, held: [usize; 15], counts: [usize; 6]) {
+    let [quoted, tokens, names, labels, code, references] = counts;
+    // Each story has four objects, whose property tables have 30 bytes, and a low string of two.
     let wanted = [
-        quoted, 0, names, 0, 0, 4, 0, 0, 0, 30, 0, 0, code, 0, references,
+        quoted, tokens, names, labels, 0, 4, 0, 0, 0, 30, 0, 2, code, 0, references,
     ];
     assert!(rt; held == wanted, "{held:?}");
 }
 
 /// All steps of the source.
 static STEPS: [Wanted; 12] = [
-    (Step::More, "abc\n", [3, 0, 8, 5]),
-    (Step::More, "abc\n", [3, 2, 16, 7]),
+    (Step::More, "abc\n", [3, 0, 0, 0, 8, 5]),
+    (Step::More, "abc\n", [3, 3, 2, 0, 16, 7]),
     // a conditional with the side that it leaves out, and the directive behind this side
-    (Step::More, "abc\n", [3, 2, 16, 7]),
-    (Step::More, "abc\n", [3, 2, 16, 7]),
-    (Step::More, "abc\n", [3, 3, 16, 7]),
-    (Step::More, "abc\ne\n", [3, 3, 16, 7]),
-    (Step::More, "abc\ne\n", [3, 3, 16, 7]),
-    (Step::More, "abc\ne\n", [5, 3, 24, 7]),
-    (Step::More, BAD, [5, 3, 24, 7]),
+    (Step::More, "abc\n", [3, 3, 2, 0, 16, 7]),
+    (Step::More, "abc\n", [3, 3, 2, 0, 16, 7]),
+    (Step::More, "abc\n", [3, 3, 3, 0, 16, 7]),
+    (Step::More, "abc\ne\n", [3, 3, 3, 0, 16, 7]),
+    (Step::More, "abc\ne\n", [3, 3, 3, 0, 16, 7]),
+    (Step::More, "abc\ne\n", [5, 3, 3, 0, 24, 7]),
+    (Step::More, BAD, [5, 3, 3, 0, 24, 7]),
     // the end of the file
-    (Step::More, BAD, [5, 3, 24, 7]),
+    (Step::More, BAD, [5, 3, 3, 0, 24, 7]),
     // behind the end nothing is read
-    (Step::End, BAD, [5, 3, 24, 7]),
-    (Step::End, BAD, [5, 3, 24, 7]),
+    (Step::End, BAD, [5, 3, 3, 0, 24, 7]),
+    (Step::End, BAD, [5, 3, 3, 0, 24, 7]),
 ];
 
 /// All steps of the source of conditionals.
 static CHOICES: [Wanted; 10] = [
-    (Step::More, "", [0, 1, 8, 5]),
-    (Step::More, "", [0, 1, 8, 5]),
-    (Step::More, "", [0, 1, 8, 5]),
-    (Step::More, "", [0, 1, 8, 5]),
-    (Step::More, "", [0, 1, 8, 5]),
-    (Step::More, "y\n", [1, 1, 8, 5]),
-    (Step::More, "y\n", [1, 1, 8, 5]),
+    (Step::More, "", [0, 0, 1, 0, 8, 5]),
+    (Step::More, "", [0, 0, 1, 0, 8, 5]),
+    (Step::More, "", [0, 0, 1, 0, 8, 5]),
+    (Step::More, "", [0, 0, 1, 0, 8, 5]),
+    (Step::More, "", [0, 0, 1, 0, 8, 5]),
+    (Step::More, "y\n", [1, 0, 1, 0, 8, 5]),
+    (Step::More, "y\n", [1, 0, 1, 0, 8, 5]),
     // sides inside a routine are part of it
-    (Step::More, "y\n", [1, 2, 16, 5]),
-    (Step::More, "y\n", [1, 2, 16, 5]),
-    (Step::End, "y\n", [1, 2, 16, 5]),
+    (Step::More, "y\n", [1, 0, 2, 0, 16, 5]),
+    (Step::More, "y\n", [1, 0, 2, 0, 16, 5]),
+    (Step::End, "y\n", [1, 0, 2, 0, 16, 5]),
 ];
 
 /// All steps of a bad piece.
 static BAD_STEPS: [Wanted; 3] = [
-    (Step::More, FIVE, [0, 0, 0, 4]),
-    (Step::More, FIVE, [0, 0, 0, 4]),
-    (Step::End, FIVE, [0, 0, 0, 4]),
+    (Step::More, FIVE, [0, 0, 0, 0, 0, 4]),
+    (Step::More, FIVE, [0, 0, 0, 0, 0, 4]),
+    (Step::End, FIVE, [0, 0, 0, 0, 0, 4]),
+];
+
+/// All steps of the source of expressions and labels.
+static COUNTED: [Wanted; 8] = [
+    (Step::More, "", [0, 7, 0, 0, 8, 5]),
+    (Step::More, "", [0, 7, 0, 0, 8, 5]),
+    (Step::More, "", [0, 13, 1, 8, 28, 5]),
+    (Step::More, CUT, [0, 13, 2, 8, 28, 5]),
+    (Step::More, CUT, [0, 13, 3, 8, 28, 5]),
+    (Step::More, CUT, [0, 13, 4, 8, 32, 5]),
+    (Step::More, CUT, [0, 13, 4, 8, 32, 5]),
+    (Step::End, CUT, [0, 13, 4, 8, 32, 5]),
 ];
 
 /// Makes these steps, one after the other.
@@ -262,6 +296,29 @@ fn a_step_reads_one_part(rt: HostRuntime) -> Result<(), Fail> {
 #[test]
 fn a_side_that_is_left_out_is_part_of_its_directive(rt: HostRuntime) -> Result<(), Fail> {
     play(&rt, rt.alloc(), SIDES, &CHOICES, None)
+}
+
+#[test]
+fn expressions_and_labels_are_counted(rt: HostRuntime) -> Result<(), Fail> {
+    play(&rt, rt.alloc(), EXPRESSIONS, &COUNTED, None)
+}
+
+/// A word counts once, as an entry of an array it is an expression of one token, and each is a reference of two bytes.
+#[test]
+fn words_and_entries_are_counted(rt: HostRuntime) -> Result<(), Fail> {
+    let settings = usual();
+    let source = b"[ Main; ]; Array a --> 'xa' 'xb' 'xa';";
+    let mut run = Run::begin(rt.alloc(), &settings, source)?;
+    match run.two_parts() {
+        Ok(held) => {
+            assert!(rt;
+                held == [2, 1, 2, 0, 2, 4, 0, 0, 0, 30, 6, 2, 12, 0, 8],
+                "{held:?}"
+            );
+            run.end(&rt, None)
+        }
+        Err(fail) => run.give_up(fail),
+    }
 }
 
 /// Behind the last step a session ends with the last line.

@@ -1,4 +1,3 @@
-use Rattle.std.proofs.Common.{◌≡◌}
 use Rattle.std.proofs.lemmas.Str.{IsUtf8-from_ascii}
 use Rattle.inf_session.proofs.Shown.{names_are_ascii}
 use Rattle.inf_session.proofs.session.shown.Goals as goal

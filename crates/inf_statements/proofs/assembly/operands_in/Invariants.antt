@@ -1,4 +1,4 @@
-use Rattle.std.proofs.Common.{◌≡◌, ◌+◌, ◌-◌, ◌≤◌, ◌++◌, length, drop}
+use Rattle.std.proofs.Common.{◌≡◌, ◌≤◌, ◌++◌, length, drop}
 use Rattle.inf_statements.specs.Assembly.{operands_in}
 use Rattle.inf_statements.specs.Statements.{trees_from}
 use Rattle.inf_statements.proofs.assembly.operands_in.Given as goal

@@ -1,13 +1,12 @@
 -- What stands behind the finished routines is the closed one and its padding; a lost one gives nothing.
-use Rattle.std.specs.Prelude.{nat_lt, ◌≤◌, ◌+◌, MatchResult, Bool}
+use Rattle.std.specs.Prelude.{nat_lt, MatchResult, Bool}
 use Rattle.std.proofs.Common.{◌≡◌, ◌⊎◌, false, true, refl, List, ◌++◌, length, Option, Some, None, sym, ◌∙◌, ap, subst}
-use Rattle.inf_area.specs.Fixups.{Fixups}
 use Rattle.inf_assembler.specs.declared.routines.CloseFault.{CloseFault}
 use Rattle.inf_assembler.specs.declared.routines.CloseFault.TheVariants as close_fault
 use Rattle.inf_assembler.specs.Routines.{State, contents_of}
 use Rattle.inf_cells.specs.declared.cells.Cell.{Cell as CodeCell}
-use Rattle.inf_code.specs.Code.{Routines, IsCode, open_in, closed_cells, place_behind, source_cells, with_closed, fault_closed, fault_behind, room, zeros_behind}
-use Rattle.inf_code.proofs.CodeSteps.{closed_size, code_after, finished_closed}
+use Rattle.inf_code.specs.Code.{Routines, IsCode, open_in, closed_cells, place_behind, source_cells, with_closed, fault_closed, fault_behind}
+use Rattle.inf_code.proofs.CodeSteps.{closed_size, code_after, finished_closed, size_finished}
 use Rattle.inf_code.proofs.Ends.{is_first, told_first, told_lost, zeros_none, zeros_told}
 use Rattle.inf_code.proofs.code.Code.close.Goals as goal
 
@@ -18,16 +17,15 @@ returns-then-self-clause-fault c =
     let kind = c.args.kind in
     let some : inside.routine ≡ Some routine = sym c.take.ensures.value ∙ c.in-Some.is in
     let lost : inside.is_lost ≡ true = c.if-self.true in
-    let is : IsCode (room inside.limits) inside.finished inside.refs inside.area true (Some routine) =
-    subst (λ b. IsCode (room inside.limits) inside.finished inside.refs inside.area b (Some routine)) lost (subst (IsCode (room inside.limits) inside.finished inside.refs inside.area inside.is_lost) some c.self.invariant.0) in
+    let is : IsCode inside.limits inside.finished inside.refs inside.area (Some routine) =
+    (subst (IsCode inside.limits inside.finished inside.refs inside.area) some c.self.invariant.0) in
     let before = source_cells inside.finished inside.refs inside.area in
     let With : Bool → Option State → Routines = λ b r. record { limits = inside.limits; scale = inside.scale; has_begun = inside.has_begun; finished = before; opened = open_in inside.area b r } in
     let Tells : Option CloseFault → Type 0 = λ wrong. MatchResult c.close_lost.result (λ _. wrong ≡ None) (λ fault. (fault ≡ close_fault.Memory) ⊎ (wrong ≡ Some fault)) in
-    let first = is_first (room inside.limits) inside.has_begun inside.finished inside.refs inside.spare inside.area true routine kind is c.self.invariant.1.1 inside.spare refl in
-    let told = subst (λ (f : Fixups). MatchResult c.close_lost.result (λ _. fault_behind (record { labels = routine.limits.labels; code = routine.limits.code; refs = inside.spare.limit }) routine.start (length f.list) (contents_of routine inside.area) ≡ None)
-    (λ fault. (fault ≡ close_fault.Memory) ⊎ (fault_behind (record { labels = routine.limits.labels; code = routine.limits.code; refs = inside.spare.limit }) routine.start (length f.list) (contents_of routine inside.area) ≡ Some fault))) (sym c.self.invariant.1.1) c.close_lost.ensures.fault in
+    let start = is.behind.start ∙ sym (size_finished inside.limits inside.finished inside.refs inside.area (Some routine) is) in
+    let told = subst (λ n. Tells (fault_behind n 0 (contents_of routine inside.area))) start c.close_lost.ensures.fault in
     subst Tells (ap (λ r. fault_closed kind (With true r)) (sym some) ∙ ap (λ b. fault_closed kind (With b inside.routine)) (sym lost) ∙ ap (fault_closed kind) c.self.view_is)
-    (told_lost c.close_lost.result _ (subst (λ wrong. MatchResult c.close_lost.result (λ _. wrong ≡ None) (λ fault. (fault ≡ close_fault.Memory) ⊎ (wrong ≡ Some fault))) first told))
+    (told_lost c.close_lost.result _ told)
 
 pub returns-in-Err-clause-fault : goal.returns-in-Err-clause-fault
 returns-in-Err-clause-fault c =
@@ -36,12 +34,12 @@ returns-in-Err-clause-fault c =
     let kind = c.args.kind in
     let some : inside.routine ≡ Some routine = sym c.take.ensures.value ∙ c.in-Some.is in
     let kept : inside.is_lost ≡ false = c.if-self.false in
-    let is : IsCode (room inside.limits) inside.finished inside.refs inside.area false (Some routine) =
-    subst (λ b. IsCode (room inside.limits) inside.finished inside.refs inside.area b (Some routine)) kept (subst (IsCode (room inside.limits) inside.finished inside.refs inside.area inside.is_lost) some c.self.invariant.0) in
+    let is : IsCode inside.limits inside.finished inside.refs inside.area (Some routine) =
+    (subst (IsCode inside.limits inside.finished inside.refs inside.area) some c.self.invariant.0) in
     let before = source_cells inside.finished inside.refs inside.area in
     let With : Bool → Option State → Routines = λ b r. record { limits = inside.limits; scale = inside.scale; has_begun = inside.has_begun; finished = before; opened = open_in inside.area b r } in
     let Tells : Option CloseFault → Type 0 = λ wrong. (c.in-Err.fault ≡ close_fault.Memory) ⊎ (wrong ≡ Some c.in-Err.fault) in
-    let first = is_first (room inside.limits) inside.has_begun inside.finished inside.refs inside.spare inside.area false routine kind is c.self.invariant.1.1 inside.refs refl in
+    let first = is_first inside.limits inside.finished inside.refs inside.spare inside.area false routine kind is c.self.invariant.1.1 inside.refs refl in
     subst Tells (ap (λ r. fault_closed kind (With false r)) (sym some) ∙ ap (λ b. fault_closed kind (With b inside.routine)) (sym kept) ∙ ap (fault_closed kind) c.self.view_is)
     (told_first _ _ c.in-Err.fault (subst Tells first c.in-Err.ensures.fault))
 
@@ -50,13 +48,13 @@ invariant_of-self-2 c =
     let inside = c.self.inside in
     let routine = c.in-Some.routine in
     let some : inside.routine ≡ Some routine = sym c.take.ensures.value ∙ c.in-Some.is in
-    let is : IsCode (room inside.limits) inside.finished inside.refs inside.area inside.is_lost (Some routine) = subst (IsCode (room inside.limits) inside.finished inside.refs inside.area inside.is_lost) some c.self.invariant.0 in
+    let is : IsCode inside.limits inside.finished inside.refs inside.area (Some routine) = subst (IsCode inside.limits inside.finished inside.refs inside.area) some c.self.invariant.0 in
     let whole = c.fill_up.new.area in
     let listed = c.close.new.refs in
     let few = c.in_default-fill_up.ensures.room in
-    let after = code_after inside.scale c.args.kind (room inside.limits) inside.finished inside.refs listed inside.area c.close.new.area whole routine c.in-Ok.closed inside.is_lost is c.in-Ok.ensures.ok inside.is_lost c.in_default-fill_up.ensures.ok few in
-    let none : IsCode (room inside.limits) (length whole) listed whole inside.is_lost c.take.new.self = subst (IsCode (room inside.limits) (length whole) listed whole inside.is_lost) (sym c.take.ensures.after) after in
-    (subst (λ n. IsCode (room inside.limits) n listed whole inside.is_lost c.take.new.self) (sym c.len-self-inside.ensures.value) none, c.self.invariant.1)
+    let after = code_after inside.scale c.args.kind inside.limits inside.finished inside.refs listed inside.area c.close.new.area whole routine c.in-Ok.closed is c.in-Ok.ensures.ok c.in_default-fill_up.ensures.ok few in
+    let none : IsCode inside.limits (length whole) listed whole c.take.new.self = subst (IsCode inside.limits (length whole) listed whole) (sym c.take.ensures.after) after in
+    (subst (λ n. IsCode inside.limits n listed whole c.take.new.self) (sym c.len-self-inside.ensures.value) none, c.self.invariant.1)
 
 pub returns-clause-ok : goal.returns-clause-ok
 returns-clause-ok c =
@@ -65,11 +63,11 @@ returns-clause-ok c =
     let kind = c.args.kind in
     let some : inside.routine ≡ Some routine = sym c.take.ensures.value ∙ c.in-Some.is in
     let kept : inside.is_lost ≡ false = c.if-self.false in
-    let is : IsCode (room inside.limits) inside.finished inside.refs inside.area inside.is_lost (Some routine) = subst (IsCode (room inside.limits) inside.finished inside.refs inside.area inside.is_lost) some c.self.invariant.0 in
+    let is : IsCode inside.limits inside.finished inside.refs inside.area (Some routine) = subst (IsCode inside.limits inside.finished inside.refs inside.area) some c.self.invariant.0 in
     let whole = c.fill_up.new.area in
     let listed = c.close.new.refs in
     let before = source_cells inside.finished inside.refs inside.area in
-    let closed = finished_closed inside.scale kind (room inside.limits) inside.finished inside.refs listed inside.area c.close.new.area whole routine c.in-Ok.closed inside.is_lost is c.in-Ok.ensures.ok c.in_default-fill_up.ensures.ok in
+    let closed = finished_closed inside.scale kind inside.limits inside.finished inside.refs listed inside.area c.close.new.area whole routine c.in-Ok.closed is c.in-Ok.ensures.ok c.in_default-fill_up.ensures.ok in
     let Of : List CodeCell → Option State → Routines = λ cells r. record { limits = inside.limits; scale = inside.scale; has_begun = inside.has_begun; finished = cells; opened = open_in whole inside.is_lost r } in
     let With : Bool → Option State → Routines = λ b r. record { limits = inside.limits; scale = inside.scale; has_begun = inside.has_begun; finished = before ++ closed_cells inside.scale kind (place_behind before) (open_in inside.area b r); opened = None } in
     ap (λ n. Of (source_cells n listed whole) c.take.new.self) c.len-self-inside.ensures.value
@@ -83,17 +81,17 @@ returns-in-Err-fill_up-clause-fault c =
     let kind = c.args.kind in
     let some : inside.routine ≡ Some routine = sym c.take.ensures.value ∙ c.in-Some.is in
     let kept : inside.is_lost ≡ false = c.if-self.false in
-    let is : IsCode (room inside.limits) inside.finished inside.refs inside.area false (Some routine) =
-    subst (λ b. IsCode (room inside.limits) inside.finished inside.refs inside.area b (Some routine)) kept (subst (IsCode (room inside.limits) inside.finished inside.refs inside.area inside.is_lost) some c.self.invariant.0) in
+    let is : IsCode inside.limits inside.finished inside.refs inside.area (Some routine) =
+    (subst (IsCode inside.limits inside.finished inside.refs inside.area) some c.self.invariant.0) in
     let before = source_cells inside.finished inside.refs inside.area in
     let With : Bool → Option State → Routines = λ b r. record { limits = inside.limits; scale = inside.scale; has_begun = inside.has_begun; finished = before; opened = open_in inside.area b r } in
     let written = c.close.new.area in
-    let size_is = closed_size inside.scale kind (room inside.limits) inside.finished inside.refs c.close.new.refs inside.area written routine c.in-Ok.closed false is c.in-Ok.ensures.ok in
+    let size_is = closed_size inside.scale kind inside.limits inside.finished inside.refs c.close.new.refs inside.area written routine c.in-Ok.closed is c.in-Ok.ensures.ok in
     let same = ap (nat_lt inside.limits.code) size_is in
-    let first = is_first (room inside.limits) inside.has_begun inside.finished inside.refs inside.spare inside.area false routine kind is c.self.invariant.1.1 inside.refs refl in
+    let first = is_first inside.limits inside.finished inside.refs inside.spare inside.area false routine kind is c.self.invariant.1.1 inside.refs refl in
     let Tells : Option CloseFault → Type 0 = λ wrong. (c.in-Err-fill_up.fault ≡ close_fault.Memory) ⊎ (wrong ≡ Some c.in-Err-fill_up.fault) in
     subst Tells (ap (λ r. fault_closed kind (With false r)) (sym some) ∙ ap (λ b. fault_closed kind (With b inside.routine)) (sym kept) ∙ ap (fault_closed kind) c.self.view_is)
-    (zeros_told _ (room inside.limits).code _ c.in-Err-fill_up.fault _ (sym first ∙ c.in-Ok.ensures.fault) same c.in-Err-fill_up.ensures.fault)
+    (zeros_told _ inside.limits.code _ c.in-Err-fill_up.fault _ (sym first ∙ c.in-Ok.ensures.fault) same c.in-Err-fill_up.ensures.fault)
 
 pub returns-clause-fault : goal.returns-clause-fault
 returns-clause-fault c =
@@ -102,13 +100,13 @@ returns-clause-fault c =
     let kind = c.args.kind in
     let some : inside.routine ≡ Some routine = sym c.take.ensures.value ∙ c.in-Some.is in
     let kept : inside.is_lost ≡ false = c.if-self.false in
-    let is : IsCode (room inside.limits) inside.finished inside.refs inside.area false (Some routine) =
-    subst (λ b. IsCode (room inside.limits) inside.finished inside.refs inside.area b (Some routine)) kept (subst (IsCode (room inside.limits) inside.finished inside.refs inside.area inside.is_lost) some c.self.invariant.0) in
+    let is : IsCode inside.limits inside.finished inside.refs inside.area (Some routine) =
+    (subst (IsCode inside.limits inside.finished inside.refs inside.area) some c.self.invariant.0) in
     let before = source_cells inside.finished inside.refs inside.area in
     let With : Bool → Option State → Routines = λ b r. record { limits = inside.limits; scale = inside.scale; has_begun = inside.has_begun; finished = before; opened = open_in inside.area b r } in
     let written = c.close.new.area in
-    let size_is = closed_size inside.scale kind (room inside.limits) inside.finished inside.refs c.close.new.refs inside.area written routine c.in-Ok.closed false is c.in-Ok.ensures.ok in
+    let size_is = closed_size inside.scale kind inside.limits inside.finished inside.refs c.close.new.refs inside.area written routine c.in-Ok.closed is c.in-Ok.ensures.ok in
     let over = ap (nat_lt inside.limits.code) size_is ∙ c.in_default-fill_up.ensures.fault in
-    let first = is_first (room inside.limits) inside.has_begun inside.finished inside.refs inside.spare inside.area false routine kind is c.self.invariant.1.1 inside.refs refl in
+    let first = is_first inside.limits inside.finished inside.refs inside.spare inside.area false routine kind is c.self.invariant.1.1 inside.refs refl in
     subst (λ wrong. wrong ≡ None) (ap (λ r. fault_closed kind (With false r)) (sym some) ∙ ap (λ b. fault_closed kind (With b inside.routine)) (sym kept) ∙ ap (fault_closed kind) c.self.view_is)
-    (zeros_none _ (room inside.limits).code _ (sym first ∙ c.in-Ok.ensures.fault) over)
+    (zeros_none _ inside.limits.code _ (sym first ∙ c.in-Ok.ensures.fault) over)

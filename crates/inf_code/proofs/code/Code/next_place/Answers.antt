@@ -1,10 +1,10 @@
 -- The first routine and the cells are as many bytes as those that are finished.
 use Rattle.std.proofs.Common.{◌∙◌, ap, sym}
-use Rattle.inf_code.specs.Code.{Routines, place_behind, room}
+use Rattle.inf_code.specs.Code.{Routines, place_behind}
 use Rattle.inf_code.proofs.CodeSteps.{size_finished}
 use Rattle.inf_code.proofs.code.Code.next_place.Goals as goal
 
 pub returns : goal.returns
 returns c =
     let inside = c.self.inside in
-    sym (size_finished (room inside.limits) inside.finished inside.refs inside.area inside.is_lost inside.routine c.self.invariant.0) ∙ ap (λ (r : Routines). place_behind r.finished) c.self.view_is
+    sym (size_finished inside.limits inside.finished inside.refs inside.area inside.routine c.self.invariant.0) ∙ ap (λ (r : Routines). place_behind r.finished) c.self.view_is

@@ -5,8 +5,7 @@ use Rattle.std.specs.Prelude.{nat_lt}
 use Rattle.inf_assembler.specs.declared.routines.Setting.{Setting}
 use Rattle.inf_assembler.specs.declared.routines.Setting.TheVariants as setting
 use Rattle.inf_assembler.specs.Routines.{refusal}
-use Rattle.inf_code.specs.declared.code.CodeLimits.{CodeLimits}
-use Rattle.inf_code.specs.Code.{full_behind_bytes, full_opened, full_unless, most, room}
+use Rattle.inf_code.specs.Code.{full_behind_bytes, full_opened, full_before, unlimited}
 use Rattle.inf_code.proofs.CodeSteps.{length_finished, size_finished}
 use Rattle.inf_code.proofs.Full.{code_is_free}
 use Rattle.inf_code.proofs.code.Code.open.Goals as goal
@@ -14,27 +13,26 @@ use Rattle.inf_code.proofs.code.Code.open.Goals as goal
 pub returns-in-Some-clause-fault : goal.returns-in-Some-clause-fault
 returns-in-Some-clause-fault c =
     let inside = c.self.inside in
-    let count = size_finished (room inside.limits) inside.finished inside.refs inside.area inside.is_lost inside.routine c.self.invariant.0 in
+    let count = size_finished inside.limits inside.finished inside.refs inside.area inside.routine c.self.invariant.0 in
     let same = ap (full_behind_bytes inside.limits c.args.is_lost inside.has_begun) (sym count) ∙ ap (full_opened c.args.is_lost) c.self.view_is in
     ap refusal (sym c.in-Some.is ∙ c.full_opened.ensures ∙ same)
 
 pub returns-in_err-routine-clause-fault : goal.returns-in_err-routine-clause-fault
 returns-in_err-routine-clause-fault c =
     let inside = c.self.inside in
-    let bound = room inside.limits in
-    let free_of = most c.args.is_lost bound in
-    let count = size_finished bound inside.finished inside.refs inside.area inside.is_lost inside.routine c.self.invariant.0 in
+    let bound = inside.limits in
+    let count = size_finished bound inside.finished inside.refs inside.area inside.routine c.self.invariant.0 in
     let same = ap (full_behind_bytes inside.limits c.args.is_lost inside.has_begun) (sym count) ∙ ap (full_opened c.args.is_lost) c.self.view_is in
     let none : full_behind_bytes inside.limits c.args.is_lost inside.has_begun inside.finished ≡ None = sym c.full_opened.ensures ∙ c.in_default.is in
-    let cut = ap length c.cut_back.ensures ∙ length_finished bound inside.finished inside.refs inside.area inside.is_lost inside.routine c.self.invariant.0 in
-    let Full : ℕ → Option Setting = λ n. cond (nat_lt free_of.code (n + 1)) (Some setting.Code) None in
-    let free : Full inside.finished ≡ None = code_is_free (nat_lt free_of.code (inside.finished + 1)) (full_unless inside.has_begun inside.limits) none in
+    let cut = ap length c.cut_back.ensures ∙ length_finished bound inside.finished inside.refs inside.area inside.routine c.self.invariant.0 in
+    let Full : ℕ → Option Setting = λ n. cond (nat_lt unlimited (n + 1)) (Some setting.Code) None in
+    let free : Full inside.finished ≡ None = code_is_free (nat_lt unlimited (inside.finished + 1)) (full_before c.args.is_lost inside.has_begun inside.limits) none in
     let p = err_from_is_err_and c.from_residual.result c.from_residual.ensures.1 in
-    rw (p.1, p.2) (c.in_err-routine.ensures.fault ∙ ap (λ (l : CodeLimits). refusal (cond (nat_lt l.code (length c.cut_back.new.area + 1)) (Some setting.Code) None)) (c.most-room.ensures ∙ ap (most c.args.is_lost) c.room.ensures) ∙ ap refusal (ap Full cut ∙ free ∙ sym none ∙ same))
+    rw (p.1, p.2) (c.in_err-routine.ensures.fault ∙ ap refusal (ap Full cut ∙ free ∙ sym none ∙ same))
 
 pub returns-clause-fault : goal.returns-clause-fault
 returns-clause-fault c =
     let inside = c.self.inside in
-    let count = size_finished (room inside.limits) inside.finished inside.refs inside.area inside.is_lost inside.routine c.self.invariant.0 in
+    let count = size_finished inside.limits inside.finished inside.refs inside.area inside.routine c.self.invariant.0 in
     let same = ap (full_behind_bytes inside.limits c.args.is_lost inside.has_begun) (sym count) ∙ ap (full_opened c.args.is_lost) c.self.view_is in
     sym same ∙ sym c.full_opened.ensures ∙ c.in_default.is

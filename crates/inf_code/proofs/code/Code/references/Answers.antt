@@ -6,21 +6,20 @@ use Rattle.inf_code.proofs.Full.{later_stands_for}
 use Rattle.inf_code.proofs.code.Code.references.Goals as goal
 
 pub overflow_add-result : goal.overflow_add-result
-overflow_add-result c = let has = c.self.invariant.1.0.1 c.if-self.true in
-    omega (arith, has.1, c.self.invariant.1.0.0.1, c.len.ensures.limited, c.self.invariant.0.limit)
+overflow_add-result c = omega (arith, c.len.ensures.limited, c.self.invariant.0.limit)
 
 pub overflow_add-result-else-self : goal.overflow_add-result-else-self
-overflow_add-result-else-self c = omega (arith, c.self.invariant.1.0.0.1, c.len-else-self.ensures.limited, c.self.invariant.0.limit)
+overflow_add-result-else-self c = omega (arith, c.len-else-self.ensures.limited, c.self.invariant.0.limit)
 
-pub returns-then-self-clause-value : goal.returns-then-self-clause-value
-returns-then-self-clause-value c =
+pub returns-then-self : goal.returns-then-self
+returns-then-self c =
     let inside = c.self.inside in
     let cells = source_cells inside.finished inside.refs inside.area in
     let count = c.len.ensures.value ∙ sym (later_stands_for 8 inside.refs.list (source_bytes inside.finished inside.area) cells c.self.invariant.0.stands) in
     ap (λ n. 5 + n) count ∙ ap (λ b. cond b 5 4 + later_count cells) (sym c.if-self.true) ∙ ap reference_count c.self.view_is
 
-pub returns-else-self-clause-value : goal.returns-else-self-clause-value
-returns-else-self-clause-value c =
+pub returns-else-self : goal.returns-else-self
+returns-else-self c =
     let inside = c.self.inside in
     let cells = source_cells inside.finished inside.refs inside.area in
     let count = c.len-else-self.ensures.value ∙ sym (later_stands_for 8 inside.refs.list (source_bytes inside.finished inside.area) cells c.self.invariant.0.stands) in

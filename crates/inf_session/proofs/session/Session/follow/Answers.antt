@@ -1,4 +1,4 @@
-use Rattle.std.proofs.Common.{inr, ap, subst, sym}
+use Rattle.std.proofs.Common.{inr, ap}
 use Rattle.inf_opcode.proofs.Growing.{on_err}
 use Rattle.inf_session.specs.Choices.{chosen}
 use Rattle.inf_session.specs.Session.{State}

@@ -1,4 +1,4 @@
-use Rattle.std.proofs.Common.{rules, ℕ, List, ◌+◌, IfErr, IsTrue, length, ap, refl, sym, subst, ◌∙◌, arith}
+use Rattle.std.proofs.Common.{rules, ℕ, List, ◌+◌, IfErr, IsTrue, ap, refl, sym, subst, ◌∙◌}
 use Rattle.inf_opcode.proofs.Growing.{on_err}
 use Rattle.inf_token.specs.Files.{Rose, Sources}
 use Rattle.inf_lexer.proofs.Candidates.{rose_earlier}

@@ -1,4 +1,4 @@
-use Rattle.std.proofs.Common.{◌≡◌, ℕ, ◌+◌, ◌<◌, ◌≤◌, false, IsTrue, length, cond, suc}
+use Rattle.std.proofs.Common.{◌≡◌, ℕ, ◌<◌, false, length, cond, suc}
 use Rattle.inf_sources.specs.Calls.{Honestly, StaysFit, Went}
 use Rattle.inf_session.specs.Choices.{chosen}
 use Rattle.inf_session.specs.Delivered.{Appends}

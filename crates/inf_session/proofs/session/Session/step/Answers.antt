@@ -1,4 +1,4 @@
-use Rattle.std.proofs.Common.{rules, ◌≡◌, ℕ, ◌≤◌, List, suc, zero, [], false, true, IfErr, IsTrue, length, ap, refl, sym, subst, ◌∙◌, arith}
+use Rattle.std.proofs.Common.{rules, ◌≡◌, ℕ, ◌≤◌, List, suc, zero, [], false, true, IfErr, IsTrue, ap, refl, sym, subst, ◌∙◌}
 use Rattle.inf_opcode.proofs.Growing.{on_err}
 use Rattle.inf_token.specs.Files.{Rose, Sources}
 use Rattle.inf_lexer.proofs.Candidates.{rose_earlier}
@@ -10,7 +10,7 @@ use Rattle.inf_work.proofs.Limits.{same_then}
 use Rattle.inf_session.specs.Choices.{Choices, chosen, most_quoted}
 use Rattle.inf_session.specs.Faults.{Caused, IfRead}
 use Rattle.inf_session.specs.Leading.{CutsShort, GivenUp, OpensWithin, StopsFor, Writes}
-use Rattle.inf_session.specs.Session.{has_ended, run, turn}
+use Rattle.inf_session.specs.Session.{has_ended, turn}
 use Rattle.inf_session.specs.Standing.{came_to, ended, parted, state}
 use Rattle.inf_session.proofs.Delivering.{appends_then}
 use Rattle.inf_session.proofs.Leadings.{cuts_then, given_up, opened_then, part_first, part_none, part_then, still_going, stops_more, writes_none, writes_then}

@@ -7,7 +7,8 @@ use Rattle.inf_sources.proofs.Places.{files_are}
 use Rattle.inf_session.specs.Leading.{StopsInToken}
 use Rattle.inf_sources.specs.Quoted.{is_quoted_kind}
 use Rattle.inf_output.specs.Limits.{bounds}
-use Rattle.inf_reader.proofs.Limits.{judged_taken_same}
+use Rattle.inf_output.specs.Output.{Out}
+use Rattle.inf_reader.proofs.Limits.{judged_taken_same, said_same}
 use Rattle.inf_session.proofs.Bounds.{quoted_within}
 use Rattle.inf_session.proofs.Standings.{read_caused}
 use Rattle.inf_reader.specs.Reading.{Stand, is_mode_ended}
@@ -31,7 +32,7 @@ returns-clause-moves g c =
     let took = c.in-Ok.ensures.took in
     elim took.one [
       | inl end ↦ inl (ap (λ (s : Stand). is_mode_ended s.reading.mode) c.in_ok-take_judged.ensures
-          ∙ end_ends c.names-2.result.now.names token.kind c.spelling.result.now token.place before.progress.work.output.names before.conditionals (reporting (standing before.progress) c.tell.new.report) c.site-site.result _ _ c.in_ok-judged.ensures end)
+          ∙ end_ends c.names-2.result.now.names token.kind c.spelling.result.now token.place before.progress.work.output before.conditionals (reporting (standing before.progress) c.tell.new.report c.tell.new.out) c.site-site.result _ _ c.in_ok-judged.ensures end)
       | inr less ↦ inr (room_less c.args.self.now.open_files.lexer c.next.new.self.lexer less c.in-Ok.ensures.few)
     ]
 
@@ -63,9 +64,13 @@ returns-in-Err-Read-clause-stops g c = λ honest start nested.
 pub returns-clause-limits : goal.returns-clause-limits
 returns-clause-limits g c =
     let token = c.in-Ok.token in
-    let same = judged_taken_same c.names-2.result.now.names (spelled_as token.kind c.spelling.result.now token.place) c.in_ok-judged.judged (reporting (standing c.args.self.now.progress) c.tell.new.report) in
-    let is = c.in_ok-take_judged.ensures in
-    (ap (λ (s : Stand). s.work.output.names.limit) is ∙ same.0, ap (λ (s : Stand). bounds s.work.output) is ∙ same.1)
+    let same = judged_taken_same c.names-2.result.now.names (spelled_as token.kind c.spelling.result.now token.place) c.in_ok-judged.judged (reporting (standing c.args.self.now.progress) c.tell.new.report c.tell.new.out) in
+    let added = c.in_ok-tell.ensures.right in
+    let kept = said_same c.take.new.self.said c.args.self.now.progress.work.output in
+    let is = c.in_ok-take_judged.ensures in (
+      ap (λ (s : Stand). s.work.output.names.limit) is ∙ same.0 ∙ ap (λ (o : Out). o.names.limit) added ∙ kept.0,
+      ap (λ (s : Stand). bounds s.work.output) is ∙ same.1 ∙ ap bounds added ∙ kept.1,
+    )
 
 pub returns-clause-longest : goal.returns-clause-longest
 returns-clause-longest g c = λ before.
@@ -89,12 +94,13 @@ returns-clause-stepped g c = λ honest start nested told.
     let spelled = spelled_as token.kind bytes token.place in
     let is = token_is before token.kind bytes token.place reads.kind reads.place (c.spelling.ensures ∙ reads.bytes) in
     let site = c.site-site.ensures in
-    let behind_it = c.in_ok-judged.ensures ∙ ap (λ site. judged site before.work.output.names spelled before.conditions) site in
+    let behind_it = c.in_ok-judged.ensures ∙ ap (λ site. judged site before.work.output spelled before.conditions) site in
     let said = c.take.new.self.said in
     let told = c.in_ok-tell.ensures.told ∙ ap (λ names. with_said names said before.work.report) told_names in
     let taken =
-    c.in_ok-take_judged.ensures ∙ ap (λ names. judged_taken names spelled c.in_ok-judged.judged (reporting (stand_of before) c.tell.new.report)) taken_names
-    ∙ ap (λ (r : Reported). judged_taken names spelled c.in_ok-judged.judged (reporting (stand_of before) r)) told in
+    c.in_ok-take_judged.ensures ∙ ap (λ names. judged_taken names spelled c.in_ok-judged.judged (reporting (stand_of before) c.tell.new.report c.tell.new.out)) taken_names
+    ∙ ap (λ (r : Reported). judged_taken names spelled c.in_ok-judged.judged (reporting (stand_of before) r c.tell.new.out)) told
+    ∙ ap (λ (o : Out). judged_taken names spelled c.in_ok-judged.judged (reporting (stand_of before) (with_said names said before.work.report) o)) c.in_ok-tell.ensures.right in
     let longest = c.quoted_behind-self.ensures ∙ ap (λ site. quoted_behind site c.in_ok-judged.judged spelled before.quoted) site in
     step_is before now (record { now = c.take.new.self; judged = c.in_ok-judged.judged }) c.tell.new.self (standing c.take_judged.new.self) c.quoted_behind-self.result spelled
     reads.goes_on is behind_it c.in_ok-tell.ensures.silent taken longest

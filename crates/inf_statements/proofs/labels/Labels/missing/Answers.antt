@@ -1,4 +1,4 @@
-use Rattle.std.proofs.Common.{◌≡◌, ◌<◌, ◌+◌, List, ℕ, Option, drop, length, sym, ap, ◌∙◌, arith}
+use Rattle.std.proofs.Common.{◌<◌, ◌+◌, List, ℕ, Option, drop, length, sym, ap, ◌∙◌, arith}
 use Rattle.inf_statements.specs.Labels.{missing}
 use Rattle.inf_statements.proofs.Named.{missing_step, or_else}
 use Rattle.inf_statements.proofs.labels.Labels.missing.Goals as goal

@@ -1,4 +1,4 @@
-use Rattle.std.proofs.Common.{◌≡◌, drop, map, take, ap, sym, ◌∙◌, arith}
+use Rattle.std.proofs.Common.{drop, map, take, ap, sym, ◌∙◌, arith}
 use Rattle.inf_unit.specs.Kept.{as_spelled}
 use Rattle.inf_unit.proofs.KeptOnes.{kept_at, swapped_to_front}
 use Rattle.inf_unit.proofs.unit_tokens.UnitTokens.keep_one.Goals as goal

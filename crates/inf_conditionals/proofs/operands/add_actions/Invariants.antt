@@ -1,0 +1,7 @@
+use Rattle.std.proofs.Common.{◌≡◌, drop}
+use Rattle.inf_conditionals.specs.Operands.{actions_added}
+use Rattle.inf_conditionals.proofs.operands.add_actions.Given as goal
+
+-- those of the leaves that are left, behind those before, are those of all
+abbrev pub invariant-loop-leaf : goal.invariant-loop-leaf
+invariant-loop-leaf l = actions_added l.tokens (drop l.leaf-index l.leaves) l.out ≡ actions_added l.tokens l.leaves l.fn.out
