@@ -1,13 +1,14 @@
 -- What a story's sink takes of what was compiled.
 use Rattle.std.specs.Prelude.{Result, Ok, Err, IfOk, IfErr, MatchResult, option_map}
-use Rattle.std.proofs.Common.{◌≡◌, inl, inr, ℕ, Bool, List, Option, Some, None, refl, ap, subst, sym, ◌∙◌}
+use Rattle.std.proofs.Common.{◌≡◌, ◌==◌, inl, inr, ℕ, Bool, true, false, cond, List, [], ◌∷◌, codes, length, Option, Some, None, refl, ap, subst, sym, ◌∙◌}
+use Rattle.std.proofs.Math.Dec.{eqb-suc-zero}
 use Rattle.inf_characters.specs.declared.characters.CharSet.{CharSet}
 use Rattle.inf_settings.specs.declared.settings.Settings.{Settings}
 use Rattle.inf_token.specs.Files.{Openings, Sources}
 use Rattle.inf_session.specs.Choices.{Choices}
 use Rattle.inf_outcome.specs.Comes.{Begins, Comes, OpenedBy, OpenedPart}
 use Rattle.inf_session.specs.Leading.{IsFront}
-use Rattle.inf_session.specs.Ending.{Ending}
+use Rattle.inf_session.specs.Ending.{Ending, missing}
 use Rattle.inf_session.specs.Session.{State}
 use Rattle.inf_session.proofs.Leadings.{front_same}
 use Rattle.inf_outcome.proofs.OutcomeLaws.{outcomes_are_unique}
@@ -16,9 +17,11 @@ use Rattle.inf_session.specs.declared.compiled.Status.{Status}
 use Rattle.inf_session.specs.declared.compiled.Status.TheVariants as status
 use Rattle.inf_session.specs.declared.faults.Fault.{Fault}
 use Rattle.inf_session.specs.declared.faults.Fault.TheVariants as fault
-use Rattle.inf_session.specs.Delivered.{EndsClean}
-use Rattle.inf_session.specs.Faults.{Caused, IfStory}
-use Rattle.inf_compile.specs.Compiling.{Compiles, DeliversPart, HasCause, OnlyStory, TakesPart, TakesStory, story_in}
+use Rattle.inf_session.specs.Delivered.{EndsClean, TakesFront}
+use Rattle.inf_session.specs.Faults.{Caused, IfRead, IfStory, UnlessStory}
+use Rattle.inf_compile.specs.Compiling.{Compiles, DeliversPart, HasCause, OnlyStory, TakesPart, TakesStory, named_by, no_sources, story_in}
+use Rattle.inf_symbol.specs.Sinks.{Takes}
+use Rattle.inf_words.specs.FileNames.{source_name}
 
 -- what was compiled was delivered
 pub compiles : (s : Sources) (o : Choices) (serial name : List ℕ) (old new : Openings) (before after story_old story_new : Option (List ℕ)) (c : Compiled) (status : Status)
@@ -110,3 +113,67 @@ caused_behind (Err fault.Memory) P A R X h = tt
 caused_behind (Err (fault.Read name)) P A R X h = absurd h
 caused_behind (Err fault.Messages) P A R X h = absurd h
 caused_behind (Err (fault.Story n)) P A R X h = h.0
+
+-- An empty word names no file
+
+pub named_all : (word : List ℕ) (s : Sources) → (length word == 0) ≡ false → named_by word s ≡ s
+named_all word s e = ap (λ b. cond b no_sources s) e
+
+pub all_named : (P : Sources → Type 0) (word : List ℕ) (s : Sources) → (length word == 0) ≡ false → P s → P (named_by word s)
+all_named P word s e p = subst P (sym (named_all word s e)) p
+
+no_bytes : (b : ℕ) (word : List ℕ) → (length (b ∷ word) == 0) ≡ true → ⊥
+no_bytes b word e = let never : false ≡ true = sym (eqb-suc-zero (length word)) ∙ e in cc
+
+-- status and messages are those of a source that is not there, and no story comes
+pub refused_compiles : (word date : List ℕ) (s : Sources) (o : Choices) (r : Status) (before after story_old story_new : Option (List ℕ)) → (length word == 0) ≡ true → r ≡ status.Errors
+    → Takes before after (missing (codes ".inf")).messages → story_new ≡ story_old → Compiles (named_by word s) o date (source_name word) r before after story_old story_new
+refused_compiles [] date s o r before after story_old story_new e is takes same =
+    record { ending = missing (codes ".inf"); is_outcome = refl; status_is = is; messages = takes; story = same }
+refused_compiles (b ∷ word) date s o r before after story_old story_new e is takes same = absurd (no_bytes b word e)
+
+pub refused_begins : (word date : List ℕ) (s : Sources) (o : Choices) (before after : Option (List ℕ)) → (length word == 0) ≡ true
+    → TakesFront (missing (codes ".inf")).messages before after → Begins (named_by word s) o date (source_name word) before after
+refused_begins [] date s o before after e t =
+    record { front = t.front; takes = t.takes; begins = λ x outcome. subst (λ (y : Ending). IsFront t.front y.messages) (sym outcome) t.begins }
+refused_begins (b ∷ word) date s o before after e t = absurd (no_bytes b word e)
+
+-- nothing is opened
+pub refused_opens : (word : List ℕ) (s : Sources) (o : Choices) (old : Openings) → (length word == 0) ≡ true
+    → OpenedBy (named_by word s (source_name word)) (named_by word s) o (source_name word) old old
+refused_opens [] s o old e = refl
+refused_opens (b ∷ word) s o old e = absurd (no_bytes b word e)
+
+-- no fault of it is one of reading or of the story
+pub none_read : (fault : Fault) (writing : Type 0) (P : List ℕ → Type 0) → HasCause fault (λ name. ⊥) writing (λ n. ⊥) → IfRead fault P
+none_read fault.Memory writing P cause = tt
+none_read (fault.Read name) writing P cause = absurd cause
+none_read fault.Messages writing P cause = tt
+none_read (fault.Story n) writing P cause = tt
+
+pub none_told : (fault : Fault) (writing : Type 0) (P : ℕ → Type 0) → HasCause fault (λ name. ⊥) writing (λ n. ⊥) → IfStory fault P
+none_told fault.Memory writing P cause = tt
+none_told (fault.Read name) writing P cause = tt
+none_told fault.Messages writing P cause = tt
+none_told (fault.Story n) writing P cause = absurd cause
+
+pub more_caused : (fault : Fault) (writing : Type 0) (P : List ℕ → Type 0) (Q : ℕ → Type 0) → HasCause fault (λ name. ⊥) writing (λ n. ⊥) → HasCause fault P writing Q
+more_caused fault.Memory writing P Q cause = tt
+more_caused (fault.Read name) writing P Q cause = absurd cause
+more_caused fault.Messages writing P Q cause = cause
+more_caused (fault.Story n) writing P Q cause = absurd cause
+
+pub untouched_always : (fault : Fault) (story : Option (List ℕ)) → UnlessStory fault (story ≡ story)
+untouched_always fault.Memory story = refl
+untouched_always (fault.Read name) story = refl
+untouched_always fault.Messages story = refl
+untouched_always (fault.Story n) story = tt
+
+no_success : (r : Status) (P : Type 0) → r ≡ status.Errors → r ≡ status.Success → P
+no_success r P is success = let never : status.Errors ≡ status.Success = sym is ∙ success in cc
+
+-- it is no success
+pub none_clean : (r : Result Status Fault) (writing A : Type 0) → IfOk r (λ s. s ≡ status.Errors) → IfErr r (λ fault. HasCause fault (λ name. ⊥) writing (λ n. ⊥))
+    → MatchResult r (λ s. s ≡ status.Success → A) (λ fault. IfStory fault (λ n. A))
+none_clean (Ok s) writing A is cause = λ success. no_success s A is success
+none_clean (Err fault) writing A is cause = none_told fault writing (λ n. A) cause

@@ -1,5 +1,5 @@
 -- What a compilation leaves in its devices.
-use Rattle.std.specs.Prelude.{◌≡◌, ℕ, ◌<◌, List, length, take, Option, Some, None, option_map, string_bytes}
+use Rattle.std.specs.Prelude.{◌≡◌, ℕ, ◌<◌, ◌==◌, List, length, take, if◌then◌else◌, Option, Some, None, option_map, string_bytes}
 use Rattle.inf_token.specs.Files.{Sources}
 use Rattle.inf_symbol.specs.Sinks.{Takes}
 use Rattle.inf_words.specs.Directories.{directories_of}
@@ -15,6 +15,13 @@ use Rattle.inf_session.specs.declared.compiled.Status.{Status}
 -- what the words of a command choose of the reading
 abbrev pub chosen_by : Choice → Choices
 chosen_by c = record { set = c.letters.set; has_warnings = c.letters.has_warnings; settings = c.settings; directories = directories_of c.path }
+
+-- An empty word names no file: with it no source is there.
+abbrev pub no_sources : Sources
+no_sources name = None
+
+abbrev pub named_by : List ℕ → Sources → Sources
+named_by word sources = if length word == 0 then no_sources else sources
 
 -- the bytes of a story, if there is one
 abbrev pub story_in : Compiled → Option (List ℕ)

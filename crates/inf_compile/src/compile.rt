@@ -1,13 +1,16 @@
-ghost use Rattle.std.specs.Prelude.{◌≡◌, IsTrue, IfOk, IfErr, MatchResult, Ok, OnOk, OnErr};
+ghost use Rattle.std.specs.Prelude.{◌≡◌, codes, IsTrue, IfOk, IfErr, MatchResult, Ok, OnOk, OnErr};
+ghost use Rattle.inf_symbol.specs.Sinks.{Takes};
 ghost use Rattle.inf_token.specs.Files.{Rose};
 ghost use Rattle.inf_words.specs.FileNames.{source_name};
 ghost use Rattle.inf_outcome.specs.Comes.{Begins, Heard, IsUnread, OpenedBy, OpenedPart};
-ghost use Rattle.inf_session.specs.Delivered.{EndsClean};
+ghost use Rattle.inf_session.specs.Delivered.{EndsClean, TakesFront};
+ghost use Rattle.inf_session.specs.Ending.{missing};
 ghost use Rattle.inf_session.specs.Faults.{IfRead, IfStory, UnlessStory};
-ghost use Rattle.inf_compile.specs.Compiling.{Compiles, DeliversPart, HasCause, OnlyStory, TakesPart, TakesStory, chosen_by, story_in};
+ghost use Rattle.inf_compile.specs.Compiling.{Compiles, DeliversPart, HasCause, OnlyStory, TakesPart, TakesStory, chosen_by, named_by, story_in};
 
 use inf_outcome::translation::translate;
-use inf_session::compiled::{Compiled, Status};
+use inf_session::compiled::{Compiled, Status, written};
+use inf_session::ending::no_file;
 use inf_session::faults::Fault;
 use inf_session::setup::Setup;
 use inf_symbol::sinks::{Sink, write_whole};
@@ -30,18 +33,8 @@ fn deliver<S: Sink>(compiled: &Compiled, story: &mut S) -> Result<Status, Fault>
     Ok(compiled.status)
 }
 
-/// Compiles the source that the options name, with the files that it includes: writes each message as soon as it is found, and
-/// the story where no error was found.
-///
-/// `date` is the story's serial number, six ASCII digits. The source's name is the word for it,
-/// with `.inf` where its last part has no extension; a name that is not there is a fatal message. Included files are
-/// looked for in the directories of the options. `Status` tells whether an error is among the messages.
-///
-/// Of the faults, `Memory` comes where a growth was refused; `Read` where a file could not be opened or read, is longer than
-/// 16,777,216 bytes, or is one of more than 65,535 names, and names it: as it was opened, or where it was not, as the
-/// inclusion has it; `Messages` and `Story` where a write of that sink failed or took nothing, `Story` with the number
-/// of the story's bytes that were written. Only then has the story's sink taken anything beside a whole story.
-pub fn compile<F: Files, M: Sink, S: Sink>(
+/// Compiles the source that the options name by a word that is not empty.
+fn compile_named<F: Files, M: Sink, S: Sink>(
     alloc: Global,
     options: &Options<'_>,
     date: [u8; 6],
@@ -49,42 +42,25 @@ pub fn compile<F: Files, M: Sink, S: Sink>(
     messages: &mut M,
     story: &mut S,
 ) -> Result<Status, Fault>
-    // With an honest reader, status, messages and story are those of the outcome of the sources that it has.
     ensures headline { IsTrue (F.is_honest files.old) → IfOk result (λ status.
         Compiles (F.sources files.old) (chosen_by options.now) date (source_name options.now.source) status
         (M.taken messages.old) (M.taken messages.new) (S.taken story.old) (S.taken story.new)) }
-
-    // The openings are then those of the reading, in its order, each once, and all were closed again.
     ensures once { let name = source_name options.now.source in
         IsTrue (F.is_honest files.old) → OnOk result
         (OpenedBy (F.sources files.old name) (F.sources files.old) (chosen_by options.now) name (F.openings files.old) (F.openings files.new)) }
-
-    // Where a fault is answered they are those of the reading up to some turn.
     ensures opened { IsTrue (F.is_honest files.old) → OnErr result
         (OpenedPart (F.sources files.old) (chosen_by options.now) (source_name options.now.source) (F.openings files.old) (F.openings files.new)) }
-
-    // Where a fault is answered, a front of the outcome's messages was written.
     ensures begins { IsTrue (F.is_honest files.old) → OnErr result
         (Begins (F.sources files.old) (chosen_by options.now) date (source_name options.now.source) (M.taken messages.old) (M.taken messages.new)) }
-
-    // After a fault of reading it is all that comes with the tokens that were read, of some number of turns from the start, and behind them
-    // there is a cause: the device failed, the innermost file is too long, or its inclusion names one file too many.
     ensures heard { let name = source_name options.now.source in
         IsTrue (F.is_honest files.old) → IfErr result (λ fault. IfRead fault (λ told. Heard (Rose (F.faults files.old) (F.faults files.new))
         (F.sources files.old) (chosen_by options.now) name (F.openings files.old) (F.openings files.new) (M.taken messages.old) (M.taken messages.new) told)) }
-
-    // With any reader nothing is left open, no story comes with an error, and where a story came, whole or in part, the messages that were
-    // written end with the line that tells of no error.
     ensures depth { F.depth files.new ≡ F.depth files.old }
     ensures errors { result ≡ Ok Status.Errors → S.taken story.new ≡ S.taken story.old }
     ensures clean { MatchResult result (λ status. status ≡ Status.Success → EndsClean (M.taken messages.old) (M.taken messages.new))
         (λ fault. IfStory fault (λ n. EndsClean (M.taken messages.old) (M.taken messages.new))) }
-
-    // With any reader a fault has its cause.
     ensures fault { IfErr result (λ fault. HasCause fault (λ name. IsUnread F.Files files.old files.new)
         (Rose (M.failures messages.old) (M.failures messages.new)) (λ n. Rose (S.failures story.old) (S.failures story.new))) }
-
-    // What the sinks took before a fault of the story's, and that its sink took nothing before another.
     ensures part { IsTrue (F.is_honest files.old) → IfErr result (λ fault. IfStory fault (λ n.
         DeliversPart (F.sources files.old) (chosen_by options.now) date (source_name options.now.source) n
         (M.taken messages.old) (M.taken messages.new) (S.taken story.old) (S.taken story.new))) }
@@ -101,4 +77,83 @@ pub fn compile<F: Files, M: Sink, S: Sink>(
     };
     let compiled = translate(alloc, setup, files, name.as_str(), &date, messages)?;
     deliver(&compiled, story)
+}
+
+/// Tells that an empty word names no file.
+fn refuse<M: Sink>(alloc: Global, messages: &mut M) -> Result<Status, Fault>
+    ensures ok { IfOk result (λ status. (status ≡ Status.Errors) × Takes (M.taken messages.old) (M.taken messages.new) (missing (codes ".inf")).messages) }
+    ensures err { OnErr result (TakesFront (missing (codes ".inf")).messages (M.taken messages.old) (M.taken messages.new)) }
+    ensures fault { IfErr result (λ fault. HasCause fault (λ name. ⊥) (Rose (M.failures messages.old) (M.failures messages.new)) (λ n. ⊥)) }
+{
+    let ending = no_file(alloc, b".inf")?;
+    let compiled = written(ending, messages)?;
+    Ok(compiled.status)
+}
+
+/// Compiles the source that the options name, with the files that it includes: writes each message as soon as it is found, and
+/// the story where no error was found.
+///
+/// `date` is the story's serial number, six ASCII digits. The source's name is the word for it,
+/// with `.inf` where its last part has no extension; a name that is not there is a fatal message, and so is an empty word, for which nothing is
+/// opened. Included files are
+/// looked for in the directories of the options. `Status` tells whether an error is among the messages.
+///
+/// Of the faults, `Memory` comes where a growth was refused; `Read` where a file could not be opened or read, is longer than
+/// 16,777,216 bytes, or is one of more than 65,535 names, and names it: as it was opened, or where it was not, as the
+/// inclusion has it; `Messages` and `Story` where a write of that sink failed or took nothing, `Story` with the number
+/// of the story's bytes that were written. Only then has the story's sink taken anything beside a whole story.
+pub fn compile<F: Files, M: Sink, S: Sink>(
+    alloc: Global,
+    options: &Options<'_>,
+    date: [u8; 6],
+    files: &mut F,
+    messages: &mut M,
+    story: &mut S,
+) -> Result<Status, Fault>
+    // With an honest reader, status, messages and story are those of the outcome of the sources that it has.
+    ensures headline { IsTrue (F.is_honest files.old) → IfOk result (λ status.
+        Compiles (named_by options.now.source (F.sources files.old)) (chosen_by options.now) date (source_name options.now.source) status
+        (M.taken messages.old) (M.taken messages.new) (S.taken story.old) (S.taken story.new)) }
+
+    // The openings are then those of the reading, in its order, each once, and all were closed again.
+    ensures once { let name = source_name options.now.source in
+        IsTrue (F.is_honest files.old) → OnOk result
+        (OpenedBy (named_by options.now.source (F.sources files.old) name) (named_by options.now.source (F.sources files.old)) (chosen_by options.now) name (F.openings files.old) (F.openings files.new)) }
+
+    // Where a fault is answered they are those of the reading up to some turn.
+    ensures opened { IsTrue (F.is_honest files.old) → OnErr result
+        (OpenedPart (named_by options.now.source (F.sources files.old)) (chosen_by options.now) (source_name options.now.source) (F.openings files.old) (F.openings files.new)) }
+
+    // Where a fault is answered, a front of the outcome's messages was written.
+    ensures begins { IsTrue (F.is_honest files.old) → OnErr result
+        (Begins (named_by options.now.source (F.sources files.old)) (chosen_by options.now) date (source_name options.now.source) (M.taken messages.old) (M.taken messages.new)) }
+
+    // After a fault of reading it is all that comes with the tokens that were read, of some number of turns from the start, and behind them
+    // there is a cause: the device failed, the innermost file is too long, or its inclusion names one file too many.
+    ensures heard { let name = source_name options.now.source in
+        IsTrue (F.is_honest files.old) → IfErr result (λ fault. IfRead fault (λ told. Heard (Rose (F.faults files.old) (F.faults files.new))
+        (named_by options.now.source (F.sources files.old)) (chosen_by options.now) name (F.openings files.old) (F.openings files.new) (M.taken messages.old) (M.taken messages.new) told)) }
+
+    // With any reader nothing is left open, no story comes with an error, and where a story came, whole or in part, the messages that were
+    // written end with the line that tells of no error.
+    ensures depth { F.depth files.new ≡ F.depth files.old }
+    ensures errors { result ≡ Ok Status.Errors → S.taken story.new ≡ S.taken story.old }
+    ensures clean { MatchResult result (λ status. status ≡ Status.Success → EndsClean (M.taken messages.old) (M.taken messages.new))
+        (λ fault. IfStory fault (λ n. EndsClean (M.taken messages.old) (M.taken messages.new))) }
+
+    // With any reader a fault has its cause.
+    ensures fault { IfErr result (λ fault. HasCause fault (λ name. IsUnread F.Files files.old files.new)
+        (Rose (M.failures messages.old) (M.failures messages.new)) (λ n. Rose (S.failures story.old) (S.failures story.new))) }
+
+    // What the sinks took before a fault of the story's, and that its sink took nothing before another.
+    ensures part { IsTrue (F.is_honest files.old) → IfErr result (λ fault. IfStory fault (λ n.
+        DeliversPart (named_by options.now.source (F.sources files.old)) (chosen_by options.now) date (source_name options.now.source) n
+        (M.taken messages.old) (M.taken messages.new) (S.taken story.old) (S.taken story.new))) }
+    ensures untouched { IfErr result (λ fault.
+        UnlessStory fault (S.taken story.new ≡ S.taken story.old)) }
+{
+    if options.names_nothing() {
+        return refuse(alloc, messages);
+    }
+    compile_named(alloc, options, date, files, messages, story)
 }

@@ -1,6 +1,5 @@
 //! What the names of a condition stand for.
 ghost use Rattle.std.specs.Prelude.{◌≡◌, ◌≤◌, IfOk, IfSome, OnOk, length, option_map};
-ghost use Rattle.inf_statements.specs.Operands.{looked_action, new_action, word_sum};
 ghost use Rattle.inf_unit.specs.NameTokens.{named};
 ghost use Rattle.inf_conditionals.specs.Operands.{action_added, actions_added, appeared_by, bytes_of, found_operand, function_of, leaf_operand, name_operand, operand_behind, operand_of, operands_of};
 
@@ -9,8 +8,9 @@ use inf_expressions::{Function, Operand};
 use inf_gathering::gathering::Leaf;
 use inf_names::meanings::{Function as NamedFunction, Meaning};
 use inf_names::symbols::{Found, Symbols};
-use inf_output::{Output, action_key};
+use inf_output::Output;
 use inf_scanner::Place;
+use inf_statements::operands::looked_action;
 use inf_unit::unit_tokens::{NameToken, UnitTokens};
 use std::alloc::{AllocError, Global};
 
@@ -102,47 +102,6 @@ fn leaf_operand(declared: usize, names: &Symbols<Place>, tokens: &UnitTokens, le
     }
 }
 
-/// The sum of two numbers, modulo 65536.
-fn word_sum(a: usize, b: usize) -> u16
-    ensures { result ≡ word_sum a b }
-{
-    ((a % 65536 + b % 65536) % 65536) as u16
-}
-
-/// The number of an action that did not appear, behind other such ones.
-fn new_action(
-    name: NameToken<'_>,
-    out: &Output,
-    ahead: &mut Symbols<Place>,
-) -> Result<u16, AllocError>
-    requires { length name.bytes.now ≤ 32 }
-    ensures { IfOk result (λ number. (ahead.new, number) ≡ new_action (named name.entry) out.now ahead.old) }
-{
-    let key = action_key(name.bytes);
-    match ahead.refer(key.as_slice(), name.place) {
-        Ok(number) => Ok(word_sum(out.seen.len(), number.unwrap_or(0))),
-        Err(_) => Err(AllocError),
-    }
-}
-
-/// The number of an action, behind others.
-fn action_operand(
-    name: Option<NameToken<'_>>,
-    out: &Output,
-    ahead: &mut Symbols<Place>,
-) -> Result<Operand, AllocError>
-    requires { IfSome name (λ n. length n.bytes.now ≤ 32) }
-    ensures { IfOk result (λ operand. (ahead.new, operand) ≡ looked_action (option_map named name.entry) out.now ahead.old) }
-{
-    let Some(name) = name else {
-        return Ok(Operand::Known(0));
-    };
-    match out.action_number(name.bytes) {
-        Some(number) => Ok(Operand::Known(number)),
-        None => Ok(Operand::Known(new_action(name, out, ahead)?)),
-    }
-}
-
 /// What a leaf stands for of a condition with these tokens, behind other leaves with new actions.
 fn operand_behind(
     declared: usize,
@@ -154,7 +113,7 @@ fn operand_behind(
     ensures { IfOk result (λ operand. (ahead.new, operand) ≡ operand_behind declared out.now tokens.now leaf ahead.old) }
 {
     match leaf {
-        Leaf::Action(at) => action_operand(tokens.name_at(at), out, ahead),
+        Leaf::Action(at) => looked_action(tokens.name_at(at), out, ahead),
         _ => Ok(leaf_operand(declared, &out.names, tokens, leaf)),
     }
 }

@@ -101,7 +101,8 @@ pub struct DiskFiles<'r, R: rt::Files> {
     /// What went wrong so far.
     pub trouble: Trouble,
     given: GivenBytes,
-    opened: u64,
+    /// How many files were opened so far, each as often as it was.
+    pub opened: u64,
 }
 
 impl<'r, R: rt::Files> DiskFiles<'r, R> {

@@ -1,5 +1,5 @@
 -- The references and the bytes of the areas of a story.
-use Rattle.std.proofs.Common.{◌≡◌, ◌∙◌, ◌+◌, ◌-◌, ◌≤◌, ℕ, List, [], ◌∷◌, codes, cond, length, map, true, refl, sym, ap, arith}
+use Rattle.std.proofs.Common.{◌≡◌, ◌∙◌, ◌+◌, ◌-◌, ◌≤◌, ℕ, List, [], ◌∷◌, ◌++◌, cond, length, true, refl, sym, ap, arith}
 use Rattle.std.proofs.Math.Nat.{min-eq_left}
 use Rattle.std.proofs.lemmas.List.Sums.{sum_by-cons}
 use Rattle.std.specs.Prelude.{sum_by}
@@ -9,7 +9,6 @@ use Rattle.inf_arrays.specs.Arrays.{all_of, arrays_laters}
 use Rattle.inf_arrays.specs.Kinds.{laters}
 use Rattle.inf_arrays.proofs.Sizes.{globals_later, laters_written as arrays_written}
 use Rattle.inf_cells.specs.Cells.{later_count, size_of}
-use Rattle.inf_characters.specs.declared.texts.TextItem.TheVariants.{Character}
 use Rattle.inf_code.specs.Code.{Routines, code_cells, known, reference_count}
 use Rattle.inf_dictionary.specs.Words.{dictionary_bytes}
 use Rattle.inf_link.specs.Areas.{order}
@@ -22,7 +21,6 @@ use Rattle.inf_properties.specs.declared.values.Property.{Property}
 use Rattle.inf_story.specs.Tables as story
 use Rattle.inf_tables.specs.Tables.{more, references_with}
 use Rattle.inf_tables.specs.declared.tables.Tables.{Tables}
-use Rattle.inf_text.specs.Packing.{packed}
 use Rattle.inf_verbs.specs.Verbs.{verbs_laters}
 use Rattle.inf_verbs.proofs.Sizes.{later_routines, laters_written as verbs_written}
 use Rattle.inf_world.specs.Areas.{area_cells}
@@ -34,10 +32,6 @@ use Rattle.inf_laws.specs.Counts.{LimitsCountTheStory, later_in}
 later_known : (bytes : List ℕ) → later_count (known bytes) ≡ 0
 later_known [] = refl
 later_known (byte ∷ bytes) = later_known bytes
-
-no_spaces : later_count story.low_strings ≡ 0
-unfolding story.low_strings
-no_spaces = later_known (packed (map Character (codes "   ")) [])
 
 no_abbreviations : later_count story.abbreviations ≡ 0
 unfolding story.abbreviations
@@ -93,7 +87,7 @@ limits_count_the_story tables counted code main strings begun closed few =
     let all : 5 + later_count finished + ((fixups_now world - 4) + (laters tables.globals + (arrays_laters (all_of tables.arrays)
     + (verbs_laters tables.verbs.list + (length tables.actions.routines + length tables.parsing))))) ≡ later_in order (story.areas main finished strings tables) = omega (
       arith,
-      no_spaces,
+      later_known (story.three_spaces ++ tables.low_strings.bytes),
       no_abbreviations,
       counted,
       in_world,

@@ -106,9 +106,9 @@ tokens_are_handed_on files t j s =
 abbrev piece : List (Symbol Action)
 piece = Rule piece_rule ∷ []
 
-record At (tokens : List Seen) (r : Reading) : Type 0 where
-  reads : r.mode ≡ mode.Reads
-  is_read : OneMore grammar known piece (map seen_atom tokens) r.stack
+pub record At (tokens : List Seen) (r : Reading) : Type 0 where
+  pub reads : r.mode ≡ mode.Reads
+  pub is_read : OneMore grammar known piece (map seen_atom tokens) r.stack
 
 begins : (tokens : List Seen) (r : Reading) → At tokens r → BeginsPiece (map seen_atom tokens)
 begins tokens r at = record {
@@ -156,13 +156,13 @@ skips_as tokens r at =
 
 -- Where reading stands
 
-data Now (given : List Given) (r : Reading) : Type 0 where
+pub data Now (given : List Given) (r : Reading) : Type 0 where
   Inside : (tokens : List Seen) → given ≡ map Kept tokens → At tokens r → (r.stack ≡ [] → ⊥) → Now given r
   Whole : (tokens : List Seen) → given ≡ map Kept tokens → IsPiece (map seen_atom tokens) → r ≡ between mode.Reads → Now given r
   Skips : (tokens : List Seen) (wrong : Given) (behind : List Given) → given ≡ map Kept tokens ++ wrong ∷ behind → BeginsPiece (map seen_atom tokens) → IsBad tokens wrong → r ≡ between (skipped (skip_behind (map seen_atom tokens)) (wrong ∷ behind)) → Now given r
   Ended : (t : Seen) → given ≡ Kept t ∷ [] → is_end t.token.kind ≡ true → r ≡ between mode.Ended → Now given r
 
-stands : (given : List Given) (r : Reading) → Now given r → Stands given r
+pub stands : (given : List Given) (r : Reading) → Now given r → Stands given r
 stands given r (Inside tokens e at some) = InAPiece tokens e (begins tokens r at) at.reads
 stands given r (Whole tokens e is at) = BehindAPiece tokens e is at
 stands given r (Skips tokens wrong behind e begun bad_one at) = BehindABadToken tokens wrong behind e begun bad_one at
@@ -197,7 +197,7 @@ judged_now given tokens r t e at =
 
 -- The first token
 
-first : (g : Given) (r : Reading) → r ≡ between mode.Reads → Now (g ∷ []) (given_to g r)
+pub first : (g : Given) (r : Reading) → r ≡ between mode.Reads → Now (g ∷ []) (given_to g r)
 first (Kept t) r fresh =
     subst (λ (x : Reading). Now (Kept t ∷ []) x) (sym (ap (λ (x : Reading). given_to (Kept t) x) fresh))
     (of_both (λ (x : Reading). Now (Kept t ∷ []) x) (is_end t.token.kind) (record (between mode.Reads) { mode = mode.Ended })
@@ -209,7 +209,7 @@ first (Unfit t) r fresh =
 
 -- A further token
 
-skipped_more : (m : Mode) (behind : List Given) (g : Given) → skipped m (behind ++ g ∷ []) ≡ passed (skipped m behind) (token_in g).kind
+pub skipped_more : (m : Mode) (behind : List Given) (g : Given) → skipped m (behind ++ g ∷ []) ≡ passed (skipped m behind) (token_in g).kind
 skipped_more m [] g = refl
 skipped_more m (x ∷ behind) g = skipped_more (passed m (token_in x).kind) behind g
 
@@ -226,7 +226,7 @@ reads_inside : (stack : List (Symbol Action)) (t : Seen) (r : Reading) → (stac
 reads_inside [] t r some = absurd (some refl)
 reads_inside (symbol ∷ symbols) t r some = refl
 
-next : (g : Given) (before : List Given) (r : Reading) → Now before r → rests r ≡ false → Now (before ++ g ∷ []) (given_to g r)
+pub next : (g : Given) (before : List Given) (r : Reading) → Now before r → rests r ≡ false → Now (before ++ g ∷ []) (given_to g r)
 next (Kept t) before r (Inside tokens e at some) on =
     let same : given_to (Kept t) r ≡ judged_by t r = ap (λ m. kept_by m t r) at.reads ∙ reads_inside r.stack t r some in
     subst (λ (x : Reading). Now (before ++ Kept t ∷ []) x) (sym same) (judged_now before tokens r t e at)

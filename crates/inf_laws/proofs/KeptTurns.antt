@@ -41,7 +41,7 @@ heeded_reading sources o s going =
     (λ _. refl)
     (λ _. ap (λ b. (cond b (left s) (answered s.work.asked sources o (asked_nothing s))).reading) going ∙ answered_reading s.work.asked sources o (asked_nothing s))
 
-rested_reading : (s : State) → (rested s).reading ≡ s.reading
+pub rested_reading : (s : State) → (rested s).reading ≡ s.reading
 rested_reading s =
     of_both (λ (x : State). x.reading ≡ s.reading) (has_ended s) s (cond (is_resting s) (piece_closed s) s) (λ _. refl)
     (λ _. of_both (λ (x : State). x.reading ≡ s.reading) (is_resting s) (piece_closed s) s (λ _. refl) (λ _. refl))
@@ -51,7 +51,7 @@ turn_reading sources o s going = rested_reading (heeded sources o (stepped s)) �
 
 -- By what is handed on
 
-stepped_reading : (s : State) → (stepped s).reading ≡ all_given_to (given_by s) s.reading
+pub stepped_reading : (s : State) → (stepped s).reading ≡ all_given_to (given_by s) s.reading
 stepped_reading s =
     let t = token_of s.nesting.cursor in
     let b = judged (site_of s.reading) s.work.output t s.conditions in

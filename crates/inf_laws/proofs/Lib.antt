@@ -14,3 +14,6 @@ pub mod LoneEnds
 pub mod InnerSides
 pub mod KeptSides
 pub mod SideTurns
+pub mod Hashes
+pub mod PartTokens
+pub mod Parts

@@ -12,3 +12,5 @@ pub mod LoneEnds
 pub mod InnerSides
 pub mod KeptSides
 pub mod SideTurns
+pub mod Hashes
+pub mod Parts

@@ -10,6 +10,7 @@ ghost use Rattle.inf_laws.specs.KeptTurns.{TurnsReadPieces};
 ghost use Rattle.inf_laws.specs.LoneEnds.{LonesAreJudged, LonesAreTold, OnlyLonesAre, SidesFollow};
 ghost use Rattle.inf_laws.specs.NameEvents.{FewHaveRoom, FirstDeclarationsCount, OperandsUse, UndeclaredAreTold, UnitsDeclare};
 ghost use Rattle.inf_laws.specs.SideTurns.{ReadingsStartClear, TurnsCutInnerSides, TurnsHandOn, TurnsKeepSides};
+ghost use Rattle.inf_laws.specs.Parts.{PartsArePieces, PartsEndWithPieces};
 ghost use Rattle.inf_laws.specs.Sides.{SidesAgree, SidesAreCut, SidesEnd, ValuesDecide};
 ghost use Rattle.inf_laws.specs.Skipping.{DirectivesAreSkipped, RoutinesAreSkipped, SourcesEnd};
 ghost use Rattle.inf_laws.specs.UnusedLocals.{HeadersMakeNew, UnusedAreWarned};
@@ -113,6 +114,14 @@ pub fn kept_tokens_are_read()
     ensures handed_on { TokensAreHandedOn }
     ensures read { KeptTokensAreRead }
     ensures turns { TurnsReadPieces }
+{}
+
+/// The parts of a reading, which the steps of a session read, are the pieces of its files: from any place between two pieces on, the turns of one part
+/// hand on nothing, as those of a conditional directive with the side that it leaves out do, or the tokens of one piece, whole or bad, or the end of a file.
+/// Where a piece or a file ends with a turn, so does the part.
+pub fn parts_are_pieces()
+    ensures pieces { PartsArePieces }
+    ensures ends { PartsEndWithPieces }
 {}
 
 /// What the limits of code and of references look at are the bytes of the story's code and the references of all of its areas.

@@ -28,8 +28,9 @@ use Rattle.inf_names.specs.declared.meanings.Meaning.TheVariants as meaning
 use Rattle.inf_verbs.specs.Routines.{action_fault}
 use Rattle.inf_verbs.specs.declared.routines.ActionFault.{ActionFault}
 use Rattle.inf_output.specs.Actions.{action_by, action_of, appeared, fake_number, faked, faked_by, first_seen, key_of, next_fake, numbered_as, numbered_by, one_fake, routine_name, routine_of, routine_used, seen_by}
+use Rattle.inf_tables.specs.LowStrings.{low_fits}
 use Rattle.inf_output.specs.Strings.{fits}
-use Rattle.inf_output.specs.Output.{Code, Out, apart, behind, begun, begun_by, closed, closed_by, code_closed, declared, declared_by, fitted, full_item, grown, in_routine, instruction, jumped, laid, laid_all, laid_by, marked, naming, next_label, nothing, opened, opened_by, passed, passed_table, past_of, referred, referred_as, referred_by, routine, symbols_passed, together, used, used_by, with_label, with_labels_left, with_routine, with_text, with_text_by, with_word, with_word_by, ◌▸◌}
+use Rattle.inf_output.specs.Output.{Code, Out, apart, behind, begun, begun_by, closed, closed_by, code_closed, declared, declared_by, fitted, full_item, grown, in_routine, instruction, jumped, laid, laid_all, laid_by, marked, naming, next_label, nothing, opened, opened_by, passed, passed_table, past_of, referred, referred_as, referred_by, routine, symbols_passed, together, used, used_by, with_label, with_labels_left, with_low_text, with_low_text_by, with_routine, with_text, with_text_by, with_word, with_word_by, ◌▸◌}
 use Rattle.inf_dictionary.specs.declared.dictionary.AddFault.{AddFault as WordFault}
 use Rattle.inf_dictionary.specs.declared.dictionary.AddFault.TheVariants as word_fault
 use Rattle.inf_dictionary.specs.declared.uses.WordUse.{WordUse}
@@ -229,6 +230,13 @@ with_text_keeps text o = with_text_by_keeps (fits text o.strings) text o
 
 pub passed_table_keeps : (limit : Setting) → Keeps (passed_table limit)
 passed_table_keeps limit o = (refl, refl)
+
+with_low_text_by_keeps : (b : Bool) (text : List ℕ) → Keeps (with_low_text_by b text)
+with_low_text_by_keeps true text o = (refl, refl)
+with_low_text_by_keeps false text o = (refl, refl)
+
+pub with_low_text_keeps : (text : List ℕ) → Keeps (with_low_text text)
+with_low_text_keeps text o = with_low_text_by_keeps (low_fits text o.tables.low_strings) text o
 
 with_word_by_keeps : (fault : Option WordFault) (text : Text) (how : WordUse) (is_plural : Bool) → Keeps (with_word_by fault text how is_plural)
 with_word_by_keeps None text how is_plural o = (refl, refl)

@@ -5,7 +5,7 @@ use Rattle.inf_world.specs.declared.kinds.Limits.{Limits}
 use Rattle.inf_tables.specs.declared.tables.Tables.{Tables}
 use Rattle.inf_output.specs.Output.{Out, Code}
 
--- in tables: words, bytes of arrays, objects and properties, verbs and bytes of their lines, actions
+-- in tables: words, bytes of arrays, objects and properties, verbs and bytes of their lines, actions, bytes of low strings
 pub record TableBounds : Type 0 where
   pub words : ℕ
   pub arrays : ℕ
@@ -13,6 +13,7 @@ pub record TableBounds : Type 0 where
   pub verbs : ℕ
   pub lines : ℕ
   pub actions : ℕ
+  pub low_strings : ℕ
 
 abbrev pub table_bounds : Tables → TableBounds
 table_bounds t = record {
@@ -22,6 +23,7 @@ table_bounds t = record {
   verbs = t.verbs.limit;
   lines = t.verbs.space;
   actions = t.actions.limit;
+  low_strings = t.low_strings.limit;
 }
 
 -- of code, of strings and in tables

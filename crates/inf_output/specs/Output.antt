@@ -47,6 +47,7 @@ use Rattle.inf_dictionary.specs.declared.uses.WordUse.{WordUse}
 use Rattle.inf_dictionary.specs.Texts.{Text}
 use Rattle.inf_dictionary.specs.Words.{add_fault, with_use, word_of}
 use Rattle.inf_settings.specs.Settings.{place_of}
+use Rattle.inf_tables.specs.LowStrings.{low_fits, low_size, with_low}
 use Rattle.inf_tables.specs.declared.tables.Tables.{Tables}
 use Rattle.inf_tables.specs.Tables.{references}
 use Rattle.inf_output.specs.Veneer.{name_of}
@@ -230,6 +231,20 @@ with_text text o = with_text_by (fits text o.strings) text o
 -- One would hold more than it may.
 abbrev pub passed_table : Setting → Code
 passed_table limit o = record o { past = Some (table_passed limit (past_of o)) }
+
+-- where the next low string begins, and one more: where it would pass the limit it is not added, and the limit is passed
+abbrev pub low_string_at : Out → Target
+low_string_at o = target.Place area.LowStrings (low_size o.tables.low_strings)
+
+abbrev pub with_low_strings : List ℕ → Tables → Tables
+with_low_strings text tables = record tables { low_strings = with_low text tables.low_strings }
+
+abbrev pub with_low_text_by : Bool → List ℕ → Code
+with_low_text_by true text o = record o { tables = with_low_strings text o.tables }
+with_low_text_by false text o = passed_table setting.LowStrings o
+
+abbrev pub with_low_text : List ℕ → Code
+with_low_text text o = with_low_text_by (low_fits text o.tables.low_strings) text o
 
 abbrev pub with_dictionary : Text → WordUse → Bool → Tables → Tables
 with_dictionary text how is_plural tables = record tables { dictionary = with_use text how is_plural tables.dictionary }

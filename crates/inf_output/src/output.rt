@@ -7,7 +7,7 @@ ghost use Rattle.inf_code.specs.Code.{fault_closed};
 ghost use Rattle.inf_names.specs.Symbols.{declare_fault};
 ghost use Rattle.inf_names.specs.declared.meanings.Meaning.{Meaning as Standing};
 ghost use Rattle.inf_output.specs.declared.items.Item.TheVariants as item;
-ghost use Rattle.inf_output.specs.Output.{Takes, TakesVariable, apart, begun, behind, closed, code_closed, counted, declared, first_table, found_simple, full, full_of, full_past, in_routine, instruction, items_of, jumped, laid, laid_all, less, marked, naming, next_label, opened, or_full, passed, passed_limit, passed_table, past_of, referred, referred_as, routine, simple_by, standing_simple, string_at, symbols_passed, table_passed, taken, together, used, whole, with_text, with_word};
+ghost use Rattle.inf_output.specs.Output.{Takes, TakesVariable, apart, begun, behind, closed, code_closed, counted, declared, first_table, found_simple, full, full_of, full_past, in_routine, instruction, items_of, jumped, laid, laid_all, less, low_string_at, marked, naming, next_label, opened, or_full, passed, passed_limit, passed_table, past_of, referred, referred_as, routine, simple_by, standing_simple, string_at, symbols_passed, table_passed, taken, together, used, whole, with_low_text, with_text, with_word};
 
 use crate::items::{Item, Items, proper_operands};
 use crate::operands::{Simple, with_written};
@@ -556,6 +556,19 @@ impl Output {
             });
         }
         Ok(Target::Place(AreaName::Strings, place))
+    }
+
+    /// A low string of these bytes is added, which are a packed text. Answers what it is. Where it would pass the limit nothing is added, and the limit is
+    /// passed.
+    pub fn low_string(&mut self, text: &[u8]) -> Result<Target, AllocError>
+        ensures target { IfOk result (λ target. target ≡ low_string_at self.old) }
+        ensures value { OnOk result (self.new ≡ with_low_text text.now self.old) }
+    {
+        let place = self.tables.low_strings.len();
+        if !self.tables.low_strings.add(text)? {
+            self.pass_table(Setting::LowStrings);
+        }
+        Ok(Target::Place(AreaName::LowStrings, place))
     }
 
     /// A table would hold more than this limit allows.

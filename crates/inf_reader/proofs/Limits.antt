@@ -13,11 +13,11 @@ use Rattle.inf_conditionals.specs.declared.judged.Handed.TheVariants as handed
 use Rattle.inf_conditionals.specs.declared.judged.Judged.{Judged}
 use Rattle.inf_conditionals.specs.declared.judged.Sign.{Sign}
 use Rattle.inf_work.specs.Actions.{Work, begun_at, is_class, piece_begun as work_begun, took as work_took}
-use Rattle.inf_work.specs.Acting.{acted}
+use Rattle.inf_work.specs.Acting.{all_acted}
 use Rattle.inf_work.specs.Limits.{SameLimits}
 use Rattle.inf_grammar.specs.Routines.{closings}
 use Rattle.inf_work.specs.Parts.{closed_ahead}
-use Rattle.inf_work.proofs.Limits.{acted_same, begun_at_same, closed_ahead_same, cut_same, same_then, took_same as work_took_same}
+use Rattle.inf_work.proofs.Limits.{all_acted_same, begun_at_same, closed_ahead_same, cut_same, same_then, took_same as work_took_same}
 use Rattle.inf_reader.specs.Handing.{handed_as, hash, judged_taken, lone_told, sign_taken, token_taken, unfit_in, unit_ended}
 use Rattle.inf_reader.specs.Reading.{Reading, Stand, bad, judged, piece_begun, read_at, step, step_in, took}
 use Rattle.inf_symbol.specs.Spellings.{Name}
@@ -43,8 +43,8 @@ bad_same files t r w = cut_same files w
 took_same : (files : FileNames) (t : Spelled) (r : Reading) (w : Work) → Keeps w (took files t r w)
 took_same files t r w =
     let acts = (taken grammar known (atom_as (is_class t w) t) r.stack).actions in
-    let w' = acted files t.place acts w in
-    same_then w w' (work_took files t w') (acted_same files t.place acts w) (work_took_same files t w')
+    let w' = all_acted files t.place acts w in
+    same_then w w' (work_took files t w') (all_acted_same files t.place acts w) (work_took_same files t w')
 
 judged_same : (files : FileNames) (t : Spelled) (r : Reading) (w : Work) → Keeps w (judged files t r w)
 judged_same files t r w =

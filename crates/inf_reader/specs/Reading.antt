@@ -22,7 +22,7 @@ use Rattle.inf_machine.specs.Machine.{fits, taken}
 use Rattle.inf_grammar.specs.Routines.{is_in_routine}
 use Rattle.inf_grammar.specs.Language.{grammar, known}
 use Rattle.inf_work.specs.Actions.{Work, cut, is_class, no_work, piece_begun as work_begun, took as work_took}
-use Rattle.inf_work.specs.Acting.{acted}
+use Rattle.inf_work.specs.Acting.{all_acted}
 use Rattle.inf_sources.specs.Cursors.{Cursor, front}
 use Rattle.inf_reader.specs.Cursors.{next_token}
 use Rattle.inf_conditionals.specs.Atoms.{atom_as}
@@ -112,7 +112,7 @@ bad files t r w =
 abbrev pub took : FileNames → Spelled → Reading → Work → Stand
 took files t r w =
     let n = taken grammar known (atom_as (is_class t w) t) r.stack in
-    record { reading = record { mode = r.mode; stack = n.left }; work = work_took files t (acted files t.place n.actions w) }
+    record { reading = record { mode = r.mode; stack = n.left }; work = work_took files t (all_acted files t.place n.actions w) }
 
 -- a token of a piece is taken where it fits; else it is the bad one
 abbrev pub judged : FileNames → Spelled → Reading → Work → Stand

@@ -177,8 +177,6 @@ impl Progress {
     }
 
     /// Tells the bad token of a piece, and passes over it.
-    #[cold]
-    #[inline(never)]
     fn bad(&mut self, files: &Stack, token: &Spelled<'_>) -> Result<(), AllocError>
         ensures { let before = reading self.old.reader in
             OnOk result (standing self.new ≡ bad files.now.names (spelled token.now) before (work self.old.work)) }

@@ -141,6 +141,7 @@ pub record TableCounts : Type 0 where
   pub lines : ℕ
   pub properties : ℕ
   pub arrays : ℕ
+  pub low_strings : ℕ
 
 -- that these are within what there may be
 pub record FitBounds (c : TableCounts) (b : TableBounds) : Type 0 where
@@ -151,6 +152,7 @@ pub record FitBounds (c : TableCounts) (b : TableBounds) : Type 0 where
   pub lines : c.lines ≤ b.lines
   pub properties : c.properties ≤ max 30 b.world.property_bytes
   pub arrays : c.arrays ≤ b.arrays
+  pub low_strings : c.low_strings ≤ max 2 b.low_strings
 
 -- a number that has room for the first ones
 at_most : (n least most : ℕ) → n ≤ max least most → least ≤ most → n ≤ most
@@ -162,7 +164,7 @@ pub within : (s : Session) (tokens names labels code strings refs : ℕ) (tables
     → tokens ≤ number_of ExpressionNodes (chosen s.setup).settings
     → labels ≤ number_of Labels (chosen s.setup).settings
     → FitBounds tables (table_bounds s.progress.work.output.tables)
-    → AreWithin (s.quoted ∷ tokens ∷ names ∷ labels ∷ tables.words ∷ tables.objects ∷ tables.verbs ∷ tables.actions ∷ tables.lines ∷ tables.properties ∷ tables.arrays ∷ 2
+    → AreWithin (s.quoted ∷ tokens ∷ names ∷ labels ∷ tables.words ∷ tables.objects ∷ tables.verbs ∷ tables.actions ∷ tables.lines ∷ tables.properties ∷ tables.arrays ∷ tables.low_strings
     ∷ code ∷ strings ∷ refs ∷ []) all_settings (chosen s.setup).settings
 within s tokens names labels code strings refs tables bounded going few_names few_code few_strings few_refs few_tokens few_labels few =
     let settings = (chosen s.setup).settings in
@@ -175,7 +177,8 @@ within s tokens names labels code strings refs tables bounded going few_names fe
     let stringed = subst (λ n. strings ≤ n) most_strings few_strings in
     let objects = at_most tables.objects 4 (number_of Objects settings) most.objects has.0 in
     let properties = at_most tables.properties 30 (number_of PropertyTables settings) most.properties has.1 in
-    (bounded.1.1.0, (few_tokens, (named, (few_labels, (most.words, (objects, (most.verbs, (most.actions, (most.lines, (properties, (most.arrays, (has.2, (coded, (stringed, (few_refs, tt)))))))))))))))
+    let low = at_most tables.low_strings 2 (number_of LowStrings settings) most.low_strings has.2 in
+    (bounded.1.1.0, (few_tokens, (named, (few_labels, (most.words, (objects, (most.verbs, (most.actions, (most.lines, (properties, (most.arrays, (low, (coded, (stringed, (few_refs, tt)))))))))))))))
 
 -- the lesser of two numbers is at most the second
 pub min_few : (a b n : ℕ) → n ≡ min a b → n ≤ b

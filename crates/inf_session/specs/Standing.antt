@@ -4,6 +4,7 @@ use Rattle.inf_code.specs.Code.{code_count, reference_count}
 use Rattle.inf_arrays.specs.Arrays.{all_of, arrays_size}
 use Rattle.inf_verbs.specs.Verbs.{verbs_size}
 use Rattle.inf_world.specs.World.{bytes_now, object_count}
+use Rattle.inf_tables.specs.LowStrings.{low_size}
 use Rattle.inf_tables.specs.Tables.{references_with}
 use Rattle.inf_conditionals.specs.Judging.{is_none_pending, may_part}
 use Rattle.inf_reader.specs.Handing.{site_of}
@@ -102,5 +103,5 @@ held s =
     s.quoted ∷ min (max w.most_tokens s.conditionals.most_tokens) (number_of ExpressionNodes settings) ∷ length output.names.names
     ∷ min w.most_labels (number_of Labels settings)
     ∷ length tables.dictionary.list ∷ object_count tables.world ∷ length tables.verbs.list ∷ length tables.actions.routines ∷ verbs_size tables.verbs.list
-    ∷ bytes_now tables.world ∷ arrays_size (all_of tables.arrays) ∷ 2
+    ∷ bytes_now tables.world ∷ arrays_size (all_of tables.arrays) ∷ low_size tables.low_strings
     ∷ code_count output.code ∷ length output.strings.bytes ∷ min (references_with (reference_count output.code) tables) (number_of References settings) ∷ []

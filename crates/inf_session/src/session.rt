@@ -22,7 +22,7 @@ ghost use Rattle.inf_session.specs.Weights.{GoesOn, room, weight};
 
 use crate::compiled::{Compiled, Status, conclude};
 use crate::faults::{Fault, unread};
-use crate::setup::{FIRST_LOW_STRING_BYTES, Setup};
+use crate::setup::Setup;
 use inf_conditionals::conditionals::Conditionals;
 use inf_conditionals::judged::{Judged, Site};
 use inf_lexer::{LexFault, Place};
@@ -281,7 +281,7 @@ impl<'a> Session<'a> {
         held[8] = tables.verbs.size();
         held[9] = tables.world.property_bytes();
         held[10] = tables.arrays.size();
-        held[11] = FIRST_LOW_STRING_BYTES as usize;
+        held[11] = tables.low_strings.len();
         held[12] = output.code.count();
         held[13] = output.strings.len();
         let references = tables.references_with(output.code.references());
@@ -468,8 +468,6 @@ impl<'a> Session<'a> {
     }
 
     /// Enters the file that the text of an inclusion names, or tells, at the place of its unit, why there is none.
-    #[cold]
-    #[inline(never)]
     fn include<F: Files>(&mut self, files: &mut F, text: &[u8], unit: Place) -> Result<(), Fault>
         requires goes { self.old.open_files.lexer.has_failed ≡ false }
         requires set { IsSet self.old }
@@ -509,8 +507,6 @@ impl<'a> Session<'a> {
 
     /// At the end of a file, tells the conditionals that are open in it. An included file is closed, and reading goes on in the
     /// one that includes it.
-    #[cold]
-    #[inline(never)]
     fn leave<F: Files>(&mut self, files: &mut F) -> Result<(), Fault>
         requires is_open { length self.old.open_files.outer < F.depth files.old }
         requires set { IsSet self.old }

@@ -20,7 +20,7 @@ const FIRST_OBJECTS: u32 = 4;
 const FIRST_PROPERTY_BYTES: u32 = 30;
 
 /// The bytes of the low string that each story has: three spaces.
-pub(crate) const FIRST_LOW_STRING_BYTES: u32 = 2;
+const FIRST_LOW_STRING_BYTES: u32 = 2;
 
 /// What the words of a command choose for a compilation: the character set of the sources, whether warnings are told, the
 /// settings, and the directories in which included files are looked for.

@@ -2,6 +2,7 @@
 use Rattle.std.proofs.Common.{zero, suc, ℕ, ◌==◌, Bool, true, false, cond, List, [], ◌∷◌, Option, Some, None, refl}
 use Rattle.std.specs.Prelude.{codes, unwrap_or}
 use Rattle.std.specs.Str.{str_eq_ignore_ascii_case}
+use Rattle.inf_area.specs.declared.targets.Target.{Target}
 use Rattle.inf_characters.specs.declared.characters.CharSet.{CharSet}
 use Rattle.inf_characters.specs.declared.texts.TextItem.{TextItem}
 use Rattle.inf_scanner.specs.declared.tokens.Place.{Place}
@@ -24,8 +25,8 @@ use Rattle.inf_output.specs.declared.operands.Simple.TheVariants.{Known, Later, 
 use Rattle.inf_output.specs.declared.veneer.Veneer.{Veneer}
 use Rattle.inf_output.specs.declared.veneer.Veneer.TheVariants as veneer
 use Rattle.inf_output.specs.Limits.{Keeps, SameLimits}
-use Rattle.inf_output.specs.Output.{Code, Out, apart, behind, instruction, items_of, jumped, laid_all, marked, naming, nothing, to, together, ◌▸◌}
-use Rattle.inf_output.proofs.Keeping.{action_same, apart_keeps, instruction_keeps, jumped_keeps, laid_all_keeps, laid_keeps, marked_keeps, naming_keeps, nothing_keeps, of_both_keeps, referred_keeps, same_then, then3_keeps, then4_keeps, then_keeps, together_keeps, with_label_keeps, with_text_keeps, with_word_keeps}
+use Rattle.inf_output.specs.Output.{Code, Out, apart, behind, instruction, items_of, jumped, laid_all, low_string_at, marked, naming, nothing, to, together, with_low_text, ◌▸◌}
+use Rattle.inf_output.proofs.Keeping.{action_same, apart_keeps, instruction_keeps, jumped_keeps, laid_all_keeps, laid_keeps, marked_keeps, naming_keeps, nothing_keeps, of_both_keeps, referred_keeps, same_then, then3_keeps, then4_keeps, then_keeps, together_keeps, with_label_keeps, with_low_text_keeps, with_text_keeps, with_word_keeps}
 use Rattle.inf_templates.specs.Limits.{PartKeeps}
 use Rattle.inf_templates.specs.Meaning.{meaning, part}
 use Rattle.inf_templates.specs.Parts.{Part, SP, TEMP, is, worked}
@@ -44,7 +45,7 @@ use Rattle.inf_unit.specs.declared.items.PrintRule.TheVariants as rule
 use Rattle.inf_statements.specs.Assembly.{branch_to, branched, branched_to, ends_of, fits, instructed, jumped_on, labelled, line_instructed, line_laid, line_laid_as, line_laid_by, named_first, operands_in, placed, printing_of, some_printed, store_of, text_printed, variable_of}
 use Rattle.inf_statements.specs.Cases.{case_code, group_tested, grouped, is_empty, is_open, laid_before, operand_in, range_tested, value_grouped, value_laid, within}
 use Rattle.inf_statements.specs.Constructs.{all_ended, Laying, begun, between, case_closed, case_entered, cases_begun, changed, closed, ended, ending, entered, entered_by, front, joint, left_to, looped, looped_by, looped_on, looped_over, opened, over_all, stepped, tested_over, with_labels}
-use Rattle.inf_statements.specs.Effects.{Site, jump_laid, name_behind, place_laid, statement_code, statement_laid}
+use Rattle.inf_statements.specs.Effects.{Site, jump_laid, name_behind, last_text, place_laid, statement_code, statement_laid}
 use Rattle.inf_statements.specs.Labels.{NamedLabel}
 use Rattle.inf_statements.specs.Limits.{LayingKeeps}
 use Rattle.inf_statements.specs.Operands.{Settled, is_stack, leaf_added, one_added, settled, settled_action, settled_by, settled_leaf, settled_name, settled_text, settled_word, with_settled}
@@ -52,7 +53,7 @@ use Rattle.inf_dictionary.specs.declared.uses.WordUse.TheVariants as word_use
 use Rattle.inf_scanner.specs.declared.tokens.DictionaryWord.{DictionaryWord}
 use Rattle.inf_text.specs.Packing.{packed}
 use Rattle.inf_statements.specs.Printing.{called_with, ended as items_ended, ends_behind, item_code, items_printed, rule_code, text_at, text_opcode, trees_behind, veneer_called}
-use Rattle.inf_statements.specs.Statements.{action_laid, action_on, alone, are_several, attribute_code, attribute_opcode, attributes_changed, attributes_given, given_by, jumped_to, moved, one_worked, plain, printed, rest, returned, returned_by, returned_number, spaced, style_of, styled_by, switched, tested, unless}
+use Rattle.inf_statements.specs.Statements.{abbreviations, action_laid, action_on, alone, are_several, attribute_code, attribute_opcode, attributes_changed, attributes_given, given_by, jumped_to, moved, one_worked, plain, printed, rest, returned, returned_by, returned_number, spaced, string_changed, string_of, string_set, style_of, styled_by, switched, tested, unless}
 use Rattle.inf_statements.specs.declared.constructs.Case.{Case}
 use Rattle.inf_statements.specs.declared.constructs.Case.TheVariants as case
 use Rattle.inf_statements.specs.declared.constructs.Construct.{Construct}
@@ -114,6 +115,20 @@ moved_keeps : (trees : List Tree) → Keeps (moved trees)
 moved_keeps [] = nothing_keeps
 moved_keeps (a ∷ []) = nothing_keeps
 moved_keeps (a ∷ b ∷ trees) = worked_keeps opcode.InsertObj (part (meaning a) ∷ part (meaning b) ∷ []) None None (part_keeps a, (part_keeps b, tt))
+
+string_set_keeps : (low : Target) (trees : List Tree) → Keeps (string_set low trees)
+string_set_keeps low [] = nothing_keeps
+string_set_keeps low (e ∷ trees) =
+    worked_keeps opcode.Storew (is (Later abbreviations) ∷ part (meaning e) ∷ is (Later low) ∷ []) None None (is_keeps (Later abbreviations), (part_keeps e, (is_keeps (Later low), tt)))
+
+string_of_keeps : (text : List ℕ) (trees : List Tree) → Keeps (string_of text trees)
+string_of_keeps text trees o =
+    let set = string_set (low_string_at o) trees in
+    same_then o (with_low_text text o) (set (with_low_text text o)) (with_low_text_keeps text o) (string_set_keeps (low_string_at o) trees (with_low_text text o))
+
+string_changed_keeps : (text : Option (List TextItem)) (trees : List Tree) → Keeps (string_changed text trees)
+string_changed_keeps None trees = nothing_keeps
+string_changed_keeps (Some text) trees = string_of_keeps (packed text []) trees
 
 action_on_keeps : (a : Tree) (trees : List Tree) → Keeps (action_on (part (meaning a)) trees)
 action_on_keeps a [] = call_routine_keeps veneer.Process (part (meaning a) ∷ []) None (part_keeps a, tt)
@@ -468,6 +483,7 @@ code_keeps s trees statement.Action = action_laid_keeps trees
 code_keeps s trees statement.ActionReturn = then_keeps (action_laid trees) (plain opcode.Rtrue) (action_laid_keeps trees) (plain_keeps opcode.Rtrue)
 code_keeps s trees statement.Remove = one_keeps opcode.RemoveObj trees
 code_keeps s trees statement.Spaces = spaced_keeps trees
+code_keeps s trees statement.String = string_changed_keeps (last_text s) trees
 code_keeps s trees statement.Style = styled_keeps (style_of (name_behind s))
 code_keeps s trees statement.Assembly = nothing_keeps
 
@@ -498,6 +514,7 @@ statement_keeps s statement.Action trees labels = code_keeps s trees statement.A
 statement_keeps s statement.ActionReturn trees labels = code_keeps s trees statement.ActionReturn
 statement_keeps s statement.Remove trees labels = code_keeps s trees statement.Remove
 statement_keeps s statement.Spaces trees labels = code_keeps s trees statement.Spaces
+statement_keeps s statement.String trees labels = code_keeps s trees statement.String
 statement_keeps s statement.Style trees labels = code_keeps s trees statement.Style
 statement_keeps s statement.Assembly trees labels = line_keeps s.set s.locals s.tokens (opcode_of (name_behind s)) (ends_of s.items) trees labels
 

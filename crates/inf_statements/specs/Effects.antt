@@ -1,6 +1,7 @@
 -- What the statements of a routine do, and what is wrong with them beside their expressions.
-use Rattle.std.specs.Prelude.{ℕ, List, Bool, true, false, if◌then◌else◌, Option, Some, None}
+use Rattle.std.specs.Prelude.{ℕ, List, ◌∷◌, Bool, true, false, if◌then◌else◌, Option, Some, None}
 use Rattle.inf_characters.specs.declared.characters.CharSet.{CharSet}
+use Rattle.inf_characters.specs.declared.texts.TextItem.{TextItem}
 use Rattle.inf_scanner.specs.declared.tokens.Place.{Place}
 use Rattle.inf_opcode.specs.declared.opcodes.Opcode.TheVariants as opcode
 use Rattle.inf_expressions.specs.declared.findings.Finding.{Finding}
@@ -15,11 +16,12 @@ use Rattle.inf_unit.specs.Opcodes.{opcode_of}
 use Rattle.inf_unit.specs.Tokens.{Spelled}
 use Rattle.inf_unit.specs.Units.{bytes_at, next_place, order}
 use Rattle.inf_unit.specs.declared.items.Item.{Item}
+use Rattle.inf_unit.specs.declared.items.Item.TheVariants as item
 use Rattle.inf_statements.specs.Assembly.{ends_of, labelled, line_finding, line_laid, placed}
 use Rattle.inf_statements.specs.Constructs.{Laying, giving, left_to}
 use Rattle.inf_statements.specs.Labels.{NamedLabel, is_given}
-use Rattle.inf_statements.specs.Printing.{items_printed}
-use Rattle.inf_statements.specs.Statements.{action_laid, alone, attributes_changed, jumped_to, moved, one_worked, plain, returned, spaced, style_of, styled}
+use Rattle.inf_statements.specs.Printing.{items_printed, text_at}
+use Rattle.inf_statements.specs.Statements.{action_laid, alone, attributes_changed, jumped_to, moved, one_worked, plain, returned, spaced, string_changed, style_of, styled}
 use Rattle.inf_statements.specs.declared.constructs.Construct.{Construct}
 use Rattle.inf_statements.specs.declared.statements.Statement.{Statement}
 use Rattle.inf_statements.specs.declared.statements.Statement.TheVariants as statement
@@ -76,6 +78,14 @@ wanted_by _ = wanted.Value
 
 -- What it does
 
+-- the text that it has beside its expressions
+abbrev pub text_in : CharSet → List Spelled → List Item → Option (List TextItem)
+text_in set tokens ((item.Text at) ∷ items) = text_at set tokens at
+text_in set tokens _ = None
+
+abbrev pub last_text : Site → Option (List TextItem)
+last_text s = text_in s.set s.tokens s.items
+
 abbrev pub statement_code : Site → List Tree → Statement → Code
 statement_code s trees statement.Empty = nothing
 statement_code s trees statement.Expression = alone trees
@@ -89,6 +99,7 @@ statement_code s trees statement.ReturnFalse = plain opcode.Rfalse
 statement_code s trees statement.Break = jumped_to (left_to false s.constructs)
 statement_code s trees statement.Continue = jumped_to (left_to true s.constructs)
 statement_code s trees statement.Give = attributes_changed s.items trees
+statement_code s trees statement.String = string_changed (last_text s) trees
 statement_code s trees statement.Move = moved trees
 statement_code s trees statement.Action = action_laid trees
 statement_code s trees statement.ActionReturn = action_laid trees ▸ plain opcode.Rtrue

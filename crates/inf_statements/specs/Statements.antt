@@ -1,6 +1,9 @@
 -- What statements are, and their code.
 use Rattle.std.specs.Prelude.{◌≡◌, ℕ, ◌==◌, List, [], ◌∷◌, codes, map, Bool, true, false, slice_get, if◌then◌else◌, Option, Some, None}
 use Rattle.std.specs.Str.{str_eq_ignore_ascii_case}
+use Rattle.inf_area.specs.declared.targets.AreaName.TheVariants as area
+use Rattle.inf_area.specs.declared.targets.Target.{Target}
+use Rattle.inf_area.specs.declared.targets.Target.TheVariants as target
 use Rattle.inf_characters.specs.declared.texts.TextItem.{TextItem}
 use Rattle.inf_scanner.specs.declared.tokens.Mark.{Mark}
 use Rattle.inf_scanner.specs.declared.tokens.Mark.TheVariants as mark
@@ -18,9 +21,9 @@ use Rattle.inf_expressions.specs.Rooted.{Rooted}
 use Rattle.inf_expressions.specs.Trees.{Tree}
 use Rattle.inf_output.specs.declared.items.Item.TheVariants.{Instruction}
 use Rattle.inf_output.specs.declared.operands.Simple.{Simple}
-use Rattle.inf_output.specs.declared.operands.Simple.TheVariants.{Known, Variable}
+use Rattle.inf_output.specs.declared.operands.Simple.TheVariants.{Known, Later, Variable}
 use Rattle.inf_output.specs.declared.veneer.Veneer.TheVariants as veneer
-use Rattle.inf_output.specs.Output.{Code, instruction, jumped, laid, nothing, ◌▸◌}
+use Rattle.inf_output.specs.Output.{Code, instruction, jumped, laid, low_string_at, nothing, with_low_text, ◌▸◌}
 use Rattle.inf_templates.specs.Meaning.{Meaning, meaning, part}
 use Rattle.inf_templates.specs.Parts.{Part, SP, TEMP, call_routine, is, worked}
 use Rattle.inf_unit.specs.Tokens.{Spelled, is_word}
@@ -47,6 +50,7 @@ word_statement t =
     if is_word (codes "move") t then statement.Move else
     if is_word (codes "remove") t then statement.Remove else
     if is_word (codes "spaces") t then statement.Spaces else
+    if is_word (codes "string") t then statement.String else
     if is_word (codes "style") t then statement.Style else statement.Expression
 
 abbrev pub mark_statement : Mark → Statement
@@ -130,6 +134,22 @@ moved _ = nothing
 abbrev pub spaced : List Tree → Code
 spaced [] = nothing
 spaced (e ∷ trees) = call_routine veneer.Spaces (part (meaning e) ∷ []) None
+
+-- A string variable becomes a low string: its word among the abbreviations is written, which begin with the string variables (Z-Machine Standard 1.1,
+-- section 3.3).
+abbrev pub abbreviations : Target
+abbreviations = target.Place area.Abbreviations 0
+
+abbrev pub string_set : Target → List Tree → Code
+string_set low [] = nothing
+string_set low (e ∷ trees) = worked opcode.Storew (is (Later abbreviations) ∷ part (meaning e) ∷ is (Later low) ∷ []) None None
+
+abbrev pub string_of : List ℕ → List Tree → Code
+string_of text trees o = string_set (low_string_at o) trees (with_low_text text o)
+
+abbrev pub string_changed : Option (List TextItem) → List Tree → Code
+string_changed None trees = nothing
+string_changed (Some text) trees = string_of (packed text []) trees
 
 -- an action, with a noun or two: a call of the routine that processes actions
 abbrev pub processed : List Part → Code

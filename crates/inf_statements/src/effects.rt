@@ -1,13 +1,13 @@
 //! What the statements of a routine do, and what is wrong with them beside their expressions.
-ghost use Rattle.std.specs.Prelude.{◌≡◌, ◌≤◌, ◌+◌, OnOk, length, map};
+ghost use Rattle.std.specs.Prelude.{◌≡◌, ◌≤◌, ◌+◌, IfOk, OnOk, length, map};
 ghost use Rattle.inf_expressions.specs.Forests.{trees_in};
 ghost use Rattle.inf_expressions.specs.Findings.{wrong_kind};
 ghost use Rattle.inf_unit.specs.Units.{next_place, order};
 ghost use Rattle.inf_statements.specs.Assembly.{ends_of};
 ghost use Rattle.inf_statements.specs.Labels.{is_given};
-ghost use Rattle.inf_statements.specs.Effects.{given_twice, jump_laid, name_behind, only_if, place_laid, site_finding, statement_code, statement_finding, statement_laid, unless_some, wanted_by};
+ghost use Rattle.inf_statements.specs.Effects.{given_twice, jump_laid, last_text, name_behind, only_if, place_laid, site_finding, statement_code, statement_finding, statement_laid, unless_some, wanted_by};
 ghost use Rattle.inf_statements.specs.Sites.{site};
-ghost use Rattle.inf_statements.specs.Statements.{statement_in, style_of, tree_in, trees_from};
+ghost use Rattle.inf_statements.specs.Statements.{statement_in, string_changed, style_of, tree_in, trees_from};
 
 use crate::assembly::{Line, ends_of, labelled, lay_line, placed};
 use crate::constructs::Constructs;
@@ -15,7 +15,7 @@ use crate::labels::Labels;
 use crate::printing::{Printing, print_items};
 use crate::statements::{
     Statement, lay_action, lay_expression, lay_give, lay_jump, lay_move, lay_one, lay_return,
-    lay_spaces, lay_style, plain, statement_in, style_of,
+    lay_spaces, lay_string, lay_style, plain, statement_in, style_of,
 };
 use inf_expressions::{Finding, Forest, Nodes, Root, Wanted};
 use inf_names::symbols::Symbols;
@@ -24,9 +24,10 @@ use inf_output::Output;
 use inf_scanner::Place;
 use inf_symbol::locals::Locals;
 use inf_templates::Tasks;
-use inf_text::CharSet;
+use inf_text::{CharSet, Text, pack};
 use inf_unit::items::Item;
 use inf_unit::opcodes::opcode_of;
+use inf_unit::texts::text_of;
 use inf_unit::unit::{next_place, order};
 use inf_unit::unit_tokens::UnitTokens;
 use std::alloc::{AllocError, Global};
@@ -201,8 +202,38 @@ impl Site<'_> {
                 lay_one(Opcode::RemoveObj, &forest.nodes, &forest.roots, tasks, out)
             }
             Statement::Spaces => lay_spaces(forest, tasks, out),
+            Statement::String => self.lay_string(forest, tasks, out),
             Statement::Style => lay_style(self.name(), out),
         }
+    }
+
+    /// `string`, with the text that it has.
+    fn lay_string(
+        &self,
+        forest: &Forest,
+        tasks: &mut Tasks,
+        out: &mut Output,
+    ) -> Result<(), AllocError>
+        ensures { OnOk result (out.new ≡ string_changed (last_text (site self.now)) (map tree_in (trees_in forest.now)) out.old) }
+    {
+        let Some(text) = self.last_text()? else {
+            return Ok(());
+        };
+        let packed = pack(self.alloc, &text, None)?;
+        lay_string(packed.as_slice(), forest, tasks, out)
+    }
+
+    /// The text that it has beside its expressions.
+    fn last_text(&self) -> Result<Option<Text>, AllocError>
+        ensures { IfOk result (λ text. text ≡ last_text (site self.now)) }
+    {
+        let [Item::Text(at), ..] = self.items else {
+            return Ok(None);
+        };
+        let Some(token) = self.tokens.get(*at) else {
+            return Ok(None);
+        };
+        text_of(self.alloc, self.set, &token)
     }
 
     /// A jump to the label of its name.

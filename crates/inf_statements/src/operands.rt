@@ -163,8 +163,9 @@ fn new_action(
     }
 }
 
-/// An action that is only looked up.
-fn looked_action(
+/// The number of an action that is only looked up: its own, or, where it did not appear, the next one behind those that were looked up
+/// before. No name has the number 0.
+pub fn looked_action(
     name: Option<NameToken<'_>>,
     out: &Output,
     ahead: &mut Symbols<Place>,

@@ -7,9 +7,10 @@ ghost use Rattle.inf_output.specs.Output.{Takes};
 ghost use Rattle.inf_templates.specs.Meaning.{Meaning};
 ghost use Rattle.inf_templates.specs.Tasks.{part_of, parts_of};
 ghost use Rattle.inf_unit.specs.Tokens.{spelled};
-ghost use Rattle.inf_statements.specs.Statements.{action_laid, action_on, alone, are_several, attribute_code, attribute_opcode, attributes_changed, attributes_given, jumped_to, mark_statement, moved, one_worked, plain, processed, rest, returned, returned_by, spaced, statement_in, statement_of_kind, style_of, styled, styled_by, switched, tested, text_statement, tree_in, trees_from, unless, word_statement};
+ghost use Rattle.inf_statements.specs.Statements.{action_laid, action_on, alone, are_several, attribute_code, attribute_opcode, attributes_changed, attributes_given, jumped_to, mark_statement, moved, one_worked, plain, processed, rest, returned, returned_by, spaced, statement_in, statement_of_kind, string_of, string_set, style_of, styled, styled_by, switched, tested, text_statement, tree_in, trees_from, unless, word_statement};
 
 use crate::cases::SWITCHED;
+use inf_area::{AreaName, Target};
 use inf_expressions::{Forest, Nodes, Root};
 use inf_opcode::{Label, Opcode};
 use inf_output::{Output, Simple, Veneer};
@@ -21,6 +22,9 @@ use inf_unit::items::Item;
 use inf_unit::tokens::{Spelled, is_word};
 use inf_unit::unit_tokens::UnitTokens;
 use std::alloc::AllocError;
+
+/// Where the abbreviations begin, the string variables first.
+const ABBREVIATIONS: Target = Target::Place(AreaName::Abbreviations, 0);
 
 /// The variable for values that nobody wants.
 const TEMP: u8 = 255;
@@ -49,6 +53,8 @@ pub enum Statement {
     Move,
     Remove,
     Spaces,
+    /// `string`: a string variable becomes a new low string.
+    String,
     Style,
     /// A line of assembly, which begins with `@`.
     Assembly,
@@ -89,6 +95,8 @@ fn word_statement(token: &Spelled<'_>) -> Statement
         Statement::Remove
     } else if is_word(token, b"spaces") {
         Statement::Spaces
+    } else if is_word(token, b"string") {
+        Statement::String
     } else if is_word(token, b"style") {
         Statement::Style
     } else {
@@ -304,6 +312,42 @@ pub(crate) fn lay_spaces(
         }
         None => Ok(()),
     }
+}
+
+/// The string variable whose number is the first of some trees becomes a low string: its place among the abbreviations is written.
+fn set_string(
+    low: Target,
+    nodes: &Nodes,
+    roots: &[Root],
+    tasks: &mut Tasks,
+    out: &mut Output,
+) -> Result<(), AllocError>
+    ensures { OnOk result (out.new ≡ string_set low (trees_from nodes.now roots.now) out.old) }
+{
+    match roots.first() {
+        Some(root) => {
+            let arguments = [
+                Argument::Is(Simple::Later(ABBREVIATIONS)),
+                Argument::Of(root.place),
+                Argument::Is(Simple::Later(low)),
+            ];
+            lay_instruction(tasks, nodes, Opcode::Storew, &arguments, None, None, out)
+        }
+        None => Ok(()),
+    }
+}
+
+/// `string`: the string variable whose number is the first of some trees becomes a new low string of these bytes.
+pub(crate) fn lay_string(
+    packed: &[u8],
+    forest: &Forest,
+    tasks: &mut Tasks,
+    out: &mut Output,
+) -> Result<(), AllocError>
+    ensures { OnOk result (out.new ≡ string_of packed.now (map tree_in (trees_in forest.now)) out.old) }
+{
+    let low = out.low_string(packed)?;
+    set_string(low, &forest.nodes, &forest.roots, tasks, out)
 }
 
 /// A call of the routine that processes actions.

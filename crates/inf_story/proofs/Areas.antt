@@ -10,7 +10,7 @@ use Rattle.inf_code.specs.Code.{known}
 use Rattle.inf_dictionary.specs.Words.{dictionary_bytes}
 use Rattle.inf_link.specs.Areas.{area_of}
 use Rattle.inf_link.specs.FillingLaws.{cells_fixups}
-use Rattle.inf_story.specs.Tables.{areas, low_strings}
+use Rattle.inf_story.specs.Tables.{areas, low_strings, three_spaces}
 use Rattle.inf_tables.specs.declared.tables.Tables.{Tables}
 use Rattle.inf_text.specs.Packing.{packed, longest, character_zs}
 
@@ -44,9 +44,8 @@ whole fixups low words strings =
 all_written : (fixups : AreaName → List Fixup) → put [] (written fixups) ≡ whole fixups [] [] []
 all_written fixups = put_all [] (written fixups)
 
-none_low : [] ≡ fixups_of area.LowStrings 0 low_strings
-unfolding low_strings packed longest character_zs
-none_low = refl
+none_low : (behind : List ℕ) → [] ≡ fixups_of area.LowStrings 0 (low_strings behind)
+none_low behind = sym (fixups_of-known area.LowStrings 0 (three_spaces ++ behind))
 
 abbrev fixups_in : ℕ → List Cell → List ℕ → Tables → AreaName → List Fixup
 fixups_in main finished strings tables name = fixups_of name 0 (area_of name (areas main finished strings tables))
@@ -57,7 +56,7 @@ all_fixups main finished strings tables =
     let fixups = fixups_in main finished strings tables in
     let words = dictionary_bytes tables.dictionary.list in
     all_written fixups
-    ∙ ap (λ low. whole fixups low [] []) none_low
+    ∙ ap (λ low. whole fixups low [] []) (none_low tables.low_strings.bytes)
     ∙ ap (λ none. whole fixups (fixups area.LowStrings) none []) (sym (fixups_of-known area.Dictionary 0 words))
     ∙ ap (λ none. whole fixups (fixups area.LowStrings) (fixups area.Dictionary) none) (sym (fixups_of-known area.Strings 0 strings))
 
@@ -65,6 +64,9 @@ all_fixups main finished strings tables =
 pub known_bytes : (bytes : List ℕ) → bytes_of (known bytes) ≡ bytes
 known_bytes bytes = bytes_of-known bytes
 
-pub spaces_are : 0x80 ∷ 0x00 ∷ [] ≡ bytes_of low_strings
-unfolding low_strings packed longest character_zs
+spaces_are : 0x80 ∷ 0x00 ∷ [] ≡ three_spaces
+unfolding three_spaces packed longest character_zs
 spaces_are = refl
+
+pub low_are : (behind : List ℕ) → (0x80 ∷ 0x00 ∷ []) ++ behind ≡ bytes_of (low_strings behind)
+low_are behind = ap (λ first. first ++ behind) spaces_are ∙ sym (bytes_of-known (three_spaces ++ behind))

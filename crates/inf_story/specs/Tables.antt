@@ -1,5 +1,5 @@
 -- The areas of a story. Z-Machine Standard 1.1, section 1.1 and the sections named below.
-use Rattle.std.specs.Prelude.{ℕ, ◌%◌, List, [], map, replicate, codes}
+use Rattle.std.specs.Prelude.{ℕ, ◌%◌, List, [], ◌++◌, map, replicate, codes}
 use Rattle.inf_area.specs.declared.targets.AreaName.TheVariants as area
 use Rattle.inf_area.specs.declared.targets.Target.TheVariants as target
 use Rattle.inf_area.specs.declared.targets.Value.{Value}
@@ -22,9 +22,12 @@ use Rattle.inf_world.specs.Areas.{all_objects, area_cells, individual_places_fro
 use Rattle.inf_world.specs.World.{object_count}
 use Rattle.inf_world.specs.declared.kinds.WorldArea.TheVariants as world_area
 
--- the first low string, three spaces (section 3.3)
-unfoldable pub low_strings : List Cell
-low_strings = known (packed (map Character (codes "   ")) [])
+-- the first low string, three spaces (section 3.3), and those behind it
+unfoldable pub three_spaces : List ℕ
+three_spaces = packed (map Character (codes "   ")) []
+
+abbrev pub low_strings : List ℕ → List Cell
+low_strings behind = known (three_spaces ++ behind)
 
 -- Each of 96 abbreviations that is not declared is the first low string, whose address in words is 32 (section 3.3).
 unfoldable pub abbreviations : List Cell
@@ -33,7 +36,7 @@ abbreviations = values_cells (replicate 96 (value.Known 32))
 -- All areas: those of the tables of a source, the finished routines, of which the first routine calls the one at a place, and the bytes of the strings.
 abbrev pub areas : ℕ → List Cell → List ℕ → Tables → Areas (List Cell)
 areas main finished strings tables = record {
-  low_strings = low_strings;
+  low_strings = low_strings tables.low_strings.bytes;
   abbreviations = abbreviations;
   property_defaults = area_cells world_area.PropertyDefaults tables.world;
   objects = area_cells world_area.Objects tables.world;

@@ -19,7 +19,8 @@ use inf_cells::{Cells, append_cells};
 use inf_code::code::Code;
 use inf_link::{Areas, Targets};
 use inf_tables::{
-    Actions, Arrays, Dictionary, Globals, ParsingRoutines, Tables, Verbs, World, WorldArea,
+    Actions, Arrays, Dictionary, Globals, LowStrings, ParsingRoutines, Tables, Verbs, World,
+    WorldArea,
 };
 use std::alloc::{AllocError, Global};
 
@@ -31,13 +32,14 @@ const NO_ABBREVIATION: Value = Value::Known(32);
 
 // Each area with fixups puts them behind others. Their list has no limit, so a table that is not written is told as want of memory.
 
-/// The first low string.
-#[tactic(auto, using(crate::proofs::Areas::spaces_are))]
-fn low_strings(alloc: Global) -> Result<PagedArea, AllocError>
-    ensures { IfOk result (λ area. area ≡ bytes_of low_strings) }
+/// The low strings: the first one and those behind it.
+#[tactic(auto, using(crate::proofs::Areas::low_are))]
+fn low_strings(alloc: Global, behind: &LowStrings) -> Result<PagedArea, AllocError>
+    ensures { IfOk result (λ area. area ≡ bytes_of (low_strings behind.now.bytes)) }
 {
     let mut area = PagedArea::new(alloc);
     area.append(&THREE_SPACES)?;
+    area.append(behind.as_slice())?;
     Ok(area)
 }
 
@@ -272,7 +274,7 @@ pub(crate) fn areas(
     ensures fixups { OnOk result (refs.new.list ≡ cells_fixups (areas main routines.finished strings tables.now)) }
 {
     let mut areas = no_areas(alloc);
-    areas.low_strings = low_strings(alloc)?;
+    areas.low_strings = low_strings(alloc, &tables.low_strings)?;
     areas.abbreviations = abbreviations(alloc, refs)?;
     put_world(alloc, &tables.world, &mut areas, refs)?;
     put_lists(alloc, tables, &mut areas, refs)?;

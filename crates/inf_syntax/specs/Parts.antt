@@ -698,6 +698,9 @@ abbrev pub !end_case : Symbol Action
 abbrev pub !to : Symbol Action
 !to = Act action.To
 
+abbrev pub !maybe_deeper : Symbol Action
+!maybe_deeper = Act action.MaybeDeeper
+
 abbrev pub file : Symbol Action
 file = Rule 0
 

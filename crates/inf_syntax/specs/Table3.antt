@@ -3,7 +3,7 @@ use Rattle.std.specs.Prelude.{List, [], ◌∷◌}
 use Rattle.inf_machine.specs.Grammar.{Row}
 use Rattle.inf_syntax.specs.declared.actions.Action.{Action}
 use Rattle.inf_syntax.specs.Rows.{row}
-use Rattle.inf_syntax.specs.Parts.{ !begin, !bracket, !bracketed, !comma, !default, !end_case, !name, !negate, !outer, !outer_end, !outer_maybe, !outer_sure, !outer_word, !print_rule, !print_text, !print_value, !rule, !text, !to, 'close_parenthesis', 'colon', 'comma', 'default', 'do', 'else', 'for', 'give', 'if', 'jump', 'minus', 'move', 'objectloop', 'open_parenthesis', 'print', 'print_ret', 'remove', 'return', 'spaces', 'style', 'switch', 'to', 'while', CASENAME, NOTDEFAULT, NOTTO, OPERAND, RESERVED, TEXT, after_prim, after_unary, assign, bracket_item, bracket_name, bracket_name_1, bracket_name_2, bracketed, case_end, case_value, case_value_1, do_rest, end, entry, expression_tail, first_case_1, first_case_2, first_case_3, first_case_4, for_rest, give_rest, if_rest, item_1, item_2, jump_rest, mark_statement, minus_more, move_rest, neg, objectloop_rest, of_expression, operator, other_assign, other_operator, other_prim, plain_prim, plain_word, prefixed, prim, print_rest, range, return_rest, ruled, statement_end, step_prefix, string_rest, switch_item_1, switch_item_10, switch_item_11, switch_item_12, switch_item_13, switch_item_14, switch_item_15, switch_item_16, switch_item_17, switch_item_18, switch_item_19, switch_item_2, switch_item_20, switch_item_21, switch_item_22, switch_item_23, switch_item_24, switch_item_26, switch_item_3, switch_item_4, switch_item_5, switch_item_6, switch_item_7, switch_item_8, switch_item_9, switch_more, switch_rest, switch_word, switch_word_1, text_statement, top_following, top_following_1, top_item_1, top_item_10, top_item_11, top_item_12, top_item_13, top_item_14, top_item_15, top_item_16, top_item_17, top_item_18, top_item_19, top_item_2, top_item_21, top_item_3, top_item_4, top_item_5, top_item_6, top_item_7, top_item_8, top_item_9, top_more, top_next, top_range, top_values, top_values_1, top_values_2, top_word, top_word_1, values, values_1, while_rest}
+use Rattle.inf_syntax.specs.Parts.{ !begin, !bracket, !bracketed, !comma, !default, !end_case, !maybe_deeper, !name, !negate, !outer, !outer_end, !outer_maybe, !outer_sure, !outer_word, !print_rule, !print_text, !print_value, !rule, !text, !to, 'close_parenthesis', 'colon', 'comma', 'default', 'do', 'else', 'for', 'give', 'if', 'jump', 'minus', 'move', 'objectloop', 'open_parenthesis', 'print', 'print_ret', 'remove', 'return', 'spaces', 'string', 'style', 'switch', 'to', 'while', CASENAME, NOTDEFAULT, NOTTO, OPERAND, RESERVED, TEXT, after_prim, after_unary, assign, bracket_item, bracket_name, bracket_name_1, bracket_name_2, bracketed, case_end, case_value, case_value_1, do_rest, end, entry, expression_tail, first_case_1, first_case_2, first_case_3, first_case_4, for_rest, give_rest, if_rest, item_1, item_2, jump_rest, mark_statement, minus_more, move_rest, neg, objectloop_rest, of_expression, operator, other_assign, other_operator, other_prim, plain_prim, plain_word, prefixed, prim, print_rest, range, return_rest, ruled, statement_end, step_prefix, string_rest, switch_item_1, switch_item_10, switch_item_11, switch_item_12, switch_item_13, switch_item_14, switch_item_15, switch_item_16, switch_item_17, switch_item_18, switch_item_19, switch_item_2, switch_item_20, switch_item_21, switch_item_22, switch_item_23, switch_item_24, switch_item_25, switch_item_26, switch_item_3, switch_item_4, switch_item_5, switch_item_6, switch_item_7, switch_item_8, switch_item_9, switch_more, switch_rest, switch_word, switch_word_1, text_statement, top_following, top_following_1, top_item_1, top_item_10, top_item_11, top_item_12, top_item_13, top_item_14, top_item_15, top_item_16, top_item_17, top_item_18, top_item_19, top_item_2, top_item_20, top_item_21, top_item_3, top_item_4, top_item_5, top_item_6, top_item_7, top_item_8, top_item_9, top_more, top_next, top_range, top_values, top_values_1, top_values_2, top_word, top_word_1, values, values_1, while_rest}
 
 abbrev pub rules_3 : List (List (Row Action))
 rules_3 =
@@ -63,6 +63,7 @@ rules_3 =
     ∷ row (!begin ∷ 'give' ∷ top_item_16 ∷ [])
     ∷ row (!begin ∷ 'move' ∷ top_item_17 ∷ [])
     ∷ row (!begin ∷ top_item_18 ∷ top_item_19 ∷ [])
+    ∷ row (!begin ∷ 'string' ∷ top_item_20 ∷ [])
     ∷ row (!begin ∷ 'style' ∷ top_item_21 ∷ [])
     ∷ row (!outer ∷ 'else' ∷ top_word ∷ [])
     ∷ [])
@@ -240,12 +241,12 @@ rules_3 =
     ∷ row (!begin ∷ !outer ∷ switch_item_6 ∷ switch_item_7 ∷ [])
     ∷ row (!begin ∷ !outer ∷ 'minus' ∷ switch_item_8 ∷ [])
     ∷ row (!begin ∷ !outer ∷ prefixed ∷ statement_end ∷ [])
-    ∷ row ('if' ∷ switch_item_10 ∷ [])
-    ∷ row ('while' ∷ switch_item_11 ∷ [])
-    ∷ row ('do' ∷ switch_item_12 ∷ [])
-    ∷ row ('for' ∷ switch_item_13 ∷ [])
-    ∷ row ('objectloop' ∷ switch_item_14 ∷ [])
-    ∷ row ('switch' ∷ switch_item_15 ∷ [])
+    ∷ row (!maybe_deeper ∷ 'if' ∷ switch_item_10 ∷ [])
+    ∷ row (!maybe_deeper ∷ 'while' ∷ switch_item_11 ∷ [])
+    ∷ row (!maybe_deeper ∷ 'do' ∷ switch_item_12 ∷ [])
+    ∷ row (!maybe_deeper ∷ 'for' ∷ switch_item_13 ∷ [])
+    ∷ row (!maybe_deeper ∷ 'objectloop' ∷ switch_item_14 ∷ [])
+    ∷ row (!maybe_deeper ∷ 'switch' ∷ switch_item_15 ∷ [])
     ∷ row (!begin ∷ switch_item_16 ∷ switch_item_17 ∷ [])
     ∷ row (!begin ∷ 'return' ∷ switch_item_18 ∷ [])
     ∷ row (!begin ∷ plain_word ∷ switch_item_19 ∷ [])
@@ -253,6 +254,7 @@ rules_3 =
     ∷ row (!begin ∷ 'give' ∷ switch_item_21 ∷ [])
     ∷ row (!begin ∷ 'move' ∷ switch_item_22 ∷ [])
     ∷ row (!begin ∷ switch_item_23 ∷ switch_item_24 ∷ [])
+    ∷ row (!begin ∷ 'string' ∷ switch_item_25 ∷ [])
     ∷ row (!begin ∷ 'style' ∷ switch_item_26 ∷ [])
     ∷ row (!outer ∷ 'else' ∷ switch_word ∷ [])
     ∷ [])

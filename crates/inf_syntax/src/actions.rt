@@ -106,4 +106,5 @@ pub enum Action {
     OuterWord,
     EndCase,
     To,
+    MaybeDeeper,
 }

@@ -1,1 +1,2 @@
+pub mod LowStrings
 pub mod Tables

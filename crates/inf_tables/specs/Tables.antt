@@ -8,6 +8,7 @@ use Rattle.inf_arrays.specs.Kinds.{laters}
 use Rattle.inf_verbs.specs.Verbs.{verbs_laters}
 use Rattle.inf_world.specs.World.{fixups_now, no_world}
 use Rattle.inf_world.specs.declared.kinds.Limits.{Limits}
+use Rattle.inf_tables.specs.LowStrings.{no_low_strings}
 use Rattle.inf_tables.specs.declared.tables.Tables.{Tables}
 
 -- what there may be of the world
@@ -24,6 +25,7 @@ no_tables settings = record {
   verbs = record { list = []; limit = number_of setting.Verbs settings; space = number_of setting.GrammarLines settings };
   actions = record { routines = []; fakes = 0; limit = number_of setting.Actions settings };
   parsing = [];
+  low_strings = no_low_strings (number_of setting.LowStrings settings);
 }
 
 -- a count and another one: no number of the program is above the greatest

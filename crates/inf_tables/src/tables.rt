@@ -2,6 +2,7 @@
 ghost use Rattle.std.specs.Prelude.{◌≡◌};
 ghost use Rattle.inf_tables.specs.Tables.{more, no_tables, references, references_with, world_limits};
 
+use crate::low_strings::LowStrings;
 use inf_arrays::{Arrays, Globals};
 use inf_dictionary::Dictionary;
 use inf_settings::setting::Setting;
@@ -23,6 +24,7 @@ pub struct Tables {
     pub verbs: Verbs,
     pub actions: Actions,
     pub parsing: ParsingRoutines,
+    pub low_strings: LowStrings,
 }
 
 /// What there may be of the world.
@@ -61,6 +63,7 @@ impl Tables {
             ),
             actions: Actions::new(alloc, settings.of(Setting::Actions) as usize),
             parsing: ParsingRoutines::new(alloc),
+            low_strings: LowStrings::new(alloc, settings.of(Setting::LowStrings) as usize),
         }
     }
 

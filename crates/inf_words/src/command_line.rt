@@ -1,5 +1,5 @@
 //! The words of a command, and the names of the files that they give.
-ghost use Rattle.std.specs.Prelude.{◌≡◌, ◌<◌, IfOk, length, map};
+ghost use Rattle.std.specs.Prelude.{◌≡◌, ◌<◌, ◌==◌, IfOk, length, map};
 ghost use Rattle.std.specs.Option.{option_copied};
 ghost use Rattle.std.specs.String.{string_bytes};
 ghost use Rattle.inf_words.specs.Words.{read_words};
@@ -64,6 +64,13 @@ impl<'a> Options<'a> {
         ensures { result.now ≡ self.now.settings }
     {
         &self.settings
+    }
+
+    /// Whether the word for the source is empty, so that it names no file.
+    pub fn names_nothing(&self) -> bool
+        ensures { result ≡ (length self.now.source == 0) }
+    {
+        self.source.is_empty()
     }
 
     /// The character set of the source: ISO Latin-1 where no word chooses.

@@ -53,6 +53,7 @@ world_same o world e =
           verbs = t.verbs.limit;
           lines = t.verbs.space;
           actions = t.actions.limit;
+          low_strings = t.low_strings.limit;
         },
       )) e,
     )

@@ -44,12 +44,12 @@ use Rattle.inf_statements.specs.declared.constructs.Kind.{Kind}
 use Rattle.inf_statements.specs.declared.constructs.Kind.TheVariants as kind
 use Rattle.inf_statements.specs.declared.constructs.Over.TheVariants as over
 use Rattle.inf_statements.proofs.Keeping.{all_ended_keep, alone_keep, begun_keeps as begun_construct_keeps, case_keeps, cases_begun_keeps, cases_keep, ended_keeps, joined_keeps, leaf_added_keeps, leaves_same, looped_over_keeps, statement_keeps, stepped_keeps, switched_keeps, tested_keeps}
-use Rattle.inf_work.specs.Actions.{Work, begun_at, body_ended, cases_ended, close, close_open, constant, constant_added, constant_finding, constant_meaning, constant_of, constant_with, cut, finding_at, given_up, header_end, header_of, header_with, is_deep, is_first_declared, is_replaced, kind_ended, name_finding, named, nested, new_stub, opened_with, opens, operands_of, passed, replace, routine_declared, settled_of, sized, stopped, stub, stub_code, stub_locals, stubbed, token_checked, told, took, trees_at, unit_ended}
+use Rattle.inf_work.specs.Actions.{Work, begun_at, body_ended, cases_ended, close, close_open, constant, constant_added, constant_finding, constant_meaning, constant_of, constant_with, cut, finding_at, given_up, header_end, header_of, header_with, is_deep, is_first_declared, is_replaced, kind_ended, name_finding, named, nested, new_stub, opened_with, opening_checked, opening_checked_at, opens, operands_of, passed, replace, routine_declared, settled_of, sized, stopped, stub, stub_code, stub_locals, stubbed, token_checked, told, took, trees_at, unit_ended}
 use Rattle.inf_work.specs.Declarations.{alias_by, is_alias, alias_finding, alias_meaning, alias_told, alias_with, aliased, attribute, attribute_added, attribute_number, attribute_with, global_added, global_variable, global_with, is_additive, last_meaning, new_attribute, new_attribute_by, new_global, new_property, new_property_by, nothing_of, name_known, property, property_added, property_named, property_names, property_number, property_order, property_with, value_of, valued, with_variable}
 use Rattle.inf_work.proofs.Bounds.{attribute_read_same, body_ended_same, class_read_same, embedded_read_same, property_read_same, value_read_same}
 use Rattle.inf_work.specs.Directives.{carried_out, default, directive_end, directive_of_names}
 use Rattle.inf_work.specs.declared.declarations.Declared.{Declared}
-use Rattle.inf_work.specs.Acting.{act, acted}
+use Rattle.inf_work.specs.Acting.{act, acted, all_acted}
 use Rattle.inf_work.specs.Findings.{header_fault, name_fault}
 use Rattle.inf_work.specs.Limits.{LimitsStay, SameLimits}
 use Rattle.inf_work.proofs.ArrayLimits.{entry_same, header_same}
@@ -420,12 +420,16 @@ act_same files place action.Default w = (refl, refl)
 act_same files place action.OuterWord w = sized_same files (record w { unit = unit_acted action.OuterWord w.unit })
 act_same files place action.EndCase w = part_same files place part.Case w
 act_same files place action.To w = (refl, refl)
+act_same files place action.MaybeDeeper w = (refl, refl)
 
-pub acted_same : (files : FileNames) (place : Place) (actions : List Action) (w : Work) → SameLimits w (acted files place actions w)
+acted_same : (files : FileNames) (place : Place) (actions : List Action) (w : Work) → SameLimits w (acted files place actions w)
 acted_same files place [] w = (refl, refl)
 acted_same files place (a ∷ actions) w =
     let next = act files place a w in
     same_then w next (acted files place actions next) (act_same files place a w) (acted_same files place actions next)
+
+pub all_acted_same : (files : FileNames) (place : Place) (actions : List Action) (w : Work) → SameLimits w (all_acted files place actions w)
+all_acted_same files place actions w = acted_same files place actions (record w { opening = None })
 
 -- Tokens
 
@@ -435,8 +439,14 @@ took_same files t w =
     let s = sized files taken in
     same_then taken s (token_checked files t s) (sized_same files taken) (nested_same files t.place (opens t.kind && is_deep s 0) s)
 
+opening_same : (opening : Option Place) (files : FileNames) (w : Work) → SameLimits w (opening_checked_at opening files w)
+opening_same None files w = (refl, refl)
+opening_same (Some place) files w = nested_same files place (is_deep w 1) w
+
 pub cut_same : (files : FileNames) (w : Work) → SameLimits w (cut files w)
 cut_same files w =
     let sure = record w { unit = record w.unit { is_sure = true } } in
     let c = body_ended sure in
-    let g = given_up c in same_then w c (sized files g) (body_ended_same sure) (sized_same files g)
+    let g = given_up c in
+    let s = sized files g in
+    same_then w c (opening_checked files s) (body_ended_same sure) (same_then g s (opening_checked files s) (sized_same files g) (opening_same s.opening files s))

@@ -1,5 +1,5 @@
 -- What each action of the grammar does.
-use Rattle.std.specs.Prelude.{List, [], ◌∷◌, false, true}
+use Rattle.std.specs.Prelude.{List, [], ◌∷◌, None, Some, false, true}
 use Rattle.inf_scanner.specs.declared.tokens.Place.{Place}
 use Rattle.inf_syntax.specs.declared.actions.Action.{Action}
 use Rattle.inf_syntax.specs.declared.actions.Action.TheVariants as action
@@ -43,6 +43,7 @@ act files place action.EndObjectloop w = part_ended files place part.Loop w
 act files place action.EndSwitch w = part_ended files place part.Switched w
 act files place action.EndCase w = part_ended files place part.Case w
 act files place action.Deeper w = nested files place (is_deep w 1) w
+act files place action.MaybeDeeper w = record w { opening = Some place }
 act files place action.OpenIf w = construct_opened files place kind.If w
 act files place action.OpenWhile w = construct_opened files place kind.While w
 act files place action.OpenDo w = construct_opened files place kind.Do w
@@ -61,3 +62,7 @@ act files place a w = record w { unit = unit_acted a w.unit }
 abbrev pub acted : FileNames → Place → List Action → Work → Work
 acted files place [] w = w
 acted files place (a ∷ actions) w = acted files place actions (act files place a w)
+
+-- what those on the way to a token do
+abbrev pub all_acted : FileNames → Place → List Action → Work → Work
+all_acted files place actions w = acted files place actions (record w { opening = None })

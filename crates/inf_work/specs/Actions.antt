@@ -86,7 +86,8 @@ no_output settings = record {
 }
 
 -- What was compiled so far: the character set of the sources; how many tokens an expression may have, and how many one had; how many labels a routine had, where
--- units were finished; the unit at hand; the statements that are open, the innermost first, and how many that are over were closed ahead of a conditional; the labels with names and the locals of the open routine; the code and the names of the source; the messages; what a directive asks of the reading; the names of
+-- units were finished; the unit at hand; the statements that are open, the innermost first, and how many that are over were closed ahead of a conditional;
+-- where the last token is, if it is the word of a compound statement where a case may stand, too; the labels with names and the locals of the open routine; the code and the names of the source; the messages; what a directive asks of the reading; the names of
 -- routines that are to be replaced, whether those of the file at hand may be, and those of the files that wait, the inner files first; whether the
 -- routine at hand is passed over for that; the array whose entries are read, and where they go if its header had an error; whether the
 -- values that are read are those of the property `name`, and whether the open routine is a value of a property.
@@ -98,6 +99,7 @@ pub record Work : Type 0 where
   pub unit : Unit
   pub constructs : List Construct
   pub closed : ℕ
+  pub opening : Option Place
   pub labels : List NamedLabel
   pub locals : List Local
   pub output : Out
@@ -123,6 +125,7 @@ no_work set settings = record {
   unit = no_unit;
   constructs = [];
   closed = 0;
+  opening = None;
   labels = [];
   locals = [];
   output = no_output settings;
@@ -143,7 +146,7 @@ no_work set settings = record {
 
 -- A piece begins. No locals of a routine before it are known in it.
 abbrev pub piece_begun : Work → Work
-piece_begun w = record w { unit = no_unit; constructs = []; closed = 0; locals = [] }
+piece_begun w = record w { unit = no_unit; constructs = []; closed = 0; opening = None; locals = [] }
 
 -- the labels, branches and jumps of the open routine are counted
 abbrev pub labels_counted : Work → Work
@@ -212,9 +215,17 @@ body_ended w = record w { output = world_ended w.output }
 abbrev pub given_up : Work → Work
 given_up w = record w { output = record w.output { code = with_none_open w.output.code } }
 
+-- The word of a compound statement opens its level with a bad token behind it, too, where a case of that name might have stood.
+abbrev pub opening_checked_at : Option Place → FileNames → Work → Work
+opening_checked_at None files w = w
+opening_checked_at (Some place) files w = nested files place (is_deep w 1) w
+
+abbrev pub opening_checked : FileNames → Work → Work
+opening_checked files w = opening_checked_at w.opening files w
+
 -- a bad token cuts the unit at hand, which surely was an expression, and the body and the routine in which it stands
 abbrev pub cut : FileNames → Work → Work
-cut files w = sized files (given_up (body_ended (record w { unit = record w.unit { is_sure = true } })))
+cut files w = opening_checked files (sized files (given_up (body_ended (record w { unit = record w.unit { is_sure = true } }))))
 
 -- whether a token is the name of a class
 abbrev pub names_class_of : Meaning → Bool

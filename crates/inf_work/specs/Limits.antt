@@ -5,7 +5,7 @@ use Rattle.inf_syntax.specs.declared.actions.Action.{Action}
 use Rattle.inf_unit.specs.Messages.{FileNames}
 use Rattle.inf_output.specs.Limits.{SameLimits as SameOutLimits}
 use Rattle.inf_work.specs.Actions.{Work}
-use Rattle.inf_work.specs.Acting.{acted}
+use Rattle.inf_work.specs.Acting.{all_acted}
 
 -- as much as before
 abbrev pub SameLimits : Work → Work → Type 0
@@ -13,4 +13,4 @@ SameLimits before after = SameOutLimits before.output after.output
 
 -- No action changes it.
 abbrev pub LimitsStay : Type 0
-LimitsStay = (files : FileNames) (place : Place) (actions : List Action) (w : Work) → SameLimits w (acted files place actions w)
+LimitsStay = (files : FileNames) (place : Place) (actions : List Action) (w : Work) → SameLimits w (all_acted files place actions w)

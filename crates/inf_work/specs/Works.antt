@@ -15,6 +15,7 @@ work w = record {
   unit = unit w.unit;
   constructs = w.constructs;
   closed = w.closed;
+  opening = w.opening;
   labels = w.labels;
   locals = listed w.locals;
   output = w.output;

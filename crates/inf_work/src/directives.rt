@@ -39,7 +39,6 @@ impl Work {
     ghost use Rattle.inf_work.specs.Works.{work};
 
     /// A directive ends, before a token at a place.
-    #[inline(never)]
     pub(crate) fn end_directive(&mut self, files: &Stack, place: Place) -> Result<(), AllocError>
         ensures { OnOk result (work self.new ≡ directive_end files.now.names place (work self.old)) }
     {

@@ -322,7 +322,6 @@ impl Work {
     }
 
     /// A unit of a routine ends, before a token at a place. In a routine that is passed over nothing has an effect.
-    #[inline(never)]
     pub(crate) fn end_part(
         &mut self,
         files: &Stack,

@@ -26,7 +26,6 @@ impl Work {
     ghost use Rattle.inf_work.specs.Works.{work};
 
     /// The header of a routine ends, before a token at a place.
-    #[inline(never)]
     pub(crate) fn end_header(&mut self, files: &Stack, place: Place) -> Result<(), AllocError>
         ensures { OnOk result (work self.new ≡ header_end files.now.names place (work self.old)) }
     {
@@ -104,7 +103,6 @@ impl Work {
     }
 
     /// Ends the open routine at a place: tells its unused locals, and finishes its code.
-    #[inline(never)]
     pub(crate) fn close(&mut self, files: &Stack, place: Place) -> Result<(), AllocError>
         ensures { OnOk result (work self.new ≡ close files.now.names place (work self.old)) }
     {

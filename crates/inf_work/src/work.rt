@@ -54,6 +54,8 @@ pub struct Work {
     pub(crate) constructs: Constructs,
     /// How many that the next token ends, whatever it is, were closed before it, since a conditional stands before it.
     closed: usize,
+    /// Where the last token is, if it is the word of a compound statement where a case may stand, too.
+    opening: Option<Place>,
     /// The labels with names of the routine that was opened last.
     pub(crate) labels: Labels,
     /// Its locals.
@@ -114,9 +116,9 @@ fn names_class(found: Found<Place>) -> bool
 
 impl Work {
     ghost use Rattle.inf_unit.specs.Directives.{Nothing, asked, asks};
-    ghost use Rattle.inf_work.specs.Actions.{begun_at, cut, entered, is_class, is_deep, labels_counted, left, nested, no_work, passed, piece_begun, sized, token_checked, took, unit_ended};
+    ghost use Rattle.inf_work.specs.Actions.{begun_at, cut, entered, is_class, is_deep, labels_counted, left, nested, no_work, opening_checked, passed, piece_begun, sized, token_checked, took, unit_ended};
     ghost use Rattle.inf_work.specs.Parts.{closed_ahead, construct_closed};
-    ghost use Rattle.inf_work.specs.Acting.{act, acted};
+    ghost use Rattle.inf_work.specs.Acting.{act, acted, all_acted};
     ghost use Rattle.inf_work.specs.Works.{work};
 
     /// Before the first unit of sources in a character set.
@@ -132,6 +134,7 @@ impl Work {
             unit: Unit::new(alloc),
             constructs: Constructs::new(alloc),
             closed: 0,
+            opening: None,
             labels: Labels::new(alloc),
             locals: Locals::new(),
             output: no_output(alloc, settings)?,
@@ -208,6 +211,7 @@ impl Work {
         self.unit.clear();
         self.constructs.clear();
         self.closed = 0;
+        self.opening = None;
         self.locals = Locals::new();
     }
 
@@ -258,18 +262,44 @@ impl Work {
         self.check_token(files, token)
     }
 
-    /// A bad token cuts the unit at hand, of which the outermost expression surely was one. The routine in which it stands is given up.
+    /// A bad token cuts the unit at hand, of which the outermost expression surely was one, and the word before it opened its statement. The routine in
+    /// which it stands is given up.
     pub fn cut(&mut self, files: &Stack) -> Result<(), AllocError>
         ensures { OnOk result (work self.new ≡ cut files.now.names (work self.old)) }
     {
         self.unit.is_sure = true;
         self.end_body()?;
         self.output.code.give_up();
-        self.size(files)
+        self.size(files)?;
+        self.check_opening(files)
+    }
+
+    /// The word of a compound statement that was taken last may stand too deep.
+    fn check_opening(&mut self, files: &Stack) -> Result<(), AllocError>
+        ensures { OnOk result (work self.new ≡ opening_checked files.now.names (work self.old)) }
+    {
+        let Some(place) = self.opening else {
+            return Ok(());
+        };
+        let is_deep = self.is_deep(1);
+        self.nest(files, place, is_deep)
+    }
+
+    /// Carries out the actions on the way to a token at a place.
+    pub fn act_all(
+        &mut self,
+        files: &Stack,
+        place: Place,
+        actions: &[Action],
+    ) -> Result<(), AllocError>
+        ensures { OnOk result (work self.new ≡ all_acted files.now.names place actions.now (work self.old)) }
+    {
+        self.opening = None;
+        self.act_each(files, place, actions)
     }
 
     /// Carries out some actions, before a token at a place.
-    pub fn act_all(
+    fn act_each(
         &mut self,
         files: &Stack,
         place: Place,
@@ -313,6 +343,10 @@ impl Work {
             Action::Deeper => {
                 let is_deep = self.is_deep(1);
                 self.nest(files, place, is_deep)
+            }
+            Action::MaybeDeeper => {
+                self.opening = Some(place);
+                Ok(())
             }
             Action::OpenIf => self.open_construct(files, place, Kind::If),
             Action::OpenWhile => self.open_construct(files, place, Kind::While),

@@ -7,11 +7,11 @@ use inf_words::dates;
 use jiff::Timestamp;
 use jiff::tz::Offset;
 use std::alloc::AllocError;
-use std::env;
 use std::fmt::Display;
 use std::io::{self, ErrorKind};
 use std::process::ExitCode;
 use std::rt::{Clock, Env, Files};
+use std::{env, fs};
 
 /// Why a run could not go on.
 #[derive(Clone, Copy)]
@@ -114,7 +114,7 @@ fn compile_files<R: Clock + Files + Print + Eprint + AllocGlobal>(
         Ok(Status::Errors) => Ok(ExitCode::from(1)),
         Err(Fault::Memory) => Err(Failure::Memory),
         Err(Fault::Read(name)) => {
-            tell_source(rt, name.as_str(), &files.trouble);
+            tell_source(rt, name.as_str(), &files);
             Err(Failure::Told)
         }
         Err(Fault::Messages) => Err(Failure::Output(reason_of(&messages.trouble))),
@@ -136,11 +136,28 @@ fn reason_of(trouble: &Trouble) -> ErrorKind {
     trouble.reason.unwrap_or(ErrorKind::Other)
 }
 
-/// Says on standard error why a source was not read. Where the system gave no reason, it is too long.
-fn tell_source(rt: &impl Eprint, name: &str, trouble: &Trouble) {
-    let _ = match trouble.reason {
+/// The most bytes of a source.
+const MOST_BYTES: u64 = 16_777_216;
+
+/// The most names that the files of a run may have.
+const MOST_NAMES: u64 = 65_535;
+
+/// Whether the system knows no file of this name that is too long.
+fn is_short<R: Files>(rt: &R, name: &str) -> bool {
+    match fs::metadata(rt, name) {
+        Ok(metadata) => metadata.len() <= MOST_BYTES,
+        Err(_) => true,
+    }
+}
+
+/// Says on standard error why a source was not read. Where the system gave no reason, its name is one too many, or it is too long.
+fn tell_source<R: Files + Eprint>(rt: &R, name: &str, files: &DiskFiles<'_, R>) {
+    let _ = match files.trouble.reason {
         Some(reason) => rt.eprintln(format_args!("{name}: {reason}")),
-        None => rt.eprintln(format_args!("{name}: over 16777216 bytes")),
+        None if files.opened >= MOST_NAMES && is_short(rt, name) => {
+            rt.eprintln(format_args!("{name}: over {MOST_NAMES} files by name"))
+        }
+        None => rt.eprintln(format_args!("{name}: over {MOST_BYTES} bytes")),
     };
 }
 

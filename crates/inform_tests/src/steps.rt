@@ -30,6 +30,10 @@ const SIDES: &[u8] =
 const EXPRESSIONS: &[u8] =
     b"Iftrue 1 + 2 * 3 == 7;\nEndif;\n[ Main i; while (i < 9) if (i == 4) i++; #Iftrue (2 + 3 + 4 + 5 + 6) > 1; i = 1; #Endif; ];\n[ R x; if (x) if (x > 1) if (x > 2) { x = 1; 5 } ];\nConstant C = 1 + 2;\n[ S; do { } until (1); ];\n";
 
+/// Directives of each kind that tables are made of, a routine with labels and a string, and one with a low string.
+const TABLES: &[u8] =
+    b"Constant text = \"abcd\";\nClass Room with size 1 2, name 'hall';\nRoom hall \"Hall\" with size 3 \"ab\", run [ x; return x; ];\nArray list --> 'hall' 'door' ##Go list;\nVerb 'take' 'get' * noun 'off'/'door' -> Take * -> Look;\nExtend 'get' first * topic -> Go reverse;\nFake_action Fall;\n[ Main x; while (x) x--; print (string) \"abc\", x; ];\n[ Set; string 1 \"abcd\"; ];\n";
+
 /// The line behind the bad token of these.
 const CUT: &str = "t.inf(4): Error: Syntax error at \"}\"\n";
 
@@ -80,6 +84,7 @@ impl<'a> Run<'a> {
         wanted: Step,
         lines: &str,
         counts: [usize; 6],
+        tables: [usize; 9],
     ) -> Result<(), Fail>
         requires is_open { length self.old.session.open_files.outer < length self.old.files.openings.open_places }
         requires goes { self.old.session.open_files.lexer.has_failed ≡ false }
@@ -91,7 +96,7 @@ impl<'a> Run<'a> {
         let came = self.go_on()?;
         assert!(rt; came == wanted, "{lines:?}");
         assert_written(rt, self.messages.bytes(), lines.as_bytes());
-        assert_held(rt, self.session.held(), counts);
+        assert_held(rt, self.session.held(), counts, tables);
         Ok(())
     }
 
@@ -187,71 +192,161 @@ impl<'a> Run<'a> {
 }
 
 /// What a step comes to, the messages behind it, and the longest quoted token, the tokens of the longest expression, the names, the most
-/// labels of a routine, the bytes of code, and the references then.
-type Wanted = (Step, &'static str, [usize; 6]);
+/// labels of a routine, the bytes of code, and the references then; the words, objects, verbs and actions, and the bytes of grammar, of
+/// properties, of arrays, of low strings and of strings.
+type Wanted = (Step, &'static str, [usize; 6], [usize; 9]);
 
-/// Asserts the longest quoted token, the tokens of the longest expression, the names, the most labels of a routine, the bytes of code, and the
-/// references. Nothing else is counted yet.
-fn assert_held(rt: &impl Abort, held: [usize; 15], counts: [usize; 6]) {
+/// What there is of the last nine without a directive or a statement for them: four objects, whose property tables have 30 bytes, and a low
+/// string of two bytes.
+const BARE: [usize; 9] = [0, 4, 0, 0, 0, 30, 0, 2, 0];
+
+/// Asserts how much there is of all that the settings bound.
+fn assert_held(rt: &impl Abort, held: [usize; 15], counts: [usize; 6], tables: [usize; 9]) {
     let [quoted, tokens, names, labels, code, references] = counts;
-    // Each story has four objects, whose property tables have 30 bytes, and a low string of two.
+    let [
+        words,
+        objects,
+        verbs,
+        actions,
+        grammar,
+        properties,
+        arrays,
+        low,
+        strings,
+    ] = tables;
     let wanted = [
-        quoted, tokens, names, labels, 0, 4, 0, 0, 0, 30, 0, 2, code, 0, references,
+        quoted, tokens, names, labels, words, objects, verbs, actions, grammar, properties, arrays,
+        low, code, strings, references,
     ];
     assert!(rt; held == wanted, "{held:?}");
 }
 
 /// All steps of the source.
 static STEPS: [Wanted; 12] = [
-    (Step::More, "abc\n", [3, 0, 0, 0, 8, 5]),
-    (Step::More, "abc\n", [3, 3, 2, 0, 16, 7]),
+    (Step::More, "abc\n", [3, 0, 0, 0, 8, 5], BARE),
+    (Step::More, "abc\n", [3, 3, 2, 0, 16, 7], BARE),
     // a conditional with the side that it leaves out, and the directive behind this side
-    (Step::More, "abc\n", [3, 3, 2, 0, 16, 7]),
-    (Step::More, "abc\n", [3, 3, 2, 0, 16, 7]),
-    (Step::More, "abc\n", [3, 3, 3, 0, 16, 7]),
-    (Step::More, "abc\ne\n", [3, 3, 3, 0, 16, 7]),
-    (Step::More, "abc\ne\n", [3, 3, 3, 0, 16, 7]),
-    (Step::More, "abc\ne\n", [5, 3, 3, 0, 24, 7]),
-    (Step::More, BAD, [5, 3, 3, 0, 24, 7]),
+    (Step::More, "abc\n", [3, 3, 2, 0, 16, 7], BARE),
+    (Step::More, "abc\n", [3, 3, 2, 0, 16, 7], BARE),
+    (Step::More, "abc\n", [3, 3, 3, 0, 16, 7], BARE),
+    (Step::More, "abc\ne\n", [3, 3, 3, 0, 16, 7], BARE),
+    (Step::More, "abc\ne\n", [3, 3, 3, 0, 16, 7], BARE),
+    (Step::More, "abc\ne\n", [5, 3, 3, 0, 24, 7], BARE),
+    (Step::More, BAD, [5, 3, 3, 0, 24, 7], BARE),
     // the end of the file
-    (Step::More, BAD, [5, 3, 3, 0, 24, 7]),
+    (Step::More, BAD, [5, 3, 3, 0, 24, 7], BARE),
     // behind the end nothing is read
-    (Step::End, BAD, [5, 3, 3, 0, 24, 7]),
-    (Step::End, BAD, [5, 3, 3, 0, 24, 7]),
+    (Step::End, BAD, [5, 3, 3, 0, 24, 7], BARE),
+    (Step::End, BAD, [5, 3, 3, 0, 24, 7], BARE),
 ];
 
 /// All steps of the source of conditionals.
 static CHOICES: [Wanted; 10] = [
-    (Step::More, "", [0, 0, 1, 0, 8, 5]),
-    (Step::More, "", [0, 0, 1, 0, 8, 5]),
-    (Step::More, "", [0, 0, 1, 0, 8, 5]),
-    (Step::More, "", [0, 0, 1, 0, 8, 5]),
-    (Step::More, "", [0, 0, 1, 0, 8, 5]),
-    (Step::More, "y\n", [1, 0, 1, 0, 8, 5]),
-    (Step::More, "y\n", [1, 0, 1, 0, 8, 5]),
+    (Step::More, "", [0, 0, 1, 0, 8, 5], BARE),
+    (Step::More, "", [0, 0, 1, 0, 8, 5], BARE),
+    (Step::More, "", [0, 0, 1, 0, 8, 5], BARE),
+    (Step::More, "", [0, 0, 1, 0, 8, 5], BARE),
+    (Step::More, "", [0, 0, 1, 0, 8, 5], BARE),
+    (Step::More, "y\n", [1, 0, 1, 0, 8, 5], BARE),
+    (Step::More, "y\n", [1, 0, 1, 0, 8, 5], BARE),
     // sides inside a routine are part of it
-    (Step::More, "y\n", [1, 0, 2, 0, 16, 5]),
-    (Step::More, "y\n", [1, 0, 2, 0, 16, 5]),
-    (Step::End, "y\n", [1, 0, 2, 0, 16, 5]),
+    (Step::More, "y\n", [1, 0, 2, 0, 16, 5], BARE),
+    (Step::More, "y\n", [1, 0, 2, 0, 16, 5], BARE),
+    (Step::End, "y\n", [1, 0, 2, 0, 16, 5], BARE),
 ];
 
 /// All steps of a bad piece.
 static BAD_STEPS: [Wanted; 3] = [
-    (Step::More, FIVE, [0, 0, 0, 0, 0, 4]),
-    (Step::More, FIVE, [0, 0, 0, 0, 0, 4]),
-    (Step::End, FIVE, [0, 0, 0, 0, 0, 4]),
+    (Step::More, FIVE, [0, 0, 0, 0, 0, 4], BARE),
+    (Step::More, FIVE, [0, 0, 0, 0, 0, 4], BARE),
+    (Step::End, FIVE, [0, 0, 0, 0, 0, 4], BARE),
 ];
 
 /// All steps of the source of expressions and labels.
 static COUNTED: [Wanted; 8] = [
-    (Step::More, "", [0, 7, 0, 0, 8, 5]),
-    (Step::More, "", [0, 7, 0, 0, 8, 5]),
-    (Step::More, "", [0, 13, 1, 8, 28, 5]),
-    (Step::More, CUT, [0, 13, 2, 8, 28, 5]),
-    (Step::More, CUT, [0, 13, 3, 8, 28, 5]),
-    (Step::More, CUT, [0, 13, 4, 8, 32, 5]),
-    (Step::More, CUT, [0, 13, 4, 8, 32, 5]),
-    (Step::End, CUT, [0, 13, 4, 8, 32, 5]),
+    (Step::More, "", [0, 7, 0, 0, 8, 5], BARE),
+    (Step::More, "", [0, 7, 0, 0, 8, 5], BARE),
+    (Step::More, "", [0, 13, 1, 8, 28, 5], BARE),
+    (Step::More, CUT, [0, 13, 2, 8, 28, 5], BARE),
+    (Step::More, CUT, [0, 13, 3, 8, 28, 5], BARE),
+    (Step::More, CUT, [0, 13, 4, 8, 32, 5], BARE),
+    (Step::More, CUT, [0, 13, 4, 8, 32, 5], BARE),
+    (Step::End, CUT, [0, 13, 4, 8, 32, 5], BARE),
+];
+
+/// All steps of the source of tables.
+static FILLED: [Wanted; 11] = [
+    (
+        Step::More,
+        "",
+        [4, 1, 1, 0, 8, 5],
+        [0, 4, 0, 0, 0, 30, 0, 2, 4],
+    ),
+    // eight bytes of a class's own table, and six of what it holds for others
+    (
+        Step::More,
+        "",
+        [4, 1, 3, 0, 8, 6],
+        [1, 5, 0, 0, 0, 44, 0, 2, 4],
+    ),
+    // 15 bytes of an object's table, and 14 of that of its individual properties
+    (
+        Step::More,
+        "",
+        [4, 1, 5, 0, 12, 11],
+        [1, 6, 0, 0, 0, 73, 0, 2, 8],
+    ),
+    (
+        Step::More,
+        "",
+        [4, 2, 7, 0, 12, 15],
+        [2, 6, 0, 1, 0, 73, 8, 2, 8],
+    ),
+    // three bytes of a verb, and three of each line and of each token of a line
+    (
+        Step::More,
+        "",
+        [4, 2, 9, 0, 12, 20],
+        [5, 6, 1, 3, 18, 73, 8, 2, 8],
+    ),
+    (
+        Step::More,
+        "",
+        [4, 2, 9, 0, 12, 20],
+        [5, 6, 1, 3, 24, 73, 8, 2, 8],
+    ),
+    (
+        Step::More,
+        "",
+        [4, 2, 10, 0, 12, 20],
+        [5, 6, 1, 3, 24, 73, 8, 2, 8],
+    ),
+    (
+        Step::More,
+        "",
+        [4, 2, 11, 4, 28, 21],
+        [5, 6, 1, 3, 24, 73, 8, 2, 12],
+    ),
+    // a low string of four bytes, whose statement refers to it and to the abbreviations
+    (
+        Step::More,
+        "",
+        [4, 2, 12, 4, 40, 23],
+        [5, 6, 1, 3, 24, 73, 8, 6, 12],
+    ),
+    // the end of the file
+    (
+        Step::More,
+        "",
+        [4, 2, 12, 4, 40, 23],
+        [5, 6, 1, 3, 24, 73, 8, 6, 12],
+    ),
+    (
+        Step::End,
+        "",
+        [4, 2, 12, 4, 40, 23],
+        [5, 6, 1, 3, 24, 73, 8, 6, 12],
+    ),
 ];
 
 /// Makes these steps, one after the other.
@@ -261,8 +356,8 @@ fn make_steps(rt: &impl Abort, run: &mut Run<'_>, wanted: &[Wanted]) -> Result<(
     requires set { IsSet run.old.session }
     ensures is_open { length run.new.session.open_files.outer < length run.new.files.openings.open_places }
 {
-    for (step, lines, counts) in wanted {
-        run.step(rt, *step, *lines, *counts)?;
+    for (step, lines, counts, tables) in wanted {
+        run.step(rt, *step, *lines, *counts, *tables)?;
     }
     Ok(())
 }
@@ -301,6 +396,12 @@ fn a_side_that_is_left_out_is_part_of_its_directive(rt: HostRuntime) -> Result<(
 #[test]
 fn expressions_and_labels_are_counted(rt: HostRuntime) -> Result<(), Fail> {
     play(&rt, rt.alloc(), EXPRESSIONS, &COUNTED, None)
+}
+
+/// Behind the last of these steps there is something of all that the settings bound.
+#[test]
+fn what_tables_take_is_counted(rt: HostRuntime) -> Result<(), Fail> {
+    play(&rt, rt.alloc(), TABLES, &FILLED, None)
 }
 
 /// A word counts once, as an entry of an array it is an expression of one token, and each is a reference of two bytes.

@@ -1,35 +1,174 @@
-use Rattle.std.proofs.Common.{map, ap, ◌∙◌}
+use Rattle.std.specs.Prelude.{IfOk, IfErr, OnOk, OnErr}
+use Rattle.std.proofs.Common.{◌≡◌, ◌==◌, inl, ℕ, List, codes, length, true, false, refl, sym, ◌∙◌}
+use Rattle.std.proofs.lemmas.Result.{IfErr-weaker, IfOk-weaker, on_err_weaker}
 use Rattle.inf_opcode.proofs.Growing.{on_err}
-use Rattle.inf_words.specs.Directories.{directories_of}
-use Rattle.inf_compile.specs.Compiling.{chosen_by}
-use Rattle.inf_compile.proofs.Delivering.{begins_whole, chosen_is, clean_where_delivered, opened_whole}
+use Rattle.inf_token.specs.Files.{Rose, Sources}
+use Rattle.inf_symbol.specs.Sinks.{Takes}
+use Rattle.inf_words.specs.FileNames.{source_name}
+use Rattle.inf_outcome.specs.Comes.{Begins, Heard, OpenedBy, OpenedPart}
+use Rattle.inf_session.specs.Ending.{missing}
+use Rattle.inf_session.specs.Faults.{IfRead, IfStory}
+use Rattle.inf_session.specs.declared.compiled.Status.TheVariants as status
+use Rattle.inf_compile.specs.Compiling.{Compiles, DeliversPart, HasCause, chosen_by, named_by}
+use Rattle.inf_compile.proofs.Delivering.{all_named, more_caused, none_clean, none_read, none_told, refused_begins, refused_compiles, refused_opens, untouched_always}
 use Rattle.inf_compile.proofs.compile.compile.Goals as goal
 
-pub returns-clause-begins : goal.returns-clause-begins
-returns-clause-begins g c = λ honest.
+pub returns-then-names_nothing-clause-headline : goal.returns-then-names_nothing-clause-headline
+returns-then-names_nothing-clause-headline g c = λ honest.
     let files = g.F.Files in
     let options = c.args.options.now in
-    on_err c.deliver.result
-    (begins_whole (files.sources c.args.files.now) _ (chosen_by options) c.args.date _ _ (files.openings c.args.files.now) (files.openings c.translate.new.files)
-    (g.M.Sink.taken c.args.messages.now) (g.M.Sink.taken c.translate.new.messages) c.in_ok-compiled.compiled
-    (chosen_is c.set.result options.letters.set c.has_warnings.result options.letters.has_warnings c.settings.result.now options.settings (map (λ d. d.now) c.as_slice.result.now) (directories_of options.path)
-    c.set.ensures c.has_warnings.ensures c.settings.ensures (ap (map (λ d. d.now)) c.as_slice.ensures.value ∙ c.in_ok-directories.ensures))
-    (c.as_str.ensures.value ∙ c.in_ok-name.ensures.bytes)
-    (c.in_ok-compiled.ensures.comes honest))
+    let s = files.sources c.args.files.now in
+    let o = chosen_by options in
+    let word = options.source in
+    let name = source_name word in
+    let date = c.args.date in
+    let before = g.M.Sink.taken c.args.messages.now in
+    let story_old = g.S.Sink.taken c.args.story.now in
+    let after = g.M.Sink.taken c.refuse.new.messages in
+    let none = sym c.names_nothing.ensures ∙ c.if-names_nothing.true in
+    IfOk-weaker c.refuse.result (λ r. (r ≡ status.Errors) × Takes before after (missing (codes ".inf")).messages)
+    (λ r. Compiles (named_by word s) o date name r before after story_old story_old)
+    (λ r k. refused_compiles word date s o r before after story_old story_old none k.0 k.1 refl) c.refuse.ensures.ok
+
+pub returns-then-names_nothing-clause-opened : goal.returns-then-names_nothing-clause-opened
+returns-then-names_nothing-clause-opened g c = λ honest. on_err c.refuse.result (inl refl)
+
+pub returns-then-names_nothing-clause-begins : goal.returns-then-names_nothing-clause-begins
+returns-then-names_nothing-clause-begins g c = λ honest.
+    let files = g.F.Files in
+    let options = c.args.options.now in
+    let s = files.sources c.args.files.now in
+    let o = chosen_by options in
+    let word = options.source in
+    let name = source_name word in
+    let date = c.args.date in
+    let before = g.M.Sink.taken c.args.messages.now in
+    let story_old = g.S.Sink.taken c.args.story.now in
+    let after = g.M.Sink.taken c.refuse.new.messages in
+    let none = sym c.names_nothing.ensures ∙ c.if-names_nothing.true in
+    on_err_weaker c.refuse.result (λ k. refused_begins word date s o before after none k) c.refuse.ensures.err
+
+pub returns-then-names_nothing-clause-heard : goal.returns-then-names_nothing-clause-heard
+returns-then-names_nothing-clause-heard g c = λ honest. IfErr-weaker c.refuse.result _ _ (λ fault cause. none_read fault _ _ cause) c.refuse.ensures.fault
+
+pub returns-then-names_nothing-clause-clean : goal.returns-then-names_nothing-clause-clean
+returns-then-names_nothing-clause-clean g c =
+    none_clean c.refuse.result _ _ (IfOk-weaker c.refuse.result _ (λ r. r ≡ status.Errors) (λ r k. k.0) c.refuse.ensures.ok) c.refuse.ensures.fault
+
+pub returns-then-names_nothing-clause-fault : goal.returns-then-names_nothing-clause-fault
+returns-then-names_nothing-clause-fault g c = IfErr-weaker c.refuse.result _ _ (λ fault cause. more_caused fault _ _ _ cause) c.refuse.ensures.fault
+
+pub returns-then-names_nothing-clause-part : goal.returns-then-names_nothing-clause-part
+returns-then-names_nothing-clause-part g c = λ honest. IfErr-weaker c.refuse.result _ _ (λ fault cause. none_told fault _ _ cause) c.refuse.ensures.fault
+
+pub returns-then-names_nothing-clause-untouched : goal.returns-then-names_nothing-clause-untouched
+returns-then-names_nothing-clause-untouched g c = IfErr-weaker c.refuse.result _ _ (λ fault cause. untouched_always fault _) c.refuse.ensures.fault
+
+pub returns-clause-headline : goal.returns-clause-headline
+returns-clause-headline g c = λ honest.
+    let files = g.F.Files in
+    let options = c.args.options.now in
+    let s = files.sources c.args.files.now in
+    let o = chosen_by options in
+    let word = options.source in
+    let name = source_name word in
+    let date = c.args.date in
+    let before = g.M.Sink.taken c.args.messages.now in
+    let story_old = g.S.Sink.taken c.args.story.now in
+    let after = g.M.Sink.taken c.compile_named.new.messages in
+    let story_new = g.S.Sink.taken c.compile_named.new.story in
+    let old = files.openings c.args.files.now in
+    let new = files.openings c.compile_named.new.files in
+    let some = sym c.names_nothing.ensures ∙ c.if-names_nothing.false in
+    all_named (λ (x : Sources). IfOk c.compile_named.result (λ r. Compiles x o date name r before after story_old story_new)) word s some (c.compile_named.ensures.headline honest)
+
+pub returns-clause-once : goal.returns-clause-once
+returns-clause-once g c = λ honest.
+    let files = g.F.Files in
+    let options = c.args.options.now in
+    let s = files.sources c.args.files.now in
+    let o = chosen_by options in
+    let word = options.source in
+    let name = source_name word in
+    let date = c.args.date in
+    let before = g.M.Sink.taken c.args.messages.now in
+    let story_old = g.S.Sink.taken c.args.story.now in
+    let after = g.M.Sink.taken c.compile_named.new.messages in
+    let story_new = g.S.Sink.taken c.compile_named.new.story in
+    let old = files.openings c.args.files.now in
+    let new = files.openings c.compile_named.new.files in
+    let some = sym c.names_nothing.ensures ∙ c.if-names_nothing.false in
+    all_named (λ (x : Sources). OnOk c.compile_named.result (OpenedBy (x name) x o name old new)) word s some (c.compile_named.ensures.once honest)
 
 pub returns-clause-opened : goal.returns-clause-opened
 returns-clause-opened g c = λ honest.
     let files = g.F.Files in
     let options = c.args.options.now in
-    on_err c.deliver.result
-    (opened_whole (files.sources c.args.files.now) _ (chosen_by options) c.args.date _ _ (files.openings c.args.files.now) (files.openings c.translate.new.files)
-    (g.M.Sink.taken c.args.messages.now) (g.M.Sink.taken c.translate.new.messages) c.in_ok-compiled.compiled
-    (chosen_is c.set.result options.letters.set c.has_warnings.result options.letters.has_warnings c.settings.result.now options.settings (map (λ d. d.now) c.as_slice.result.now) (directories_of options.path)
-    c.set.ensures c.has_warnings.ensures c.settings.ensures (ap (map (λ d. d.now)) c.as_slice.ensures.value ∙ c.in_ok-directories.ensures))
-    (c.as_str.ensures.value ∙ c.in_ok-name.ensures.bytes)
-    (c.in_ok-compiled.ensures.comes honest))
+    let s = files.sources c.args.files.now in
+    let o = chosen_by options in
+    let word = options.source in
+    let name = source_name word in
+    let date = c.args.date in
+    let before = g.M.Sink.taken c.args.messages.now in
+    let story_old = g.S.Sink.taken c.args.story.now in
+    let after = g.M.Sink.taken c.compile_named.new.messages in
+    let story_new = g.S.Sink.taken c.compile_named.new.story in
+    let old = files.openings c.args.files.now in
+    let new = files.openings c.compile_named.new.files in
+    let some = sym c.names_nothing.ensures ∙ c.if-names_nothing.false in
+    all_named (λ (x : Sources). OnErr c.compile_named.result (OpenedPart x o name old new)) word s some (c.compile_named.ensures.opened honest)
 
-pub returns-clause-clean : goal.returns-clause-clean
-returns-clause-clean g c =
-    clean_where_delivered _ c.deliver.result c.in_ok-compiled.compiled (g.M.Sink.taken c.args.messages.now) (g.M.Sink.taken c.translate.new.messages) (g.S.Sink.taken c.args.story.now) (g.S.Sink.taken c.deliver.new.story)
-    c.deliver.ensures.status c.deliver.ensures.story c.in_ok-compiled.ensures.errors c.in_ok-compiled.ensures.clean
+pub returns-clause-begins : goal.returns-clause-begins
+returns-clause-begins g c = λ honest.
+    let files = g.F.Files in
+    let options = c.args.options.now in
+    let s = files.sources c.args.files.now in
+    let o = chosen_by options in
+    let word = options.source in
+    let name = source_name word in
+    let date = c.args.date in
+    let before = g.M.Sink.taken c.args.messages.now in
+    let story_old = g.S.Sink.taken c.args.story.now in
+    let after = g.M.Sink.taken c.compile_named.new.messages in
+    let story_new = g.S.Sink.taken c.compile_named.new.story in
+    let old = files.openings c.args.files.now in
+    let new = files.openings c.compile_named.new.files in
+    let some = sym c.names_nothing.ensures ∙ c.if-names_nothing.false in
+    all_named (λ (x : Sources). OnErr c.compile_named.result (Begins x o date name before after)) word s some (c.compile_named.ensures.begins honest)
+
+pub returns-clause-heard : goal.returns-clause-heard
+returns-clause-heard g c = λ honest.
+    let files = g.F.Files in
+    let options = c.args.options.now in
+    let s = files.sources c.args.files.now in
+    let o = chosen_by options in
+    let word = options.source in
+    let name = source_name word in
+    let date = c.args.date in
+    let before = g.M.Sink.taken c.args.messages.now in
+    let story_old = g.S.Sink.taken c.args.story.now in
+    let after = g.M.Sink.taken c.compile_named.new.messages in
+    let story_new = g.S.Sink.taken c.compile_named.new.story in
+    let old = files.openings c.args.files.now in
+    let new = files.openings c.compile_named.new.files in
+    let some = sym c.names_nothing.ensures ∙ c.if-names_nothing.false in
+    all_named (λ (x : Sources). IfErr c.compile_named.result (λ fault. IfRead fault (λ told. Heard (Rose (files.faults c.args.files.now) (files.faults c.compile_named.new.files)) x o name old new before after told)))
+    word s some (c.compile_named.ensures.heard honest)
+
+pub returns-clause-part : goal.returns-clause-part
+returns-clause-part g c = λ honest.
+    let files = g.F.Files in
+    let options = c.args.options.now in
+    let s = files.sources c.args.files.now in
+    let o = chosen_by options in
+    let word = options.source in
+    let name = source_name word in
+    let date = c.args.date in
+    let before = g.M.Sink.taken c.args.messages.now in
+    let story_old = g.S.Sink.taken c.args.story.now in
+    let after = g.M.Sink.taken c.compile_named.new.messages in
+    let story_new = g.S.Sink.taken c.compile_named.new.story in
+    let old = files.openings c.args.files.now in
+    let new = files.openings c.compile_named.new.files in
+    let some = sym c.names_nothing.ensures ∙ c.if-names_nothing.false in
+    all_named (λ (x : Sources). IfErr c.compile_named.result (λ fault. IfStory fault (λ n. DeliversPart x o date name n before after story_old story_new))) word s some (c.compile_named.ensures.part honest)

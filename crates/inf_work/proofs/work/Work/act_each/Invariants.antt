@@ -1,7 +1,7 @@
 use Rattle.std.proofs.Common.{◌≡◌, drop}
 use Rattle.inf_work.specs.Acting.{acted}
 use Rattle.inf_work.specs.Works.{work}
-use Rattle.inf_work.proofs.work.Work.act_all.Given as goal
+use Rattle.inf_work.proofs.work.Work.act_each.Given as goal
 
 -- the actions that are left lead from here to where all lead
 abbrev pub invariant-loop-action : goal.invariant-loop-action

@@ -1,0 +1,404 @@
+-- The parts of a reading are the pieces of its files.
+use Rattle.std.proofs.Common.{◌≡◌, ◌⊎◌, inl, inr, ℕ, zero, suc, List, [], ◌∷◌, ◌++◌, ◌&&◌, ◌||◌, map, cond, Bool, true, false, Option, Some, None, refl, sym, ap, subst, ◌∙◌, append_assoc}
+use Rattle.std.proofs.lemmas.List.{append-nil, map-append}
+use Rattle.inf_token.specs.Files.{Sources}
+use Rattle.inf_scanner.specs.declared.tokens.Mark.TheVariants as mark
+use Rattle.inf_scanner.specs.declared.tokens.Place.{Place}
+use Rattle.inf_scanner.specs.declared.tokens.TokenKind.TheVariants as kind
+use Rattle.inf_machine.specs.declared.symbols.Symbol.{Symbol}
+use Rattle.inf_machine.specs.declared.symbols.Symbol.TheVariants.{Rule}
+use Rattle.inf_machine.specs.Grammar.{IsText}
+use Rattle.inf_grammar.specs.Language.{grammar}
+use Rattle.inf_laws.specs.BadTokens.{skip_behind}
+use Rattle.inf_syntax.specs.Atoms.{mark_atom}
+use Rattle.inf_syntax.specs.declared.actions.Action.{Action}
+use Rattle.inf_sources.specs.Cursors.{Cursor}
+use Rattle.inf_sources.specs.Inclusions.{Inclusion, Opens, OpensNone, inclusion}
+use Rattle.inf_sources.specs.declared.open_files.Included.{Included}
+use Rattle.inf_sources.specs.declared.open_files.Included.TheVariants as answer
+use Rattle.inf_unit.specs.Directives.{Asked, End, Include, Nothing}
+use Rattle.inf_unit.specs.Messages.{FileNames}
+use Rattle.inf_unit.specs.Tokens.{Spelled, is_end}
+use Rattle.inf_unit.proofs.Cases.{of_both}
+use Rattle.inf_conditionals.specs.declared.judged.Handed.{Handed}
+use Rattle.inf_conditionals.specs.declared.judged.Handed.TheVariants as handed
+use Rattle.inf_conditionals.specs.declared.judged.Judged.{Judged}
+use Rattle.inf_conditionals.specs.declared.judged.Sign.{Sign}
+use Rattle.inf_conditionals.specs.declared.open.Conditional.{Conditional}
+use Rattle.inf_conditionals.specs.declared.open.LeftOut.{LeftOut}
+use Rattle.inf_conditionals.specs.declared.pending.Pending.{Pending}
+use Rattle.inf_conditionals.specs.Ends.{file_left, file_left_to, side_kept}
+use Rattle.inf_conditionals.specs.Judging.{Behind, is_none_pending, judged, may_part}
+use Rattle.inf_conditionals.specs.Open.{Conditions}
+use Rattle.inf_work.specs.Actions.{Work, is_class}
+use Rattle.inf_reader.specs.Handing.{hash, is_empty, reads, said_told, sign_taken, site_of}
+use Rattle.inf_reader.specs.Reading.{Reading, Stand, between, is_mode_ended, passed, piece_rule}
+use Rattle.inf_reader.specs.declared.mode.Mode.{Mode}
+use Rattle.inf_reader.specs.declared.mode.Mode.TheVariants as mode
+use Rattle.inf_session.specs.Choices.{Choices}
+use Rattle.inf_session.specs.Session.{State, answered, asked_nothing, file_closed, has_ended, heeded, included_by, is_parted, is_resting, left, left_by, none_included, piece_closed, rested, stand_of, start, stepped, token_of, turn}
+use Rattle.inf_laws.specs.KeptTokens.{Given, Kept, Seen, Stands, Unfit, all_given_to, given_as, given_of, given_sign, given_to, given_token, rests, seen_atom, skipped, token_in}
+use Rattle.inf_laws.specs.KeptTurns.{given_by, given_in, turned}
+use Rattle.inf_laws.specs.Parts.{IsOfOnePiece, PartsArePieces, PartsEndWithPieces, StayInPart}
+use Rattle.inf_laws.proofs.Hashes.{no_piece_ends_with_a_hash}
+use Rattle.inf_laws.proofs.KeptTokens.{Ended, Inside, Now, Skips, Whole, first, given_both, next, skipped_more, stands, tokens_are_handed_on}
+use Rattle.inf_laws.proofs.KeptTurns.{rested_reading, stepped_reading, turn_reading}
+use Rattle.inf_laws.proofs.PartTokens.{AreProper, gives, gives_sign, gives_some, judged_fine}
+
+-- Behind a `#` no piece ends
+
+last_kept : (before : List Given) (h : Given) (tokens : List Seen) → before ++ h ∷ [] ≡ map Kept tokens → (front : List Seen) × (x : Seen) × (tokens ≡ front ++ x ∷ []) × (h ≡ Kept x)
+last_kept [] h [] e = cc
+last_kept [] h (x ∷ []) e = ([], x, refl, cc)
+last_kept [] h (x ∷ y ∷ tokens) e = cc
+last_kept (b ∷ before) h [] e = cc
+last_kept (b ∷ before) h (x ∷ tokens) e =
+    let same : before ++ h ∷ [] ≡ map Kept tokens = cc in
+    let r = last_kept before h tokens same in
+    (x ∷ r.0, r.1, ap (λ xs. x ∷ xs) r.2, r.3)
+
+none_behind : (ys : List Given) (w : Given) (behind : List Given) → [] ≡ ys ++ w ∷ behind → ⊥
+none_behind [] w behind e = cc
+none_behind (y ∷ ys) w behind e = cc
+
+last_behind : (xs : List Given) (h : Given) (ys : List Given) (w : Given) (behind : List Given) → xs ++ h ∷ [] ≡ ys ++ w ∷ behind → (front : List Given) × (w ∷ behind ≡ front ++ h ∷ [])
+last_behind xs h [] w behind e = (xs, sym e)
+last_behind [] h (y ∷ ys) w behind e = absurd (none_behind ys w behind (cc))
+last_behind (x ∷ xs) h (y ∷ ys) w behind e = last_behind xs h ys w behind (cc)
+
+last_one : (before : List Given) (h x : Given) → before ++ h ∷ [] ≡ x ∷ [] → h ≡ x
+last_one [] h x e = cc
+last_one (b ∷ []) h x e = cc
+last_one (b ∷ c ∷ before) h x e = cc
+
+empty_not : (stack : List (Symbol Action)) → (stack ≡ [] → ⊥) → is_empty stack ≡ false
+empty_not [] some = absurd (some refl)
+empty_not (s ∷ stack) some = refl
+
+goes_inside : (r : Reading) → r.mode ≡ mode.Reads → (r.stack ≡ [] → ⊥) → rests r ≡ false
+goes_inside r is some =
+    ap (λ m. (reads m && is_empty r.stack) || is_mode_ended m) is ∙ ap (λ b. b || false) (empty_not r.stack some)
+
+passed_hash : (m : Mode) → rests (between (passed m (kind.Mark mark.Hash))) ≡ false
+passed_hash mode.Reads = refl
+passed_hash mode.SkipsRoutine = refl
+passed_hash mode.SkipsDirective = refl
+passed_hash mode.Ended = refl
+
+no_end : true ≡ false → ⊥
+no_end e = cc
+
+hash_goes : (before : List Given) (h : Given) (place : Place) (r : Reading) → token_in h ≡ hash place → Now (before ++ h ∷ []) r → rests r ≡ false
+hash_goes before h place r is (Inside tokens e at some) = goes_inside r at.reads some
+hash_goes before h place r is (Whole tokens e piece at) =
+    let l = last_kept before h tokens e in
+    let token : l.1.token ≡ hash place = ap token_in (sym l.3) ∙ is in
+    let atom : seen_atom l.1 ≡ mark_atom mark.Hash = ap (λ (t : Spelled). seen_atom (record { token = t; is_class = l.1.is_class })) token in
+    let atoms : map seen_atom tokens ≡ map seen_atom l.0 ++ mark_atom mark.Hash ∷ [] =
+    ap (map seen_atom) l.2 ∙ map-append seen_atom l.0 (l.1 ∷ []) ∙ ap (λ a. map seen_atom l.0 ++ a ∷ []) atom in
+    absurd (no_piece_ends_with_a_hash (map seen_atom l.0) piece.events (subst (λ xs. IsText grammar (Rule piece_rule ∷ []) xs piece.events) atoms piece.is_text))
+hash_goes before h place r is (Skips tokens wrong behind e begun bad at) =
+    let m = skip_behind (map seen_atom tokens) in
+    let l = last_behind before h (map Kept tokens) wrong behind e in
+    ap rests at
+    ∙ ap (λ gs. rests (between (skipped m gs))) l.1
+    ∙ ap (λ x. rests (between x)) (skipped_more m l.0 h)
+    ∙ ap (λ (t : Spelled). rests (between (passed (skipped m l.0) t.kind))) is
+    ∙ passed_hash (skipped m l.0)
+hash_goes before h place r is (Ended t e ends at) =
+    let same : token_in h ≡ t.token = ap token_in (last_one before h (Kept t) e) in
+    absurd (no_end (sym ends ∙ ap (λ (x : Spelled). is_end x.kind) (sym same ∙ is)))
+
+-- Where a part stands behind some of its tokens
+
+data Goes (given : List Given) (r : Reading) : Type 0 where
+  None_yet : given ≡ [] → r ≡ between mode.Reads → Goes given r
+  Some_yet : Now given r → rests r ≡ false → Goes given r
+
+one_more : (before : List Given) (g : Given) (r : Reading) → Goes before r → Now (before ++ g ∷ []) (given_to g r)
+one_more before g r (None_yet e fresh) = subst (λ gs. Now (gs ++ g ∷ []) (given_to g r)) (sym e) (first g r fresh)
+one_more before g r (Some_yet now on) = next g before r now on
+
+same_goes : (before : List Given) (r : Reading) → Goes before r → Goes (before ++ []) r
+same_goes before r goes = subst (λ gs. Goes gs r) (sym (append-nil before)) goes
+
+sign_goes : (o : Option Sign) (w : Work) (before : List Given) (r : Reading) → Goes before r → Goes (before ++ given_sign o w) (all_given_to (given_sign o w) r)
+sign_goes None w before r goes = same_goes before r goes
+sign_goes (Some sign) w before r goes = go sign.handed
+  where
+    go : (h : Handed) → Goes (before ++ given_as h (hash sign.place) w) (all_given_to (given_as h (hash sign.place) w) r)
+    go handed.Kept =
+        let h = Kept (record { token = hash sign.place; is_class = is_class (hash sign.place) w }) in
+        let now = one_more before h r goes in Some_yet now (hash_goes before h sign.place (given_to h r) refl now)
+    go handed.Unfit =
+        let h = Unfit (hash sign.place) in
+        let now = one_more before h r goes in Some_yet now (hash_goes before h sign.place (given_to h r) refl now)
+    go handed.Condition = same_goes before r goes
+
+-- behind a turn: it goes on, or rests behind something that was handed on
+data Comes (before given : List Given) (r : Reading) : Type 0 where
+  Still : Goes (before ++ given) r → Comes before given r
+  Rests : Now (before ++ given) r → rests r ≡ true → (given ≡ [] → ⊥) → Comes before given r
+
+bool_of : (b : Bool) → (b ≡ true) ⊎ (b ≡ false)
+bool_of true = inl refl
+bool_of false = inr refl
+
+no_item : (xs : List Given) (g : Given) → xs ++ g ∷ [] ≡ [] → ⊥
+no_item [] g e = cc
+no_item (x ∷ xs) g e = cc
+
+one_comes : (before signed : List Given) (g : Given) (r : Reading) → Goes (before ++ signed) r → Comes before (signed ++ g ∷ []) (given_to g r)
+one_comes before signed g r goes =
+    let all = append_assoc before signed (g ∷ []) in
+    let now : Now (before ++ (signed ++ g ∷ [])) (given_to g r) = subst (λ gs. Now gs (given_to g r)) all (one_more (before ++ signed) g r goes) in
+    elim (bool_of (rests (given_to g r))) [
+      | inl rest_now ↦ Rests now rest_now (no_item signed g)
+      | inr going ↦ Still (Some_yet now going)
+    ]
+
+token_comes : (o : Option Handed) (t : Spelled) (w : Work) (before signed : List Given) (r : Reading) → Goes (before ++ signed) r → Comes before (signed ++ given_token o t w) (all_given_to (given_token o t w) r)
+token_comes None t w before signed r goes = Still (subst (λ gs. Goes (before ++ gs) r) (sym (append-nil signed)) goes)
+token_comes (Some handed.Kept) t w before signed r goes = one_comes before signed (Kept (record { token = t; is_class = is_class t w })) r goes
+token_comes (Some handed.Unfit) t w before signed r goes = one_comes before signed (Unfit t) r goes
+token_comes (Some handed.Condition) t w before signed r goes = Still (subst (λ gs. Goes (before ++ gs) r) (sym (append-nil signed)) goes)
+
+step_comes : (before : List Given) (s : State) → Goes before s.reading → Comes before (given_by s) (stepped s).reading
+step_comes before s goes =
+    let t = token_of s.nesting.cursor in
+    let b = judged (site_of s.reading) s.work.output t s.conditions in
+    let here = said_told b.now.said s.nesting.names (stand_of s) in
+    let signed = given_sign b.judged.sign here.work in
+    let w = (sign_taken b.judged.sign s.nesting.names here).work in
+    let behind_sign = sign_goes b.judged.sign here.work before s.reading goes in
+    subst (λ (r : Reading). Comes before (given_by s) r)
+    (sym (given_both signed (given_token b.judged.token t w) s.reading) ∙ sym (stepped_reading s))
+    (token_comes b.judged.token t w before signed (all_given_to signed s.reading) behind_sign)
+
+-- The conditionals behind a turn
+
+heeded_same : (sources : Sources) (o : Choices) (s : State) → ((heeded sources o s).conditions.pending ≡ s.conditions.pending) × ((heeded sources o s).conditions.left_out ≡ s.conditions.left_out)
+heeded_same sources o s =
+    of_both Same s.work.report.counts.is_over s (cond (is_mode_ended s.reading.mode) (left s) (answered s.work.asked sources o (asked_nothing s))) (λ _. (refl, refl))
+    (λ _. of_both Same (is_mode_ended s.reading.mode) (left s) (answered s.work.asked sources o (asked_nothing s)) (λ _. left_same s.nesting.waiting) (λ _. asked_same s.work.asked))
+  where
+    Same : State → Type 0
+    Same x = (x.conditions.pending ≡ s.conditions.pending) × (x.conditions.left_out ≡ s.conditions.left_out)
+
+    files_same : (waiting : List (List Conditional)) → ((file_left_to waiting s.conditions).pending ≡ s.conditions.pending) × ((file_left_to waiting s.conditions).left_out ≡ s.conditions.left_out)
+    files_same [] = (refl, refl)
+    files_same (c ∷ waiting) = (refl, refl)
+
+    left_same : (waiting : List Cursor) → Same (left_by waiting (file_closed s))
+    left_same [] = files_same s.conditions.waiting
+    left_same (c ∷ waiting) = files_same s.conditions.waiting
+
+    none_same : (unit : Place) (text : List ℕ) (why : Included) → Same (none_included unit text why (asked_nothing s))
+    none_same unit text answer.Entered = (refl, refl)
+    none_same unit text answer.NotThere = (refl, refl)
+    none_same unit text answer.TooDeep = (refl, refl)
+
+    included_same : (unit : Place) (text : List ℕ) (i : Inclusion) → Same (included_by sources o unit text i (asked_nothing s))
+    included_same unit text (Opens name) = (refl, refl)
+    included_same unit text (OpensNone why) = none_same unit text why
+
+    asked_same : (a : Asked) → Same (answered a sources o (asked_nothing s))
+    asked_same (Include text unit) = included_same unit text (inclusion sources o.directories text s.nesting)
+    asked_same End = (refl, refl)
+    asked_same Nothing = (refl, refl)
+
+rested_pending : (s : State) → (rested s).conditions.pending ≡ s.conditions.pending
+rested_pending s =
+    of_both (λ (x : State). x.conditions.pending ≡ s.conditions.pending) (has_ended s) s (cond (is_resting s) (piece_closed s) s) (λ _. refl)
+    (λ _. of_both (λ (x : State). x.conditions.pending ≡ s.conditions.pending) (is_resting s) (piece_closed s) s (λ _. refl) (λ _. refl))
+
+rested_left : (s : State) → s.conditions.left_out ≡ None → (rested s).conditions.left_out ≡ None
+rested_left s all =
+    of_both (λ (x : State). x.conditions.left_out ≡ None) (has_ended s) s (cond (is_resting s) (piece_closed s) s) (λ _. all)
+    (λ _. of_both (λ (x : State). x.conditions.left_out ≡ None) (is_resting s) (piece_closed s) s (λ _. ap side_kept all) (λ _. all))
+
+turn_pending : (sources : Sources) (o : Choices) (s : State) → (turn sources o s).conditions.pending ≡ (stepped s).conditions.pending
+turn_pending sources o s = rested_pending (heeded sources o (stepped s)) ∙ (heeded_same sources o (stepped s)).0
+
+turn_left : (sources : Sources) (o : Choices) (s : State) → (stepped s).conditions.left_out ≡ None → (turn sources o s).conditions.left_out ≡ None
+turn_left sources o s all = rested_left (heeded sources o (stepped s)) ((heeded_same sources o (stepped s)).1 ∙ all)
+
+abbrev Proper : State → Type 0
+Proper s = AreProper s.conditions.pending
+
+step_fine : (s : State) → Proper s → Proper (stepped s)
+step_fine s proper = (judged_fine (site_of s.reading) s.work.output (token_of s.nesting.cursor) s.conditions proper).proper
+
+turn_proper : (sources : Sources) (o : Choices) (s : State) → Proper s → Proper (turn sources o s)
+turn_proper sources o s proper = subst (λ ps. AreProper ps) (sym (turn_pending sources o s)) (step_fine s proper)
+
+all_proper : (sources : Sources) (o : Choices) (n : ℕ) (s : State) → Proper s → Proper (turned sources o n s)
+all_proper sources o zero s proper = proper
+all_proper sources o (suc n) s proper = all_proper sources o n (turn sources o s) (turn_proper sources o s proper)
+
+-- where something is handed on
+none_signed : (o : Option Sign) (w : Work) → gives_sign o ≡ false → given_sign o w ≡ []
+none_signed None w e = refl
+none_signed (Some sign) w e = go sign.handed e
+  where
+    go : (h : Handed) → gives (Some h) ≡ false → given_as h (hash sign.place) w ≡ []
+    go handed.Kept e = cc
+    go handed.Unfit e = cc
+    go handed.Condition e = refl
+
+none_given : (o : Option Handed) (t : Spelled) (w : Work) → gives o ≡ false → given_token o t w ≡ []
+none_given None t w e = refl
+none_given (Some handed.Kept) t w e = cc
+none_given (Some handed.Unfit) t w e = cc
+none_given (Some handed.Condition) t w e = refl
+
+or_parts : (a b : Bool) → (a || b) ≡ false → (a ≡ false) × (b ≡ false)
+or_parts true b e = cc
+or_parts false b e = (refl, e)
+
+nothing_given : (files : FileNames) (j : Judged) (t : Spelled) (s : Stand) → gives_some j ≡ false → given_of files j t s ≡ []
+nothing_given files j t s e =
+    let parts = or_parts (gives_sign j.sign) (gives j.token) e in
+    let w = (sign_taken j.sign files s).work in
+    ap (λ gs. gs ++ given_token j.token t w) (none_signed j.sign s.work parts.0) ∙ none_given j.token t w parts.1
+
+abbrev IsClear : State → Type 0
+IsClear s = (s.conditions.pending ≡ []) × (s.conditions.left_out ≡ None)
+
+clear_behind : (s : State) → Proper s → (given_by s ≡ [] → ⊥) → IsClear (stepped s)
+clear_behind s proper some =
+    let t = token_of s.nesting.cursor in
+    let b = judged (site_of s.reading) s.work.output t s.conditions in
+    elim (judged_fine (site_of s.reading) s.work.output t s.conditions proper).clear [
+      | inl none ↦ absurd (some (nothing_given s.nesting.names b.judged t (said_told b.now.said s.nesting.names (stand_of s)) none))
+      | inr clear ↦ clear
+    ]
+
+-- A part ends where reading rests behind something that was handed on
+
+or_true : (a : Bool) → (a || true) ≡ true
+or_true true = refl
+or_true false = refl
+
+ended_parts : (s : State) → is_mode_ended s.reading.mode ≡ true → is_parted s ≡ true
+ended_parts s e =
+    let over = s.work.report.counts.is_over in
+    ap (λ b. (s.is_over || (over || b)) || ((site_of s.reading).is_between && may_part s.conditions)) e
+    ∙ ap (λ b. (s.is_over || b) || ((site_of s.reading).is_between && may_part s.conditions)) (or_true over)
+    ∙ ap (λ b. b || ((site_of s.reading).is_between && may_part s.conditions)) (or_true s.is_over)
+
+clear_parts : (s : State) → s.reading ≡ between mode.Reads → s.conditions.pending ≡ [] → s.conditions.left_out ≡ None → is_parted s ≡ true
+clear_parts s fresh none all =
+    let parts : may_part s.conditions ≡ true =
+    ap (λ ps. may_part (record s.conditions { pending = ps })) none ∙ ap (λ l. may_part (record s.conditions { pending = []; left_out = l })) all in
+    ap (λ (r : Reading). has_ended s || ((site_of r).is_between && may_part s.conditions)) fresh
+    ∙ ap (λ b. has_ended s || b) parts
+    ∙ or_true (has_ended s)
+
+-- at the end of a file reading goes on between two pieces, or ends
+left_ends : (s : State) (waiting : List Cursor) → is_mode_ended s.reading.mode ≡ true → s.reading.stack ≡ []
+    → (is_mode_ended (left_by waiting (file_closed s)).reading.mode ≡ true) ⊎ ((left_by waiting (file_closed s)).reading ≡ between mode.Reads)
+left_ends s [] e empty = inl e
+left_ends s (c ∷ waiting) e empty = inr (ap (λ stack. record { mode = mode.Reads; stack = stack }) empty)
+
+heeded_ends : (sources : Sources) (o : Choices) (s : State) → is_mode_ended s.reading.mode ≡ true → s.reading.stack ≡ []
+    → (is_mode_ended (heeded sources o s).reading.mode ≡ true) ⊎ ((heeded sources o s).reading ≡ between mode.Reads)
+heeded_ends sources o s e empty =
+    of_both (λ (x : State). (is_mode_ended x.reading.mode ≡ true) ⊎ (x.reading ≡ between mode.Reads)) s.work.report.counts.is_over s
+    (cond (is_mode_ended s.reading.mode) (left s) (answered s.work.asked sources o (asked_nothing s)))
+    (λ _. inl e)
+    (λ _. subst (λ b. (is_mode_ended (cond b (left s) (answered s.work.asked sources o (asked_nothing s))).reading.mode ≡ true) ⊎ ((cond b (left s) (answered s.work.asked sources o (asked_nothing s))).reading ≡ between mode.Reads))
+    (sym e) (left_ends s s.nesting.waiting e empty))
+
+-- what rests is between two pieces, or at the end
+now_rests : (given : List Given) (r : Reading) → Now given r → rests r ≡ true → (r ≡ between mode.Reads) ⊎ ((is_mode_ended r.mode ≡ true) × (r.stack ≡ []))
+now_rests given r (Inside tokens e at some) rest_now = absurd (no_end (sym rest_now ∙ goes_inside r at.reads some))
+now_rests given r (Whole tokens e piece at) rest_now = inl at
+now_rests given r (Skips tokens wrong behind e begun bad at) rest_now = go (skipped (skip_behind (map seen_atom tokens)) (wrong ∷ behind)) at
+  where
+    go : (m : Mode) → r ≡ between m → (r ≡ between mode.Reads) ⊎ ((is_mode_ended r.mode ≡ true) × (r.stack ≡ []))
+    go mode.Reads same = inl same
+    go mode.Ended same = inr (ap (λ (x : Reading). is_mode_ended x.mode) same, ap (λ (x : Reading). x.stack) same)
+    go mode.SkipsRoutine same = absurd (no_end (sym rest_now ∙ ap rests same))
+    go mode.SkipsDirective same = absurd (no_end (sym rest_now ∙ ap rests same))
+now_rests given r (Ended t e ends at) rest_now = inr (ap (λ (x : Reading). is_mode_ended x.mode) at, ap (λ (x : Reading). x.stack) at)
+
+going_on : (m : Mode) → m ≡ mode.Reads → is_mode_ended m ≡ false
+going_on m e = ap is_mode_ended e
+
+rests_parts : (sources : Sources) (o : Choices) (s : State) (given : List Given) → Now given (stepped s).reading → rests (stepped s).reading ≡ true → IsClear (stepped s) → is_parted (turn sources o s) ≡ true
+rests_parts sources o s given now rest_now clear =
+    let none = turn_pending sources o s ∙ clear.0 in
+    let all = turn_left sources o s clear.1 in
+    elim (now_rests given (stepped s).reading now rest_now) [
+      | inl fresh ↦ clear_parts (turn sources o s) (turn_reading sources o s (ap (λ (r : Reading). is_mode_ended r.mode) fresh) ∙ fresh) none all
+      | inr ended ↦ elim (heeded_ends sources o (stepped s) ended.0 ended.1) [
+        | inl over ↦ ended_parts (turn sources o s) (ap (λ (r : Reading). is_mode_ended r.mode) (rested_reading (heeded sources o (stepped s))) ∙ over)
+        | inr fresh ↦ clear_parts (turn sources o s) (rested_reading (heeded sources o (stepped s)) ∙ fresh) none all
+      ]
+    ]
+
+-- Turns of one part
+
+rests_goes : (given : List Given) (r : Reading) → Goes given r → is_mode_ended r.mode ≡ false
+rests_goes given r (None_yet e fresh) = ap (λ (x : Reading). is_mode_ended x.mode) fresh
+rests_goes given r (Some_yet now on) = (or_parts (reads r.mode && is_empty r.stack) (is_mode_ended r.mode) on).1
+
+goes_behind : (sources : Sources) (o : Choices) (before : List Given) (s : State) → Proper s → Goes before s.reading → is_parted (turn sources o s) ≡ false → Goes (before ++ given_by s) (turn sources o s).reading
+goes_behind sources o before s proper goes on =
+    elim (step_comes before s goes) [
+      | Still on_now ↦ subst (λ (r : Reading). Goes (before ++ given_by s) r) (sym (turn_reading sources o s (rests_goes (before ++ given_by s) (stepped s).reading on_now))) on_now
+      | Rests now rest_now some ↦ absurd (no_end (sym (rests_parts sources o s (before ++ given_by s) now rest_now (clear_behind s proper some)) ∙ on))
+    ]
+
+-- what comes of the last of them
+abbrev LastOf : List Given → Reading → Type 0
+LastOf given r = (given ≡ []) ⊎ Stands given r
+
+last_stands : (before given : List Given) (r : Reading) → Comes before given r → LastOf (before ++ given) r
+last_stands before given r (Still (None_yet e fresh)) = inl e
+last_stands before given r (Still (Some_yet now on)) = inr (stands (before ++ given) r now)
+last_stands before given r (Rests now rest_now some) = inr (stands (before ++ given) r now)
+
+turns_stand : (sources : Sources) (o : Choices) (n : ℕ) (before : List Given) (s : State) → Proper s → Goes before s.reading → StayInPart sources o n s
+    → LastOf (before ++ given_in sources o (suc n) s) (stepped (turned sources o n s)).reading
+turns_stand sources o zero before s proper goes stay =
+    subst (λ gs. LastOf (before ++ gs) (stepped s).reading) (sym (append-nil (given_by s))) (last_stands before (given_by s) (stepped s).reading (step_comes before s goes))
+turns_stand sources o (suc n) before s proper goes stay =
+    let now = turn sources o s in
+    subst (λ gs. LastOf gs (stepped (turned sources o n now)).reading) (append_assoc before (given_by s) (given_in sources o (suc n) now))
+    (turns_stand sources o n (before ++ given_by s) now (turn_proper sources o s proper) (goes_behind sources o before s proper goes stay.0) stay.1)
+
+turns_go : (sources : Sources) (o : Choices) (n : ℕ) (before : List Given) (s : State) → Proper s → Goes before s.reading → StayInPart sources o n s
+    → (given : List Given) × Goes given (turned sources o n s).reading
+turns_go sources o zero before s proper goes stay = (before, goes)
+turns_go sources o (suc n) before s proper goes stay =
+    turns_go sources o n (before ++ given_by s) (turn sources o s) (turn_proper sources o s proper) (goes_behind sources o before s proper goes stay.0) stay.1
+
+start_proper : (sources : Sources) (o : Choices) (name : List ℕ) (m : ℕ) → Proper (turned sources o m (start sources o name))
+start_proper sources o name m = all_proper sources o m (start sources o name) tt
+
+pub parts_are_pieces : PartsArePieces
+parts_are_pieces sources o name m n fresh stay =
+    turns_stand sources o n [] (turned sources o m (start sources o name)) (start_proper sources o name m) (None_yet refl fresh) stay
+
+rests_end : (sources : Sources) (o : Choices) (before : List Given) (s : State) → Proper s → Goes before s.reading → (given_by s ≡ [] → ⊥) → rests (stepped s).reading ≡ true → is_parted (turn sources o s) ≡ true
+rests_end sources o before s proper goes some rest_now =
+    elim (step_comes before s goes) [
+      | Still on ↦ still on
+      | Rests now rest given ↦ rests_parts sources o s (before ++ given_by s) now rest_now (clear_behind s proper some)
+    ]
+  where
+    still : Goes (before ++ given_by s) (stepped s).reading → is_parted (turn sources o s) ≡ true
+    still (Some_yet now on) = absurd (no_end (sym rest_now ∙ on))
+    still (None_yet e fresh) = absurd (some (none_of before e))
+      where
+        none_of : (xs : List Given) → xs ++ given_by s ≡ [] → given_by s ≡ []
+        none_of [] e = e
+        none_of (x ∷ xs) e = cc
+
+pub parts_end_with_pieces : PartsEndWithPieces
+parts_end_with_pieces sources o name m n fresh stay some rest_now =
+    let s = turned sources o m (start sources o name) in
+    let g = turns_go sources o n [] s (start_proper sources o name m) (None_yet refl fresh) stay in
+    rests_end sources o g.0 (turned sources o n s) (all_proper sources o n s (start_proper sources o name m)) g.1 some rest_now

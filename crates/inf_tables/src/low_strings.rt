@@ -1,0 +1,70 @@
+//! The low strings of a story.
+ghost use Rattle.std.specs.Prelude.{◌≡◌, ◌≤◌, IfOk, if◌then◌else◌, max};
+ghost use Rattle.inf_tables.specs.LowStrings.{low_fits, low_size, with_low};
+
+use std::alloc::{AllocError, Global};
+use std::marker::Model;
+
+/// The bytes of the first low string, three spaces, which each story has.
+const FIRST_BYTES: usize = 2;
+
+/// The packed texts of a story's low strings, one behind the other in the order in which they came, behind the first one, which is not among them. Each is of
+/// whole words, so it begins at an even address (Z-Machine Standard 1.1, sections 1.2.2 and 3.3).
+#[derive(Drop)]
+pub struct LowStrings {
+    bytes: Vec<u8>,
+    limit: usize,
+}
+
+impl Model for LowStrings {
+    ghost use Rattle.std.specs.Prelude.{◌≤◌, ◌+◌, length, max};
+    ghost use Rattle.inf_tables.specs.LowStrings.{LowArea};
+
+    ghost Value = { LowArea };
+
+    ghost view = { λ low. record { bytes = low.bytes.items; limit = low.limit } };
+
+    ghost invariant = { λ low. 2 + length low.bytes.items ≤ max 2 low.limit };
+}
+
+impl LowStrings {
+    ghost use Rattle.inf_tables.specs.LowStrings.{no_low_strings};
+
+    /// None but the first one, of at most so many bytes with it. They take no memory until the next one comes.
+    pub fn new(alloc: Global, limit: usize) -> LowStrings
+        ensures { result ≡ no_low_strings limit }
+    {
+        LowStrings {
+            bytes: Vec::new(alloc),
+            limit,
+        }
+    }
+
+    /// How many bytes they have with the first one: the place of the next one.
+    pub fn len(&self) -> usize
+        ensures value { result ≡ low_size self.now }
+        ensures few { result ≤ max 2 self.now.limit }
+    {
+        FIRST_BYTES + self.bytes.len()
+    }
+
+    /// Adds a low string of these bytes, and answers that it was added; or that it would pass the limit.
+    pub fn add(&mut self, text: &[u8]) -> Result<bool, AllocError>
+        ensures { IfOk result (λ added. (added ≡ low_fits text.now self.old)
+            × (self.new ≡ if low_fits text.now self.old then with_low text.now self.old else self.old)) }
+    {
+        let size = self.len();
+        if self.limit < size || self.limit - size < text.len() {
+            return Ok(false);
+        }
+        self.bytes.extend_from_slice(text)?;
+        Ok(true)
+    }
+
+    /// The bytes of those behind the first one.
+    pub fn as_slice(&self) -> &[u8]
+        ensures { result.now ≡ self.now.bytes }
+    {
+        self.bytes.as_slice()
+    }
+}
