@@ -110,12 +110,12 @@ pub record At (tokens : List Seen) (r : Reading) : Type 0 where
   pub reads : r.mode ≡ mode.Reads
   pub is_read : OneMore grammar known piece (map seen_atom tokens) r.stack
 
-begins : (tokens : List Seen) (r : Reading) → At tokens r → BeginsPiece (map seen_atom tokens)
+pub begins : (tokens : List Seen) (r : Reading) → At tokens r → BeginsPiece (map seen_atom tokens)
 begins tokens r at = record {
   begins = (bad_tokens_begin_nothing grammar known piece_rule (map seen_atom tokens) language_is_decided).0 (ap is_some at.is_read.is_read);
 }
 
-stops : (tokens : List Seen) (r : Reading) (t : Seen) → At tokens r → fits grammar known (seen_atom t) r.stack ≡ false → BeginsPiece (map seen_atom (tokens ++ t ∷ [])) → ⊥
+pub stops : (tokens : List Seen) (r : Reading) (t : Seen) → At tokens r → fits grammar known (seen_atom t) r.stack ≡ false → BeginsPiece (map seen_atom (tokens ++ t ∷ [])) → ⊥
 stops tokens r t at out b = let absent : true ≡ false = sym some ∙ ap (λ atoms. is_some (read grammar known piece atoms)) (map-append seen_atom tokens (t ∷ [])) ∙ ap is_some nothing in cc
   where
     some : is_some (read grammar known piece (map seen_atom (tokens ++ t ∷ []))) ≡ true
@@ -124,7 +124,7 @@ stops tokens r t at out b = let absent : true ≡ false = sym some ∙ ap (λ at
     nothing : read grammar known piece (map seen_atom tokens ++ map seen_atom (t ∷ [])) ≡ None
     nothing = reads_none grammar known piece (map seen_atom tokens) (seen_atom t) r.stack at.is_read out
 
-goes : (tokens : List Seen) (r : Reading) (t : Seen) → At tokens r → fits grammar known (seen_atom t) r.stack ≡ true → At (tokens ++ t ∷ []) (took_by (seen_atom t) r)
+pub goes : (tokens : List Seen) (r : Reading) (t : Seen) → At tokens r → fits grammar known (seen_atom t) r.stack ≡ true → At (tokens ++ t ∷ []) (took_by (seen_atom t) r)
 goes tokens r t at f = record {
   reads = at.reads;
   is_read = subst (λ atoms. OneMore grammar known piece atoms (took_by (seen_atom t) r).stack) (sym (map-append seen_atom tokens (t ∷ [])))
@@ -141,7 +141,7 @@ ends tokens r at empty =
           (q, [], at.is_read.is_read, refl, subst (λ symbols. IsText grammar symbols [] []) nothing_left here);
     }
 
-no_token : At [] (piece_begun (between mode.Reads))
+pub no_token : At [] (piece_begun (between mode.Reads))
 no_token = record {
   reads = refl;
   is_read = record { r = record { events = []; left = piece }; is_read = refl; leaves = refl };

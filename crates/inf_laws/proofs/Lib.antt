@@ -5,6 +5,7 @@ pub mod Findings
 pub mod NameEvents
 pub mod Skipping
 pub mod BadTokens
+pub mod Told
 pub mod Sides
 pub mod Counts
 pub mod MissingEnds

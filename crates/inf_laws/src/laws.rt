@@ -1,5 +1,4 @@
 //! What the definitions give together.
-ghost use Rattle.inf_laws.specs.BadTokens.{BadTokensArePassedOver};
 ghost use Rattle.inf_laws.specs.Counts.{LimitsCountTheStory};
 ghost use Rattle.inf_laws.specs.Findings.{HeadersTellTheFirst};
 ghost use Rattle.inf_laws.specs.MissingEnds.{MissingEndsAreTold};
@@ -12,7 +11,8 @@ ghost use Rattle.inf_laws.specs.NameEvents.{FewHaveRoom, FirstDeclarationsCount,
 ghost use Rattle.inf_laws.specs.SideTurns.{ReadingsStartClear, TurnsCutInnerSides, TurnsHandOn, TurnsKeepSides};
 ghost use Rattle.inf_laws.specs.Parts.{PartsArePieces, PartsEndWithPieces};
 ghost use Rattle.inf_laws.specs.Sides.{SidesAgree, SidesAreCut, SidesEnd, ValuesDecide};
-ghost use Rattle.inf_laws.specs.Skipping.{DirectivesAreSkipped, RoutinesAreSkipped, SourcesEnd};
+ghost use Rattle.inf_laws.specs.Skipping.{DirectivesAreSkipped, PassedTokensDoNothing, RoutinesAreSkipped, SourcesEnd};
+ghost use Rattle.inf_laws.specs.Told.{TokensAreTakenOrTold, UnfitTokensAreTold};
 ghost use Rattle.inf_laws.specs.UnusedLocals.{HeadersMakeNew, UnusedAreWarned};
 
 use inf_tables::Tables;
@@ -47,18 +47,20 @@ pub fn unused_locals_are_warned()
     ensures headers { HeadersMakeNew }
 {}
 
-/// A bad piece ends behind the first semicolon, in a routine behind the first one after the next
-/// closing bracket, or with the source, and nothing else of what was read changes.
+/// A bad piece ends behind the first semicolon that is handed on, in a routine behind the first one after the next closing bracket, or with the
+/// source. A token that is passed over does nothing else.
 pub fn bad_pieces_are_skipped()
+    ensures alone { PassedTokensDoNothing }
     ensures directives { DirectivesAreSkipped }
     ensures routines { RoutinesAreSkipped }
     ensures sources { SourcesEnd }
 {}
 
-/// A bad token of a piece is passed over as in a routine exactly where the last bracket before it is an opening one, and the piece is no
-/// array's; everywhere else it is passed over as in a directive.
-pub fn bad_tokens_are_passed_over()
-    ensures { BadTokensArePassedOver }
+/// Of the tokens of a piece that are handed on each is taken with which they still begin one, and the first with which they begin none is told, where it
+/// stands; so is one that does not fit its conditional directive. The unit that a bad token cuts gives nothing.
+pub fn bad_tokens_are_told()
+    ensures kept { TokensAreTakenOrTold }
+    ensures unfit { UnfitTokensAreTold }
 {}
 
 /// The side of a conditional that is left out is cut, up to the `Ifnot` or `Endif` of its own level, by the levels that the other four words

@@ -1,0 +1,129 @@
+-- A token of a piece is taken or told as those before it tell.
+use Rattle.std.proofs.Common.{◌≡◌, ◌⊎◌, inl, inr, append_assoc, List, [], ◌∷◌, ◌++◌, map, cond, Bool, true, false, refl, sym, ap, subst, ◌∙◌}
+use Rattle.std.proofs.lemmas.List.{append-nil}
+use Rattle.inf_unit.specs.Messages.{FileNames}
+use Rattle.inf_unit.specs.Tokens.{Spelled, is_end}
+use Rattle.inf_unit.proofs.Cases.{of_both}
+use Rattle.inf_machine.specs.declared.symbols.Symbol.{Symbol}
+use Rattle.inf_machine.specs.Machine.{fits}
+use Rattle.inf_syntax.specs.declared.actions.Action.{Action}
+use Rattle.inf_grammar.specs.Language.{grammar, known}
+use Rattle.inf_conditionals.specs.Atoms.{atom_as}
+use Rattle.inf_work.specs.Actions.{Work, is_class, piece_begun as work_begun}
+use Rattle.inf_reader.specs.Handing.{unfit_in}
+use Rattle.inf_reader.specs.Pieces.{BeginsPiece, at_hand, at_hand_by, work_by}
+use Rattle.inf_reader.specs.Reading.{Reading, Stand, bad, between, judged, piece_begun, read_at, step_in, took}
+use Rattle.inf_reader.specs.declared.mode.Mode.TheVariants as mode
+use Rattle.inf_laws.specs.KeptTokens.{Given, GoesBehind, Kept, Seen, Unfit, all_given_to, given_to, rests, seen_atom}
+use Rattle.inf_laws.specs.Skipping.{given_at}
+use Rattle.inf_laws.specs.Told.{IsAt, TokensAreTakenOrTold, UnfitTokensAreTold}
+use Rattle.inf_laws.proofs.KeptTokens.{At, Ended, Inside, Now, Skips, Whole, begins, first, goes, next, no_token, stops}
+
+-- The tokens that were kept
+
+abbrev kept_of : List Given → List Seen
+kept_of [] = []
+kept_of (Kept t ∷ given) = t ∷ kept_of given
+kept_of (Unfit t ∷ given) = kept_of given
+
+kept_again : (tokens : List Seen) → kept_of (map Kept tokens) ≡ tokens
+kept_again [] = refl
+kept_again (t ∷ tokens) = ap (λ ts. t ∷ ts) (kept_again tokens)
+
+same_tokens : (xs ys : List Seen) → map Kept xs ≡ map Kept ys → xs ≡ ys
+same_tokens xs ys e = sym (kept_again xs) ∙ ap kept_of e ∙ kept_again ys
+
+onward : (given before : List Given) (r : Reading) → Now before r → GoesBehind given r → Now (before ++ given) (all_given_to given r)
+onward [] before r now on = subst (λ gs. Now gs r) (sym (append-nil before)) now
+onward (g ∷ given) before r now on =
+    subst (λ gs. Now gs (all_given_to given (given_to g r))) (append_assoc before (g ∷ []) given)
+    (onward given (before ++ g ∷ []) (given_to g r) (next g before r now on.0) on.1)
+
+-- A piece that goes on
+
+open_at : (tokens : List Seen) (r : Reading) → Now (map Kept tokens) r → r.mode ≡ mode.Reads → rests r ≡ false → At tokens r
+open_at tokens r (Inside others e at some) reads on = subst (λ ts. At ts r) (sym (same_tokens tokens others e)) at
+open_at tokens r (Whole others e is at) reads on = absurd (let never : true ≡ false = sym (ap rests at) ∙ on in cc)
+open_at tokens r (Ended t e is at) reads on = absurd (let never : true ≡ false = sym (ap rests at) ∙ on in cc)
+open_at tokens r (Skips others wrong behind e begun is_bad at) reads on =
+    let same = ap (λ (x : Reading). x.mode) (sym at) ∙ reads in
+    absurd (let never : true ≡ false = sym (ap rests at ∙ ap (λ m. rests (between m)) same) ∙ on in cc)
+
+some_at : (t : Seen) (tokens : List Seen) (s : Stand) → IsAt (t ∷ tokens) s → rests s.reading ≡ false → At (t ∷ tokens) s.reading
+some_at t tokens s at on =
+    open_at (t ∷ tokens) s.reading
+    (subst (λ (r : Reading). Now (map Kept (t ∷ tokens)) r) (sym at.is_read)
+    (onward (map Kept tokens) (Kept t ∷ []) (given_to (Kept t) (between mode.Reads)) (first (Kept t) (between mode.Reads) refl) at.goes_on))
+    at.reads on
+
+open_stack : (stack : List (Symbol Action)) (r : Reading) → r.mode ≡ mode.Reads → r.stack ≡ stack → rests r ≡ false → stack ≡ [] → ⊥
+open_stack stack r reads e on empty =
+    let same : r ≡ between mode.Reads = ap (λ m. record { mode = m; stack = r.stack }) reads ∙ ap (λ x. record { mode = mode.Reads; stack = x }) (e ∙ empty) in
+    let never : true ≡ false = sym (ap rests same) ∙ on in
+    cc
+
+-- The token
+
+module _ (files : FileNames) (tokens : List Seen) (t : Seen) (r : Reading) (w : Work) (at : At tokens r) (is_seen : t.is_class ≡ is_class t.token w) where
+  as_seen : (b : Bool) → fits grammar known (atom_as (is_class t.token w) t.token) r.stack ≡ b → fits grammar known (seen_atom t) r.stack ≡ b
+  as_seen b f = ap (λ c. fits grammar known (atom_as c t.token) r.stack) is_seen ∙ f
+
+  takes : BeginsPiece (map seen_atom (tokens ++ t ∷ [])) → judged files t.token r w ≡ took files t.token r w
+  takes begun =
+      of_both (λ (x : Stand). x ≡ took files t.token r w) (fits grammar known (atom_as (is_class t.token w) t.token) r.stack) (took files t.token r w) (bad files t.token r w)
+      (λ _. refl)
+      (λ out. absurd (stops tokens r t at (as_seen false out) begun))
+
+  tells : (BeginsPiece (map seen_atom (tokens ++ t ∷ [])) → ⊥) → judged files t.token r w ≡ bad files t.token r w
+  tells none =
+      of_both (λ (x : Stand). x ≡ bad files t.token r w) (fits grammar known (atom_as (is_class t.token w) t.token) r.stack) (took files t.token r w) (bad files t.token r w)
+      (λ f. absurd (none (begins (tokens ++ t ∷ []) _ (goes tokens r t at (as_seen true f)))))
+      (λ _. refl)
+
+-- how it comes to be judged
+comes : (files : FileNames) (t : Spelled) (stack : List (Symbol Action)) (r : Reading) (w : Work) → (is_end t.kind ≡ false) ⊎ (stack ≡ [] → ⊥)
+    → read_at files t stack r w ≡ judged files t (at_hand_by stack r) (work_by stack w)
+comes files t [] r w (inl going) = ap (λ b. cond b (record { reading = record r { mode = mode.Ended }; work = w }) (judged files t (piece_begun r) (work_begun w))) going
+comes files t [] r w (inr some) = absurd (some refl)
+comes files t (symbol ∷ symbols) r w going = refl
+
+class_stays : (t : Spelled) (stack : List (Symbol Action)) (w : Work) → is_class t w ≡ is_class t (work_by stack w)
+class_stays t [] w = refl
+class_stays t (symbol ∷ symbols) w = refl
+
+-- The piece at hand
+
+is_at_hand : (stack : List (Symbol Action)) (r : Reading) → (stack ≡ [] → ⊥) → at_hand_by stack r ≡ r
+is_at_hand [] r some = absurd (some refl)
+is_at_hand (symbol ∷ symbols) r some = refl
+
+hand_at : (tokens : List Seen) (s : Stand) → IsAt tokens s → (tokens ≡ []) ⊎ (rests s.reading ≡ false) → At tokens (at_hand s.reading)
+hand_at [] s at is_open = subst (λ (r : Reading). At [] (at_hand r)) (sym at.is_read) no_token
+hand_at (t ∷ tokens) s at (inl none) = cc
+hand_at (t ∷ tokens) s at (inr on) =
+    subst (λ (r : Reading). At (t ∷ tokens) r) (sym (is_at_hand s.reading.stack s.reading (open_stack s.reading.stack s.reading at.reads refl on)))
+    (some_at t tokens s at on)
+
+goes_by : (t : Spelled) (s : Stand) → s.reading.mode ≡ mode.Reads → (is_end t.kind ≡ false) ⊎ (rests s.reading ≡ false) → (is_end t.kind ≡ false) ⊎ (s.reading.stack ≡ [] → ⊥)
+goes_by t s reads (inl going) = inl going
+goes_by t s reads (inr on) = inr (open_stack s.reading.stack s.reading reads refl on)
+
+pub tokens_are_taken_or_told : TokensAreTakenOrTold
+tokens_are_taken_or_told files tokens t s at is_seen going = record {
+  taken = λ begun. same ∙ takes files tokens t (at_hand s.reading) (work_by s.reading.stack s.work) hand seen_here begun;
+  told = λ none. same ∙ tells files tokens t (at_hand s.reading) (work_by s.reading.stack s.work) hand seen_here none;
+}
+  where
+    hand : At tokens (at_hand s.reading)
+    hand = hand_at tokens s at at.is_open
+
+    seen_here : t.is_class ≡ is_class t.token (work_by s.reading.stack s.work)
+    seen_here = is_seen ∙ class_stays t.token s.reading.stack s.work
+
+    same : given_at files (Kept t) s ≡ judged files t.token (at_hand s.reading) (work_by s.reading.stack s.work)
+    same =
+        ap (λ m. step_in m files t.token s.reading s.work) at.reads
+        ∙ comes files t.token s.reading.stack s.reading s.work (goes_by t.token s at.reads going)
+
+pub unfit_tokens_are_told : UnfitTokensAreTold
+unfit_tokens_are_told files t s reads = ap (λ m. unfit_in m files t s) reads
