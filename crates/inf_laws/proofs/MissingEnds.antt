@@ -77,7 +77,7 @@ in_order changes =
 
 -- Conditionals by their places
 
-abbrev place_of : Conditional → Place
+abbrev pub place_of : Conditional → Place
 place_of c = c.place
 
 turned_places : (cs : List Conditional) → map place_of (turned_first cs) ≡ map place_of cs
@@ -96,7 +96,7 @@ reversed_places (c ∷ cs) =
     ∙ ap (λ ps. ps ++ c.place ∷ []) (reversed_places cs)
     ∙ sym (reverse-append (c.place ∷ []) (map place_of cs))
 
-told_at : (files : FileNames) (cs : List Conditional) (r : Reported) → with_all_lone files cs r ≡ with_all_at files (map place_of cs) r
+pub told_at : (files : FileNames) (cs : List Conditional) (r : Reported) → with_all_lone files cs r ≡ with_all_at files (map place_of cs) r
 told_at files [] r = refl
 told_at files (c ∷ cs) r = told_at files cs (with_lone files c.place r)
 

@@ -11,6 +11,7 @@ use Rattle.inf_conditionals.specs.declared.judged.Handed.TheVariants as handed
 use Rattle.inf_conditionals.specs.declared.judged.Judged.{Judged}
 use Rattle.inf_conditionals.specs.declared.judged.Sign.{Sign}
 use Rattle.inf_conditionals.specs.declared.open.LeftOut.{LeftOut}
+use Rattle.inf_conditionals.specs.Ends.{file_told}
 use Rattle.inf_conditionals.specs.Judging.{Behind, is_none_pending, judged, none_handed}
 use Rattle.inf_conditionals.specs.Open.{Conditions, is_second, latest, most_levels, silent}
 use Rattle.inf_conditionals.specs.Words.{word_of}
@@ -19,10 +20,10 @@ use Rattle.inf_reader.specs.Reading.{Reading, Stand, is_mode_ended}
 use Rattle.inf_session.specs.Choices.{Choices}
 use Rattle.inf_session.specs.Session.{State, answered, asked_nothing, has_ended, heeded, is_resting, left, piece_closed, rested, stand_of, stepped, token_of, turn}
 use Rattle.inf_work.specs.Actions.{Work}
-use Rattle.inf_laws.specs.KeptSides.{all_handed_on, ended_behind, going_on, handed_as, handed_on, handed_sign, handed_token}
+use Rattle.inf_laws.specs.KeptSides.{all_behind, all_handed_on, ended_behind, going_on, handed_as, handed_on, handed_sign, handed_token, judged_at}
 use Rattle.inf_laws.specs.KeptTokens.{given_as, given_of, given_sign, given_token}
-use Rattle.inf_laws.specs.KeptTurns.{given_by, given_in}
-use Rattle.inf_laws.specs.SideTurns.{ReadingsStartClear, TurnsCutInnerSides, TurnsHandOn, TurnsKeepSides, as_event, at_turn, at_turns, ends_there, is_inclusion, shown}
+use Rattle.inf_laws.specs.KeptTurns.{given_by, given_in, turned}
+use Rattle.inf_laws.specs.SideTurns.{ReadingsStartClear, StayInOne, TurnsCutInnerSides, TurnsHandOn, TurnsKeepSides, TurnsTellMissingEnds, as_event, at_turn, at_turns, ends_there, is_inclusion, shown}
 use Rattle.inf_laws.specs.Sides.{StayIn, level_behind}
 use Rattle.inf_laws.proofs.KeptSides.{one_side_is_kept}
 use Rattle.inf_laws.proofs.KeptTurns.{heeded_reading, turn_reading}
@@ -93,6 +94,21 @@ turns_keep_sides d sources o n s parts stay are_these clear file =
     turns_hand_on sources o n s stay
     ∙ ap (λ tokens. all_handed_on tokens s.conditions) are_these
     ∙ (one_side_is_kept d parts s.conditions clear file).handed_on
+
+turned_conditions : (sources : Sources) (o : Choices) (n : ℕ) (s : State) → StayInOne sources o n s → (turned sources o n s).conditions ≡ all_behind (at_turns sources o n s) s.conditions
+turned_conditions sources o zero s stay = refl
+turned_conditions sources o (suc n) s stay =
+    let next = turn sources o s in
+    turned_conditions sources o n next stay.1.1 ∙ ap (all_behind (at_turns sources o n next)) (turn_conditions sources o s stay.0 stay.1.0)
+
+pub turns_tell_missing_ends : TurnsTellMissingEnds
+turns_tell_missing_ends d sources o n s parts stay are_these clear file is_last =
+    let behind = turned sources o n s in
+    let end = at_turn sources o behind in
+    let last = stepped behind in
+    ap (λ (c : Conditions). file_told last.nesting.names (judged_at end c).now last.work.report)
+    (turned_conditions sources o n s stay ∙ ap (λ tokens. all_behind tokens s.conditions) are_these)
+    ∙ (one_side_is_kept d parts s.conditions clear file).in_file end last.nesting.names last.work.report is_last
 
 pub readings_start_clear : ReadingsStartClear
 readings_start_clear sources o name =

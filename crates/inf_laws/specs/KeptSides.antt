@@ -7,6 +7,7 @@ use Rattle.inf_scanner.specs.declared.tokens.Place.{Place}
 use Rattle.inf_scanner.specs.declared.tokens.TokenKind.TheVariants as kind
 use Rattle.inf_machine.specs.Machine.{fits}
 use Rattle.inf_grammar.specs.Language.{grammar, known}
+use Rattle.inf_unit.specs.Messages.{FileNames, Reported}
 use Rattle.inf_unit.specs.Tokens.{Spelled, is_end, is_mark}
 use Rattle.inf_conditionals.specs.Atoms.{atom_of}
 use Rattle.inf_conditionals.specs.Condition.{Condition, condition_begun, condition_took, is_whole, verdict_of}
@@ -17,12 +18,13 @@ use Rattle.inf_conditionals.specs.declared.judged.Sign.{Sign}
 use Rattle.inf_conditionals.specs.declared.judged.Site.{Site}
 use Rattle.inf_conditionals.specs.declared.words.ConditionalWord.{ConditionalWord}
 use Rattle.inf_conditionals.specs.declared.words.ConditionalWord.TheVariants as word
-use Rattle.inf_conditionals.specs.Ends.{piece_ended}
+use Rattle.inf_conditionals.specs.Ends.{file_told, piece_ended, piece_told}
 use Rattle.inf_conditionals.specs.Judging.{Behind, judged}
 use Rattle.inf_conditionals.specs.Open.{Conditions, most_levels, silent}
 use Rattle.inf_conditionals.specs.Words.{word_of}
 use Rattle.inf_reader.specs.Handing.{hash}
 use Rattle.inf_laws.specs.LoneEnds.{is_lone}
+use Rattle.inf_laws.specs.MissingEnds.{with_all_at}
 
 -- What is handed on
 
@@ -73,6 +75,11 @@ abbrev pub all_handed_on : List At → Conditions → List Handing
 all_handed_on [] c = []
 all_handed_on (t ∷ tokens) c = handed_on (judged_at t c).judged t.token ++ all_handed_on tokens (going_on t c)
 
+-- the conditionals behind all of them
+abbrev pub all_behind : List At → Conditions → Conditions
+all_behind [] c = c
+all_behind (t ∷ tokens) c = all_behind tokens (going_on t c)
+
 -- and the places of the directives that are told to be without their other end
 abbrev pub lone_places : Option Place → List Place
 lone_places None = []
@@ -103,11 +110,12 @@ signed_tokens (Some sign) tokens = sign ∷ tokens
 abbrev pub first_tokens : First → List At → List At
 first_tokens first tokens = signed_tokens first.sign (first.word ∷ tokens)
 
--- A token that belongs to no conditional directive; a directive with a name, which opens a conditional, where the name is to be declared or not, and one
+-- A token that belongs to no conditional directive, alone or behind a `#`; a directive with a name, which opens a conditional, where the name is to be declared or not, and one
 -- with a condition, which is to be true or not; and an `Ifnot` and an `Endif`, each with its semicolon. A directive stands inside another one or
 -- between the others.
 pub data Part : Type 0 where
   Plain : (token : At) → Part
+  Signed : (is_inner : Bool) (sign token : At) → Part
   Opening : (is_inner if_declared : Bool) (first : First) (name end : At) → Part
   Asking : (is_inner wanted : Bool) (first : First) (tokens : List At) (end : At) → Part
   Turning : (is_inner : Bool) (first : First) (end : At) → Part
@@ -116,6 +124,7 @@ pub data Part : Type 0 where
 abbrev pub all_tokens : List Part → List At
 all_tokens [] = []
 all_tokens (Plain t ∷ parts) = t ∷ all_tokens parts
+all_tokens (Signed is_inner sign t ∷ parts) = sign ∷ t ∷ all_tokens parts
 all_tokens (Opening is_inner if_declared first name end ∷ parts) = first_tokens first (name ∷ end ∷ all_tokens parts)
 all_tokens (Asking is_inner wanted first tokens end ∷ parts) = first_tokens first (tokens ++ end ∷ all_tokens parts)
 all_tokens (Turning is_inner first end ∷ parts) = first_tokens first (end ∷ all_tokens parts)
@@ -150,11 +159,9 @@ pub record IsName (is_inner : Bool) (t : At) : Type 0 where
   pub no_word : word_of t.token ≡ None
   pub goes_on : GoesOn is_inner t
 
--- a semicolon, and not among tokens that are passed over
 pub record IsSemicolon (t : At) : Type 0 where
   pub is : is_mark mark.Semicolon t.token.kind ≡ true
   pub no_hash : is_mark mark.Hash t.token.kind ≡ false
-  pub told : t.site.is_quiet ≡ false
 
 abbrev pub opening : Bool → ConditionalWord
 opening if_declared = if if_declared then word.Ifdef else word.Ifndef
@@ -180,11 +187,12 @@ pub record IsNext (is_last : Bool) (t : At) (k : Condition) : Type 0 where
   pub whole : is_whole (condition_took t.token k) ≡ is_last
 
 abbrev pub AreNext : Bool → List At → At → Condition → Type 0
-AreNext is_inner [] end k = IsNext true end k × (end.site.is_quiet ≡ false)
+AreNext is_inner [] end k = IsNext true end k
 AreNext is_inner (t ∷ tokens) end k = IsNext false t k × (GoesOn is_inner t × AreNext is_inner tokens end (condition_took t.token k))
 
 abbrev pub IsPart : Part → Type 0
 IsPart (Plain t) = IsPlain t
+IsPart (Signed is_inner sign t) = Begins is_inner (Some sign) t × IsPlain t
 IsPart (Opening is_inner if_declared first name end) = IsFirst is_inner (opening if_declared) first × (IsName is_inner name × IsSemicolon end)
 IsPart (Asking is_inner wanted first tokens end) =
     IsFirst is_inner (asking wanted) first
@@ -221,6 +229,7 @@ pub record Answers : Type 0 where
 abbrev pub Agree : Answers → ℕ → List Part → Type 0
 Agree answers declared [] = Unit {0}
 Agree answers declared (Plain t ∷ parts) = Agree answers (declared_behind t declared) parts
+Agree answers declared (Signed is_inner sign t ∷ parts) = Agree answers (declared_behind t (declared_behind sign declared)) parts
 Agree answers declared (Opening is_inner if_declared first name end ∷ parts) =
     (declared_before name.token.bytes (declared_first first declared) name.out.names ≡ answers.is_declared name)
     × Agree answers (declared_behind end (declared_behind name (declared_first first declared))) parts
@@ -232,8 +241,9 @@ Agree answers declared (Closing is_inner first end ∷ parts) = Agree answers (d
 
 -- What is kept of it
 
--- a conditional that is open: whether it is in its second side, and whether the side that it is in stays
+-- a conditional that is open: where its directive begins, whether it is in its second side, and whether the side that it is in stays
 pub record Open : Type 0 where
+  pub place : Place
   pub is_second : Bool
   pub stays : Bool
 
@@ -255,7 +265,7 @@ all_kept s = are_kept s.inside && are_kept s.between
 
 -- the other side of the latest conditional begins, if it was in its first one; of both sides one stays
 abbrev pub other_side : Open → Open
-other_side x = if x.is_second then x else record { is_second = true; stays = not x.stays }
+other_side x = if x.is_second then x else record x { is_second = true; stays = not x.stays }
 
 abbrev pub turned_open : List Open → List Open
 turned_open [] = []
@@ -272,8 +282,8 @@ closed_by (x ∷ inside) s = record s { inside = inside }
 
 -- One is opened more, whose first side stays where its name was declared or its condition is true, or where not. It belongs to the directive in which it was opened, unless that
 -- stands in a side that is left out between directives.
-abbrev pub first_side : Bool → Bool → Open
-first_side wanted is_so = record { is_second = false; stays = if wanted then is_so else not is_so }
+abbrev pub first_side : First → Bool → Bool → Open
+first_side first wanted is_so = record { place = begins first; is_second = false; stays = if wanted then is_so else not is_so }
 
 abbrev pub opened_more : Bool → Open → Around → Around
 opened_more is_inner x s = if is_inner && are_kept s.between then record s { inside = x ∷ s.inside } else record s { between = x ∷ s.between }
@@ -286,38 +296,51 @@ ended_in (Some declared) s = record s { inside = [] }
 -- what is open behind a part
 abbrev pub behind_part : Answers → Part → Around → Around
 behind_part answers (Plain t) s = ended_in t.ended s
-behind_part answers (Opening is_inner if_declared first name end) s = ended_in end.ended (opened_more is_inner (first_side if_declared (answers.is_declared name)) s)
-behind_part answers (Asking is_inner wanted first tokens end) s = ended_in end.ended (opened_more is_inner (first_side wanted (answers.is_true (whole_condition first tokens end) end)) s)
+behind_part answers (Signed is_inner sign t) s = ended_in t.ended s
+behind_part answers (Opening is_inner if_declared first name end) s = ended_in end.ended (opened_more is_inner (first_side first if_declared (answers.is_declared name)) s)
+behind_part answers (Asking is_inner wanted first tokens end) s = ended_in end.ended (opened_more is_inner (first_side first wanted (answers.is_true (whole_condition first tokens end) end)) s)
 behind_part answers (Turning is_inner first end) s = ended_in end.ended (turned_by s.inside s)
 behind_part answers (Closing is_inner first end) s = ended_in end.ended (closed_by s.inside s)
+
+abbrev pub behind_parts : Answers → Around → List Part → Around
+behind_parts answers s [] = s
+behind_parts answers s (part ∷ parts) = behind_parts answers (behind_part answers part s) parts
 
 -- the tokens that are kept
 abbrev pub kept_of : Part → Around → List Spelled
 kept_of (Plain t) s = if all_kept s then t.token ∷ [] else []
+kept_of (Signed is_inner sign t) s = if all_kept s then hash sign.token.place ∷ t.token ∷ [] else []
 kept_of _ s = []
 
 abbrev pub kept_sides : Answers → Around → List Part → List Spelled
 kept_sides answers s [] = []
 kept_sides answers s (part ∷ parts) = kept_of part s ++ kept_sides answers (behind_part answers part s) parts
 
--- where directives begin that have no conditional to turn or to end, of those that are kept
+-- where directives begin that have no conditional to turn or to end, of those that are kept and do not end among tokens that are passed over
 abbrev pub seconds : List Open → List Bool
 seconds around = map (λ (x : Open). x.is_second) around
 
-abbrev pub lone_at : ConditionalWord → First → Around → List Place
-lone_at w first s = if all_kept s && is_lone w (seconds (s.inside ++ s.between)) then begins first ∷ [] else []
+abbrev pub lone_at : ConditionalWord → First → At → Around → List Place
+lone_at w first end s =
+    if end.site.is_quiet then [] else if all_kept s && is_lone w (seconds (s.inside ++ s.between)) then begins first ∷ [] else []
 
 abbrev pub lone_of : Part → Around → List Place
-lone_of (Turning is_inner first end) s = lone_at word.Ifnot first s
-lone_of (Closing is_inner first end) s = lone_at word.Endif first s
+lone_of (Turning is_inner first end) s = lone_at word.Ifnot first end s
+lone_of (Closing is_inner first end) s = lone_at word.Endif first end s
 lone_of _ s = []
 
 abbrev pub lone_parts : Answers → Around → List Part → List Place
 lone_parts answers s [] = []
 lone_parts answers s (part ∷ parts) = lone_of part s ++ lone_parts answers (behind_part answers part s) parts
 
+-- where those began that are open, in order, but for what was opened in a side that is left out
+abbrev pub unended : List Open → List Place
+unended [] = []
+unended (x ∷ around) = unended around ++ (if are_kept around then x.place ∷ [] else [])
+
 -- Between directives no conditional is open that was opened inside one.
 abbrev pub StandsRight : Part → Around → Type 0
+StandsRight (Signed false sign t) s = s.inside ≡ []
 StandsRight (Opening false if_declared first name end) s = s.inside ≡ []
 StandsRight (Asking false wanted first tokens end) s = s.inside ≡ []
 StandsRight (Turning false first end) s = s.inside ≡ []
@@ -340,10 +363,13 @@ pub record IsClear (c : Conditions) : Type 0 where
   pub none_said : c.said ≡ None
 
 -- Of each conditional one side is kept: just these tokens are handed on, each as one that is kept, and just these directives are told to be without
--- their other end. No file has as many levels as are counted at most.
+-- their other end: where they end, and where the file does then, or the directive at hand. No file has as many levels as are counted at most.
 pub record KeepsSides (answers : Answers) (parts : List Part) (c : Conditions) : Type 0 where
   pub handed_on : all_handed_on (all_tokens parts) c ≡ map as_kept (kept_sides answers none_around parts)
   pub lone : all_lone_places (all_tokens parts) c ≡ lone_parts answers none_around parts
+  pub in_file : (end : At) (files : FileNames) (r : Reported) → is_end end.token.kind ≡ true
+      → let s = behind_parts answers none_around parts in file_told files (judged_at end (all_behind (all_tokens parts) c)).now r ≡ with_all_at files (unended s.inside ++ unended s.between) r
+  pub in_directive : (files : FileNames) (r : Reported) → let s = behind_parts answers none_around parts in piece_told files (all_behind (all_tokens parts) c) r ≡ with_all_at files (unended s.inside) r
 
 -- a file with such conditionals, by what is told of its names and conditions
 pub record IsFile (answers : Answers) (declared : ℕ) (parts : List Part) : Type 0 where

@@ -1,17 +1,19 @@
 -- The tokens that the turns of a whole reading hand on, with the conditionals of its file.
-use Rattle.std.specs.Prelude.{◌≡◌, ◌≤◌, ◌+◌, ℕ, zero, suc, List, [], ◌∷◌, map, Bool, true, false, if◌then◌else◌, Option, Some, None}
+use Rattle.std.specs.Prelude.{◌≡◌, ◌≤◌, ◌+◌, ℕ, zero, suc, List, [], ◌∷◌, ◌++◌, map, Bool, true, false, if◌then◌else◌, Option, Some, None}
 use Rattle.inf_token.specs.Files.{Sources}
 use Rattle.inf_unit.specs.Directives.{Asked, End, Include, Nothing}
+use Rattle.inf_unit.specs.Tokens.{is_end}
 use Rattle.inf_conditionals.specs.declared.judged.Handed.TheVariants as handed
 use Rattle.inf_conditionals.specs.declared.open.LeftOut.{LeftOut}
 use Rattle.inf_conditionals.specs.Open.{is_second, latest, most_levels}
 use Rattle.inf_reader.specs.Handing.{site_of}
 use Rattle.inf_reader.specs.Reading.{is_mode_ended}
 use Rattle.inf_session.specs.Choices.{Choices}
-use Rattle.inf_session.specs.Session.{State, has_ended, heeded, is_resting, start, stepped, token_of, turn}
-use Rattle.inf_laws.specs.KeptSides.{Answers, At, Handing, IsClear, IsFile, Part, all_handed_on, all_tokens, as_kept, kept_sides, none_around}
+use Rattle.inf_session.specs.Session.{State, file_closed, has_ended, heeded, is_resting, start, stepped, token_of, turn}
+use Rattle.inf_laws.specs.KeptSides.{Answers, At, Handing, IsClear, IsFile, Part, all_handed_on, all_tokens, as_kept, behind_parts, kept_sides, none_around, unended}
 use Rattle.inf_laws.specs.KeptTokens.{Given, Kept, Unfit}
 use Rattle.inf_laws.specs.KeptTurns.{given_in, turned}
+use Rattle.inf_laws.specs.MissingEnds.{with_all_at}
 use Rattle.inf_laws.specs.Sides.{Event, StayIn, Token}
 
 -- where a directive is taken to end, how many names are declared
@@ -52,6 +54,14 @@ abbrev pub TurnsKeepSides : Type 0
 TurnsKeepSides = (answers : Answers) (sources : Sources) (o : Choices) (n : ℕ) (s : State) (parts : List Part) → StayInOne sources o n s → at_turns sources o n s ≡ all_tokens parts
     → IsClear s.conditions → IsFile answers s.conditions.declared parts
     → map shown (given_in sources o n s) ≡ map as_kept (kept_sides answers none_around parts)
+
+-- Where the file ends with the next turn, just those conditionals are told that are open, in order, but for what was opened in a side that is left out.
+abbrev pub TurnsTellMissingEnds : Type 0
+TurnsTellMissingEnds = (answers : Answers) (sources : Sources) (o : Choices) (n : ℕ) (s : State) (parts : List Part) → StayInOne sources o n s → at_turns sources o n s ≡ all_tokens parts
+    → IsClear s.conditions → IsFile answers s.conditions.declared parts
+    → is_end (token_of (turned sources o n s).nesting.cursor).kind ≡ true
+    → let last = stepped (turned sources o n s) in let around = behind_parts answers none_around parts in
+    (file_closed last).work.report ≡ with_all_at last.nesting.names (unended around.inside ++ unended around.between) last.work.report
 
 -- So it is from the first token of a main source on.
 abbrev pub ReadingsStartClear : Type 0

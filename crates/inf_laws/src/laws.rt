@@ -8,7 +8,7 @@ ghost use Rattle.inf_laws.specs.KeptTokens.{KeptTokensAreRead, TokensAreHandedOn
 ghost use Rattle.inf_laws.specs.KeptTurns.{TurnsReadPieces};
 ghost use Rattle.inf_laws.specs.LoneEnds.{LonesAreJudged, LonesAreTold, OnlyLonesAre, SidesFollow};
 ghost use Rattle.inf_laws.specs.NameEvents.{FewHaveRoom, FirstDeclarationsCount, OperandsUse, UndeclaredAreTold, UnitsDeclare};
-ghost use Rattle.inf_laws.specs.SideTurns.{ReadingsStartClear, TurnsCutInnerSides, TurnsHandOn, TurnsKeepSides};
+ghost use Rattle.inf_laws.specs.SideTurns.{ReadingsStartClear, TurnsCutInnerSides, TurnsHandOn, TurnsKeepSides, TurnsTellMissingEnds};
 ghost use Rattle.inf_laws.specs.Parts.{PartsArePieces, PartsEndWithPieces};
 ghost use Rattle.inf_laws.specs.Sides.{SidesAgree, SidesAreCut, SidesEnd, ValuesDecide};
 ghost use Rattle.inf_laws.specs.Skipping.{DirectivesAreSkipped, PassedTokensDoNothing, RoutinesAreSkipped, SourcesEnd};
@@ -95,11 +95,13 @@ pub fn lone_ends_are_told()
 {}
 
 /// Of each conditional, between the directives of a file or inside of one, one side is kept: a token is handed on exactly where of each conditional
-/// around it the side stays that it is in. So do the turns of a reading from its start, as long as no file ends and none is included.
+/// around it the side stays that it is in. So do the turns of a reading from its start, as long as no file ends and none is included. Where the file ends
+/// behind them, just those conditionals are told that are open, in order, but for what was opened in a side that is left out.
 pub fn one_side_is_kept()
     ensures kept { OneSideIsKept }
     ensures handed_on { TurnsHandOn }
     ensures turns { TurnsKeepSides }
+    ensures ends { TurnsTellMissingEnds }
     ensures start { ReadingsStartClear }
 {}
 
