@@ -103,15 +103,15 @@ name_plain t is none = record { no_word = none; no_hash = ap (is_mark mark.Hash)
 -- Conditionals
 
 -- with what is read of a directive, and a `#` that is held back
-abbrev state : Conditions → List Pending → Option Place → List Conditional → List Conditional → Option LeftOut → ℕ → Conditions
+abbrev pub state : Conditions → List Pending → Option Place → List Conditional → List Conditional → Option LeftOut → ℕ → Conditions
 state c pending sign inner among left declared =
     record c { among = among; inner = inner; pending = pending; left_out = left; sign = sign; declared = declared; said = None }
 
 -- between two parts
-abbrev at : Conditions → List Conditional → List Conditional → Option LeftOut → ℕ → Conditions
+abbrev pub at : Conditions → List Conditional → List Conditional → Option LeftOut → ℕ → Conditions
 at c inner among left declared = state c [] None inner among left declared
 
-abbrev left_at : Bool → ℕ → Option LeftOut
+abbrev pub left_at : Bool → ℕ → Option LeftOut
 left_at is_inner n = Some (record { is_inner = is_inner; levels = n })
 
 -- in a directive
@@ -123,7 +123,7 @@ reading is_inner place a c inner among declared = state c (directive is_inner pl
 
 -- Where no side is left out
 
-plain_kept : (t : At) (c : Conditions) (inner among : List Conditional) (declared : ℕ) → IsPlain t
+pub plain_kept : (t : At) (c : Conditions) (inner among : List Conditional) (declared : ℕ) → IsPlain t
     → judged_at t (at c inner among None declared) ≡ kept (at c inner among None declared)
 plain_kept t c inner among declared is =
     let here = at c inner among None declared in
@@ -209,7 +209,7 @@ end_is_no_hash (kind.Bad x) e = cc
 end_word : (t : Spelled) → is_end t.kind ≡ true → word_of t ≡ None
 end_word t e = mark_word t.kind t.bytes t.place (λ name. let never : true ≡ false = sym e ∙ ap is_end name in cc)
 
-end_kept_so : (front quiet : Bool) (o : Out) (t : Spelled) (c : Conditions) → is_end t.kind ≡ true → c.pending ≡ [] → offered front quiet o t c ≡ kept c
+pub end_kept_so : (front quiet : Bool) (o : Out) (t : Spelled) (c : Conditions) → is_end t.kind ≡ true → c.pending ≡ [] → offered front quiet o t c ≡ kept c
 end_kept_so front quiet o t c is none =
     ap (λ (b : Bool). cond b (passed (held front t.place c)) (offered_to c.pending front quiet o t c)) (end_is_no_hash t.kind is)
     ∙ ap (λ ps. offered_to ps front quiet o t c) none
@@ -318,29 +318,65 @@ calm_at is_inner inner b n calm e = ((calm e).0, ap (λ x. cond x None (left_at 
 -- What is handed on
 
 -- the conditionals by what is open, but for what was opened in a side that is left out
-abbrev conditional_of : Open → Conditional
+abbrev pub conditional_of : Open → Conditional
 conditional_of x = record { place = x.place; is_second = x.is_second }
 
-abbrev conditionals : List Open → List Conditional
+abbrev pub conditionals : List Open → List Conditional
 conditionals around = map conditional_of around
 
-abbrev outer : List Open → List Open
+abbrev pub outer : List Open → List Open
 outer [] = []
 outer (x ∷ around) = cond (are_kept around) (x ∷ outer around) (outer around)
 
-record AreOpen (last : Around) (inner among : List Conditional) : Type 0 where
-  inside : inner ≡ conditionals (outer last.inside)
-  between : among ≡ conditionals (outer last.between)
+-- Conditionals that are open
 
-abbrev EndsAs : Around → Conditions → Type 0
-EndsAs last c = AreOpen last c.inner c.among × ((c.pending ≡ []) × (c.sign ≡ None))
+-- the conditionals by what is open: of none of them a side is left out, or of one that was opened inside a directive or between directives, and so many
+-- others are open in it
+pub data Stands (inner among : List Conditional) : Type 0 where
+  AllStay : (inside between : List Open) → are_kept inside ≡ true → are_kept between ≡ true → conditionals inside ≡ inner → conditionals between ≡ among → Stands inner among
+  InnerLeft : (deep : List Open) (x : Open) (inside between : List Open) → x.stays ≡ false → are_kept inside ≡ true → are_kept between ≡ true → conditionals (x ∷ inside) ≡ inner → conditionals between ≡ among → Stands inner among
+  OuterLeft : (deep : List Open) (x : Open) (between : List Open) → inner ≡ [] → x.stays ≡ false → are_kept between ≡ true → conditionals (x ∷ between) ≡ among → Stands inner among
 
-record Led (all : List At) (c : Conditions) (tokens : List Spelled) (places : List Place) (last : Around) : Type 0 where
-  hands : all_handed_on all c ≡ map as_kept tokens
-  tells : all_lone_places all c ≡ places
-  ends : EndsAs last (all_behind all c)
+abbrev pub stack_of : (inner among : List Conditional) → Stands inner among → Around
+stack_of inner among (AllStay inside between si sb mi mb) = record { inside = inside; between = between }
+stack_of inner among (InnerLeft deep x inside between left si sb mi mb) = record { inside = deep ++ x ∷ inside; between = between }
+stack_of inner among (OuterLeft deep x between none left sb mb) = record { inside = []; between = deep ++ x ∷ between }
 
-keeps : (t : At) (all : List At) (c : Conditions) (tokens : List Spelled) (places : List Place) (last : Around) → judged_at t c ≡ kept c → Led all (ended_behind t.ended (silent c)) tokens places last
+abbrev pub left_of : (inner among : List Conditional) → Stands inner among → Option LeftOut
+left_of inner among (AllStay inside between si sb mi mb) = None
+left_of inner among (InnerLeft deep x inside between left si sb mi mb) = left_at true (length deep)
+left_of inner among (OuterLeft deep x between none left sb mb) = left_at false (length deep)
+
+abbrev pub levels_of : (inner among : List Conditional) → Stands inner among → ℕ
+levels_of inner among (AllStay inside between si sb mi mb) = 0
+levels_of inner among (InnerLeft deep x inside between left si sb mi mb) = length deep
+levels_of inner among (OuterLeft deep x between none left sb mb) = length deep
+
+-- what is open at last, and what is open in the files that wait
+pub record Last : Type 0 where
+  pub around : Around
+  pub waiting : List (List Conditional)
+
+pub record AreOpen (last : Around) (inner among : List Conditional) : Type 0 where
+  pub inside : inner ≡ conditionals (outer last.inside)
+  pub between : among ≡ conditionals (outer last.between)
+
+pub record EndsAs (last : Last) (c : Conditions) : Type 0 where
+  pub base : Conditions
+  pub inner : List Conditional
+  pub among : List Conditional
+  pub stand : Stands inner among
+  pub declared : ℕ
+  pub is : c ≡ at base inner among (left_of inner among stand) declared
+  pub stack : stack_of inner among stand ≡ last.around
+  pub waits : base.waiting ≡ last.waiting
+
+pub record Led (all : List At) (c : Conditions) (tokens : List Spelled) (places : List Place) (last : Last) : Type 0 where
+  pub hands : all_handed_on all c ≡ map as_kept tokens
+  pub tells : all_lone_places all c ≡ places
+  pub ends : EndsAs last (all_behind all c)
+
+keeps : (t : At) (all : List At) (c : Conditions) (tokens : List Spelled) (places : List Place) (last : Last) → judged_at t c ≡ kept c → Led all (ended_behind t.ended (silent c)) tokens places last
     → Led (t ∷ all) c (t.token ∷ tokens) places last
 keeps t all c tokens places last e rest = record {
   hands =
@@ -349,7 +385,7 @@ keeps t all c tokens places last e rest = record {
   ends = subst (λ (x : Conditions). EndsAs last (all_behind all x)) (sym (ap (λ (b : Behind). ended_behind t.ended (silent b.now)) e)) rest.ends;
 }
 
-passes : (t : At) (all : List At) (c now next : Conditions) (tokens : List Spelled) (places : List Place) (last : Around) → judged_at t c ≡ passed now → ended_behind t.ended (silent now) ≡ next → Led all next tokens places last
+passes : (t : At) (all : List At) (c now next : Conditions) (tokens : List Spelled) (places : List Place) (last : Last) → judged_at t c ≡ passed now → ended_behind t.ended (silent now) ≡ next → Led all next tokens places last
     → Led (t ∷ all) c tokens places last
 passes t all c now next tokens places last e to rest = record {
   hands =
@@ -363,7 +399,7 @@ passes t all c now next tokens places last e to rest = record {
 abbrev both_kept_so : Place → Conditions → Behind
 both_kept_so place now = record { now = now; judged = record none_handed { sign = Some (record { place = place; handed = handed.Kept }); token = Some handed.Kept } }
 
-keeps_both : (t : At) (all : List At) (place : Place) (c now : Conditions) (tokens : List Spelled) (places : List Place) (last : Around) → judged_at t c ≡ both_kept_so place now
+keeps_both : (t : At) (all : List At) (place : Place) (c now : Conditions) (tokens : List Spelled) (places : List Place) (last : Last) → judged_at t c ≡ both_kept_so place now
     → Led all (ended_behind t.ended (silent now)) tokens places last → Led (t ∷ all) c (hash place ∷ t.token ∷ tokens) places last
 keeps_both t all place c now tokens places last e rest = record {
   hands =
@@ -399,7 +435,7 @@ inside_kept place t c inner among declared is =
 abbrev ended_so : Conditions → Option Place → Option Place → Behind
 ended_so now alone place = record { now = now; judged = record none_handed { lone = alone; ended = place } }
 
-acts : (t : At) (all : List At) (c now : Conditions) (alone place : Option Place) (tokens : List Spelled) (places : List Place) (last : Around) → judged_at t c ≡ ended_so now alone place
+acts : (t : At) (all : List At) (c now : Conditions) (alone place : Option Place) (tokens : List Spelled) (places : List Place) (last : Last) → judged_at t c ≡ ended_so now alone place
     → Led all (ended_behind t.ended (silent now)) tokens places last → Led (t ∷ all) c tokens (lone_places alone ++ places) last
 acts t all c now alone place tokens places last e rest = record {
   hands = ap (λ (b : Behind). handed_on b.judged t.token ++ all_handed_on all (ended_behind t.ended (silent b.now))) e ∙ rest.hands;
@@ -418,7 +454,7 @@ sign_goes : (is_inner : Bool) (sign t : At) → Begins is_inner (Some sign) t �
 sign_goes true sign t is = is.1.1
 sign_goes false sign t is = tt
 
-begins_kept : (is_inner : Bool) (w : ConditionalWord) (a : Awaits) (sign : Option At) (t : At) (all : List At) (c after : Conditions) (inner among : List Conditional) (declared : ℕ) (tokens : List Spelled) (places : List Place) (last : Around)
+begins_kept : (is_inner : Bool) (w : ConditionalWord) (a : Awaits) (sign : Option At) (t : At) (all : List At) (c after : Conditions) (inner among : List Conditional) (declared : ℕ) (tokens : List Spelled) (places : List Place) (last : Last)
     → Begins is_inner sign t → word_of t.token ≡ Some w → GoesOn is_inner t
     → ((m : ℕ) → begun w t.token (begins_at sign t) is_inner (at c inner among None m) ≡ passed (reading is_inner (begins_at sign t) a after inner among m)) → Calm is_inner inner None
     → Led all (reading is_inner (begins_at sign t) a after inner among (declared_behind t (declared_sign sign declared))) tokens places last
@@ -449,7 +485,7 @@ begins_kept true w a (Some sign) t all c after inner among declared tokens place
     (mid true t after (directive true place a ∷ []) None inner among None now goes calm) rest)
 
 -- where a side is left out, one that ends none
-begins_left : (is_inner : Bool) (w : ConditionalWord) (m : ℕ) (sign : Option At) (t : At) (all : List At) (c : Conditions) (inner among : List Conditional) (b : Bool) (n declared : ℕ) (tokens : List Spelled) (places : List Place) (last : Around)
+begins_left : (is_inner : Bool) (w : ConditionalWord) (m : ℕ) (sign : Option At) (t : At) (all : List At) (c : Conditions) (inner among : List Conditional) (b : Bool) (n declared : ℕ) (tokens : List Spelled) (places : List Place) (last : Last)
     → Begins is_inner sign t → word_of t.token ≡ Some w → GoesOn is_inner t → CalmLeft is_inner inner b → n + 1 ≤ most_levels → ends_side (second inner among) n (Some w) ≡ false
     → level_behind (Some w) n ≡ m
     → Led all (at c inner among (left_at b m) (declared_behind t (declared_sign sign declared))) tokens places last
@@ -470,7 +506,7 @@ begins_left is_inner w m (Some sign) t all c inner among b n declared tokens pla
     (mid is_inner t c [] None inner among (left_at b m) now goes (calm_at is_inner inner b m calm)) rest)
 
 -- and one that ends it
-begins_end : (is_inner : Bool) (w : ConditionalWord) (sign : Option At) (t : At) (all : List At) (c : Conditions) (inner among inner_now among_now : List Conditional) (b : Bool) (declared : ℕ) (tokens : List Spelled) (places : List Place) (last : Around)
+begins_end : (is_inner : Bool) (w : ConditionalWord) (sign : Option At) (t : At) (all : List At) (c : Conditions) (inner among inner_now among_now : List Conditional) (b : Bool) (declared : ℕ) (tokens : List Spelled) (places : List Place) (last : Last)
     → Begins is_inner sign t → word_of t.token ≡ Some w → GoesOn is_inner t → CalmLeft is_inner inner b → Calm is_inner inner_now None → 1 ≤ most_levels → ends_side (second inner among) 0 (Some w) ≡ true
     → Acted w b c inner among inner_now among_now
     → Led all (reading false (begins_at sign t) (awaits.End effect.Nothing) c inner_now among_now (declared_behind t (declared_sign sign declared))) tokens places last
@@ -552,7 +588,7 @@ next_ends is_inner wanted place t k c inner among declared is =
     ∙ ap (λ (b : Bool). cond b (decided (verdict_of declared t.out next) wanted quiet next p here)
     (taken (asking_on place is_inner wanted next (saying quiet (too_much c.longest t.token next) (tokens_counted quiet next here))))) is.whole
 
-takes : (t : At) (all : List At) (c now next : Conditions) (tokens : List Spelled) (places : List Place) (last : Around) → judged_at t c ≡ taken now → ended_behind t.ended (silent now) ≡ next → Led all next tokens places last
+takes : (t : At) (all : List At) (c now next : Conditions) (tokens : List Spelled) (places : List Place) (last : Last) → judged_at t c ≡ taken now → ended_behind t.ended (silent now) ≡ next → Led all next tokens places last
     → Led (t ∷ all) c tokens places last
 takes t all c now next tokens places last e to rest = record {
   hands =
@@ -563,11 +599,11 @@ takes t all c now next tokens places last e to rest = record {
 }
 
 -- all before the last
-asks : (read : List At) (end : At) (all : List At) (k : Condition) (is_inner wanted : Bool) (place : Place) (c : Conditions) (inner among : List Conditional) (declared : ℕ) (tokens : List Spelled) (places : List Place) (last : Around)
+asks : (read : List At) (end : At) (all : List At) (k : Condition) (is_inner wanted : Bool) (place : Place) (c : Conditions) (inner among : List Conditional) (declared : ℕ) (tokens : List Spelled) (places : List Place) (last : Last)
     → AreNext is_inner read end k → Calm is_inner inner None
-    → ((after : Conditions) → Led (end ∷ all) (reading is_inner place (awaits.Condition wanted) (with_condition (condition_behind read k) after) inner among (declared_tokens read declared)) tokens places last)
+    → ((after : Conditions) → after.waiting ≡ c.waiting → Led (end ∷ all) (reading is_inner place (awaits.Condition wanted) (with_condition (condition_behind read k) after) inner among (declared_tokens read declared)) tokens places last)
     → Led (read ++ end ∷ all) (reading is_inner place (awaits.Condition wanted) (with_condition k c) inner among declared) tokens places last
-asks [] end all k is_inner wanted place c inner among declared tokens places last are calm rest = rest c
+asks [] end all k is_inner wanted place c inner among declared tokens places last are calm rest = rest c refl
 asks (t ∷ read) end all k is_inner wanted place c inner among declared tokens places last are calm rest =
     let next = condition_took t.token k in
     let quiet = t.site.is_quiet in
@@ -584,7 +620,7 @@ last_next is_inner [] end k are = are
 last_next is_inner (t ∷ read) end k are = last_next is_inner read end (condition_took t.token k) are.1.1
 
 -- where a side is left out
-skips : (read : List At) (end : At) (all : List At) (k : Condition) (is_inner : Bool) (c : Conditions) (inner among : List Conditional) (b : Bool) (n declared : ℕ) (tokens : List Spelled) (places : List Place) (last : Around)
+skips : (read : List At) (end : At) (all : List At) (k : Condition) (is_inner : Bool) (c : Conditions) (inner among : List Conditional) (b : Bool) (n declared : ℕ) (tokens : List Spelled) (places : List Place) (last : Last)
     → AreNext is_inner read end k → CalmLeft is_inner inner b → n + 1 ≤ most_levels
     → Led (end ∷ all) (at c inner among (left_at b n) (declared_tokens read declared)) tokens places last
     → Led (read ++ end ∷ all) (at c inner among (left_at b n) declared) tokens places last
@@ -599,38 +635,16 @@ longer : (read rest : List At) → length rest ≤ length (read ++ rest)
 longer [] rest = omega arith
 longer (t ∷ read) rest = omega (arith, longer read rest)
 
--- Conditionals that are open
+-- Facts of what is open
 
--- the conditionals by what is open: of none of them a side is left out, or of one that was opened inside a directive or between directives, and so many
--- others are open in it
-data Stands (inner among : List Conditional) : Type 0 where
-  AllStay : (inside between : List Open) → are_kept inside ≡ true → are_kept between ≡ true → conditionals inside ≡ inner → conditionals between ≡ among → Stands inner among
-  InnerLeft : (deep : List Open) (x : Open) (inside between : List Open) → x.stays ≡ false → are_kept inside ≡ true → are_kept between ≡ true → conditionals (x ∷ inside) ≡ inner → conditionals between ≡ among → Stands inner among
-  OuterLeft : (deep : List Open) (x : Open) (between : List Open) → inner ≡ [] → x.stays ≡ false → are_kept between ≡ true → conditionals (x ∷ between) ≡ among → Stands inner among
-
-abbrev stack_of : (inner among : List Conditional) → Stands inner among → Around
-stack_of inner among (AllStay inside between si sb mi mb) = record { inside = inside; between = between }
-stack_of inner among (InnerLeft deep x inside between left si sb mi mb) = record { inside = deep ++ x ∷ inside; between = between }
-stack_of inner among (OuterLeft deep x between none left sb mb) = record { inside = []; between = deep ++ x ∷ between }
-
-abbrev left_of : (inner among : List Conditional) → Stands inner among → Option LeftOut
-left_of inner among (AllStay inside between si sb mi mb) = None
-left_of inner among (InnerLeft deep x inside between left si sb mi mb) = left_at true (length deep)
-left_of inner among (OuterLeft deep x between none left sb mb) = left_at false (length deep)
-
-abbrev levels_of : (inner among : List Conditional) → Stands inner among → ℕ
-levels_of inner among (AllStay inside between si sb mi mb) = 0
-levels_of inner among (InnerLeft deep x inside between left si sb mi mb) = length deep
-levels_of inner among (OuterLeft deep x between none left sb mb) = length deep
-
-not_kept : (deep : List Open) (x : Open) (around : List Open) → x.stays ≡ false → are_kept (deep ++ x ∷ around) ≡ false
+pub not_kept : (deep : List Open) (x : Open) (around : List Open) → x.stays ≡ false → are_kept (deep ++ x ∷ around) ≡ false
 not_kept [] x around left = ap (λ b. b && are_kept around) left
 not_kept (y ∷ deep) x around left = ap (λ b. y.stays && b) (not_kept deep x around left) ∙ and-false y.stays
 
 both_kept : (inside between : List Open) → are_kept inside ≡ true → are_kept between ≡ true → all_kept (record { inside = inside; between = between }) ≡ true
 both_kept inside between si sb = ap (λ b. b && are_kept between) si ∙ sb
 
-inner_not_kept : (deep : List Open) (x : Open) (inside between : List Open) → x.stays ≡ false → all_kept (record { inside = deep ++ x ∷ inside; between = between }) ≡ false
+pub inner_not_kept : (deep : List Open) (x : Open) (inside between : List Open) → x.stays ≡ false → all_kept (record { inside = deep ++ x ∷ inside; between = between }) ≡ false
 inner_not_kept deep x inside between left = ap (λ b. b && are_kept between) (not_kept deep x inside left)
 
 kept_head : (x : Open) (around : List Open) → are_kept (x ∷ around) ≡ true → (x.stays ≡ true) × (are_kept around ≡ true)
@@ -813,7 +827,15 @@ are_open inner among (OuterLeft deep x between none left sb mb) = record {
   between = sym (ap conditionals (outer_left deep x between left sb) ∙ mb);
 }
 
-unended_is : (around : List Open) → unended around ≡ map place_of (reverse (conditionals (outer around)))
+pub open_of : (last : Last) (c : Conditions) → EndsAs last c → AreOpen last.around c.inner c.among
+open_of last c e =
+    let all = are_open e.inner e.among e.stand in
+    record {
+      inside = ap (λ (x : Conditions). x.inner) e.is ∙ all.inside ∙ ap (λ (s : Around). conditionals (outer s.inside)) e.stack;
+      between = ap (λ (x : Conditions). x.among) e.is ∙ all.between ∙ ap (λ (s : Around). conditionals (outer s.between)) e.stack;
+    }
+
+pub unended_is : (around : List Open) → unended around ≡ map place_of (reverse (conditionals (outer around)))
 unended_is [] = refl
 unended_is (x ∷ around) = go (are_kept around) (unended_is around)
   where
@@ -831,7 +853,7 @@ told_all : (files : FileNames) (cs : List Conditional) (around : List Open) (r :
 told_all files cs around r e =
     told_at files (reverse cs) r ∙ ap (λ xs. with_all_at files (map place_of (reverse xs)) r) e ∙ sym (ap (λ ps. with_all_at files ps r) (unended_is around))
 
-told_both : (files : FileNames) (first second : List Place) (r : Reported) → with_all_at files (first ++ second) r ≡ with_all_at files second (with_all_at files first r)
+pub told_both : (files : FileNames) (first second : List Place) (r : Reported) → with_all_at files (first ++ second) r ≡ with_all_at files second (with_all_at files first r)
 told_both files [] second r = refl
 told_both files (p ∷ first) second r = told_both files first second (with_lone files p r)
 
@@ -856,57 +878,57 @@ closing_right true first end s right e = cc
 
 -- All parts
 
-abbrev Onward : Answers → List Part → Conditions → Type 0
-Onward d parts c = (inner among : List Conditional) (s : Stands inner among) (declared : ℕ) → Agree d declared parts → AllStandRight d (stack_of inner among s) parts
+abbrev Onward : Answers → List Part → Conditions → List (List Conditional) → Type 0
+Onward d parts c w = (inner among : List Conditional) (s : Stands inner among) (declared : ℕ) → Agree d declared parts → AllStandRight d (stack_of inner among s) parts
     → levels_of inner among s + length (all_tokens parts) ≤ most_levels
-    → Led (all_tokens parts) (at c inner among (left_of inner among s) declared) (kept_sides d (stack_of inner among s) parts) (lone_parts d (stack_of inner among s) parts) (behind_parts d (stack_of inner among s) parts)
+    → Led (all_tokens parts) (at c inner among (left_of inner among s) declared) (kept_sides d (stack_of inner among s) parts) (lone_parts d (stack_of inner among s) parts) (record { around = behind_parts d (stack_of inner among s) parts; waiting = w })
 
 -- behind the end of a directive, or where none ends
-behind_end : (d : Answers) (parts : List Part) (c : Conditions) → Onward d parts c → (e : Option ℕ) (inner among : List Conditional) (s : Stands inner among) (declared : ℕ)
+behind_end : (d : Answers) (parts : List Part) (c : Conditions) (w : List (List Conditional)) → Onward d parts c w → (e : Option ℕ) (inner among : List Conditional) (s : Stands inner among) (declared : ℕ)
     → Agree d (unwrap_or e declared) parts → AllStandRight d (ended_in e (stack_of inner among s)) parts → levels_of inner among s + length (all_tokens parts) ≤ most_levels
-    → Led (all_tokens parts) (ended_behind e (at c inner among (left_of inner among s) declared)) (kept_sides d (ended_in e (stack_of inner among s)) parts) (lone_parts d (ended_in e (stack_of inner among s)) parts) (behind_parts d (ended_in e (stack_of inner among s)) parts)
-behind_end d parts c on None inner among s declared agree right few = on inner among s declared agree right few
-behind_end d parts c on (Some now) inner among (AllStay inside between si sb mi mb) declared agree right few = on [] among (AllStay [] between refl sb refl mb) now agree right few
-behind_end d parts c on (Some now) inner among (InnerLeft deep x inside between left si sb mi mb) declared agree right few =
+    → Led (all_tokens parts) (ended_behind e (at c inner among (left_of inner among s) declared)) (kept_sides d (ended_in e (stack_of inner among s)) parts) (lone_parts d (ended_in e (stack_of inner among s)) parts) (record { around = behind_parts d (ended_in e (stack_of inner among s)) parts; waiting = w })
+behind_end d parts c w on None inner among s declared agree right few = on inner among s declared agree right few
+behind_end d parts c w on (Some now) inner among (AllStay inside between si sb mi mb) declared agree right few = on [] among (AllStay [] between refl sb refl mb) now agree right few
+behind_end d parts c w on (Some now) inner among (InnerLeft deep x inside between left si sb mi mb) declared agree right few =
     on [] among (AllStay [] between refl sb refl mb) now agree right (omega (arith, few))
-behind_end d parts c on (Some now) inner among (OuterLeft deep x between none left sb mb) declared agree right few = on [] among (OuterLeft deep x between refl left sb mb) now agree right few
+behind_end d parts c w on (Some now) inner among (OuterLeft deep x between none left sb mb) declared agree right few = on [] among (OuterLeft deep x between refl left sb mb) now agree right few
 
-led : (d : Answers) (parts : List Part) (inner among : List Conditional) (s : Stands inner among) (declared : ℕ) (c : Conditions) → AreParts parts → Agree d declared parts
+pub led : (d : Answers) (parts : List Part) (inner among : List Conditional) (s : Stands inner among) (declared : ℕ) (c : Conditions) (w : List (List Conditional)) → c.waiting ≡ w → AreParts parts → Agree d declared parts
     → AllStandRight d (stack_of inner among s) parts → levels_of inner among s + length (all_tokens parts) ≤ most_levels
-    → Led (all_tokens parts) (at c inner among (left_of inner among s) declared) (kept_sides d (stack_of inner among s) parts) (lone_parts d (stack_of inner among s) parts) (behind_parts d (stack_of inner among s) parts)
-led d [] inner among s declared c are agree right few = record { hands = refl; tells = refl; ends = (are_open inner among s, (refl, refl)) }
-led d (Plain t ∷ parts) inner among (AllStay inside between si sb mi mb) declared c are agree right few =
-    let on : Onward d parts c = λ i a s m agreed rightly enough. led d parts i a s m c are.1 agreed rightly enough in
+    → Led (all_tokens parts) (at c inner among (left_of inner among s) declared) (kept_sides d (stack_of inner among s) parts) (lone_parts d (stack_of inner among s) parts) (record { around = behind_parts d (stack_of inner among s) parts; waiting = w })
+led d [] inner among s declared c w cw are agree right few = record { hands = refl; tells = refl; ends = record { base = c; inner = inner; among = among; stand = s; declared = declared; is = refl; stack = refl; waits = cw } }
+led d (Plain t ∷ parts) inner among (AllStay inside between si sb mi mb) declared c w cw are agree right few =
+    let on : Onward d parts c w = λ i a s m agreed rightly enough. led d parts i a s m c w cw are.1 agreed rightly enough in
     let s : Around = record { inside = inside; between = between } in
     let here = at c inner among (None) declared in
     let tokens = kept_sides d (ended_in t.ended s) parts in
     let places = lone_parts d (ended_in t.ended s) parts in
-    let last = behind_parts d (ended_in t.ended s) parts in
-    let rest = behind_end d parts c on t.ended inner among (AllStay inside between si sb mi mb) declared agree right.1 (omega (arith, few)) in
+    let last : Last = record { around = behind_parts d (ended_in t.ended s) parts; waiting = w } in
+    let rest = behind_end d parts c w on t.ended inner among (AllStay inside between si sb mi mb) declared agree right.1 (omega (arith, few)) in
     subst (λ k. Led (t ∷ all_tokens parts) here (cond k (t.token ∷ []) [] ++ tokens) places last) (sym (both_kept inside between si sb))
     (keeps t (all_tokens parts) here tokens places last (plain_kept t c inner among declared are.0) rest)
-led d (Plain t ∷ parts) inner among (InnerLeft deep x inside between left si sb mi mb) declared c are agree right few =
-    let on : Onward d parts c = λ i a s m agreed rightly enough. led d parts i a s m c are.1 agreed rightly enough in
+led d (Plain t ∷ parts) inner among (InnerLeft deep x inside between left si sb mi mb) declared c w cw are agree right few =
+    let on : Onward d parts c w = λ i a s m agreed rightly enough. led d parts i a s m c w cw are.1 agreed rightly enough in
     let s : Around = record { inside = deep ++ x ∷ inside; between = between } in
     let here = at c inner among (left_at true (length deep)) declared in
     let tokens = kept_sides d (ended_in t.ended s) parts in
     let places = lone_parts d (ended_in t.ended s) parts in
-    let last = behind_parts d (ended_in t.ended s) parts in
-    let rest = behind_end d parts c on t.ended inner among (InnerLeft deep x inside between left si sb mi mb) declared agree right.1 (omega (arith, few)) in
+    let last : Last = record { around = behind_parts d (ended_in t.ended s) parts; waiting = w } in
+    let rest = behind_end d parts c w on t.ended inner among (InnerLeft deep x inside between left si sb mi mb) declared agree right.1 (omega (arith, few)) in
     subst (λ k. Led (t ∷ all_tokens parts) here (cond k (t.token ∷ []) [] ++ tokens) places last) (sym (inner_not_kept deep x inside between left))
     (passes t (all_tokens parts) here here (ended_behind t.ended here) tokens places last (plain_left t c inner among true (length deep) declared are.0 (omega (arith, few))) refl rest)
-led d (Plain t ∷ parts) inner among (OuterLeft deep x between none left sb mb) declared c are agree right few =
-    let on : Onward d parts c = λ i a s m agreed rightly enough. led d parts i a s m c are.1 agreed rightly enough in
+led d (Plain t ∷ parts) inner among (OuterLeft deep x between none left sb mb) declared c w cw are agree right few =
+    let on : Onward d parts c w = λ i a s m agreed rightly enough. led d parts i a s m c w cw are.1 agreed rightly enough in
     let s : Around = record { inside = []; between = deep ++ x ∷ between } in
     let here = at c inner among (left_at false (length deep)) declared in
     let tokens = kept_sides d (ended_in t.ended s) parts in
     let places = lone_parts d (ended_in t.ended s) parts in
-    let last = behind_parts d (ended_in t.ended s) parts in
-    let rest = behind_end d parts c on t.ended inner among (OuterLeft deep x between none left sb mb) declared agree right.1 (omega (arith, few)) in
+    let last : Last = record { around = behind_parts d (ended_in t.ended s) parts; waiting = w } in
+    let rest = behind_end d parts c w on t.ended inner among (OuterLeft deep x between none left sb mb) declared agree right.1 (omega (arith, few)) in
     subst (λ k. Led (t ∷ all_tokens parts) here (cond k (t.token ∷ []) [] ++ tokens) places last) (sym (not_kept deep x between left))
     (passes t (all_tokens parts) here here (ended_behind t.ended here) tokens places last (plain_left t c inner among false (length deep) declared are.0 (omega (arith, few))) refl rest)
-led d (Signed true sign t ∷ parts) inner among (AllStay inside between si sb mi mb) declared c are agree right few =
-    let on : Onward d parts (given_up_so c) = λ i a s m agreed rightly enough. led d parts i a s m (given_up_so c) are.1 agreed rightly enough in
+led d (Signed true sign t ∷ parts) inner among (AllStay inside between si sb mi mb) declared c w cw are agree right few =
+    let on : Onward d parts (given_up_so c) w = λ i a s m agreed rightly enough. led d parts i a s m (given_up_so c) w cw are.1 agreed rightly enough in
     let s : Around = record { inside = inside; between = between } in
     let here = at c inner among None declared in
     let place = sign.token.place in
@@ -914,16 +936,16 @@ led d (Signed true sign t ∷ parts) inner among (AllStay inside between si sb m
     let calm : Calm true inner None = λ e. absurd (no_false e) in
     let tokens = kept_sides d (ended_in t.ended s) parts in
     let places = lone_parts d (ended_in t.ended s) parts in
-    let last = behind_parts d (ended_in t.ended s) parts in
-    let rest = behind_end d parts (given_up_so c) on t.ended inner among (AllStay inside between si sb mi mb) now agree right.1 (omega (arith, few)) in
+    let last : Last = record { around = behind_parts d (ended_in t.ended s) parts; waiting = w } in
+    let rest = behind_end d parts (given_up_so c) w on t.ended inner among (AllStay inside between si sb mi mb) now agree right.1 (omega (arith, few)) in
     subst (λ k. Led (sign ∷ t ∷ all_tokens parts) here (cond k (hash place ∷ t.token ∷ []) [] ++ tokens) places last) (sym (both_kept inside between si sb))
     (passes sign (t ∷ all_tokens parts) here (state c [] (Some place) inner among None declared) (state c [] (Some place) inner among None now) (hash place ∷ t.token ∷ tokens) places last
     (sign_inner sign c inner among declared are.0.0.0 are.0.0.1.0)
     (mid true sign c [] (Some place) inner among None declared are.0.0.1.1 calm)
     (keeps_both t (all_tokens parts) place (state c [] (Some place) inner among None now) (at (given_up_so c) inner among None now) tokens places last
     (inside_kept place t c inner among now are.0.1) rest))
-led d (Signed false sign t ∷ parts) inner among (AllStay [] between si sb mi mb) declared c are agree right few =
-    let on : Onward d parts c = λ i a s m agreed rightly enough. led d parts i a s m c are.1 agreed rightly enough in
+led d (Signed false sign t ∷ parts) inner among (AllStay [] between si sb mi mb) declared c w cw are agree right few =
+    let on : Onward d parts c w = λ i a s m agreed rightly enough. led d parts i a s m c w cw are.1 agreed rightly enough in
     let s : Around = record { inside = []; between = between } in
     let here = at c inner among None declared in
     let place = sign.token.place in
@@ -932,18 +954,18 @@ led d (Signed false sign t ∷ parts) inner among (AllStay [] between si sb mi m
     let calm : Calm false inner None = λ _. (none, refl) in
     let tokens = kept_sides d (ended_in t.ended s) parts in
     let places = lone_parts d (ended_in t.ended s) parts in
-    let last = behind_parts d (ended_in t.ended s) parts in
-    let rest = behind_end d parts c on t.ended inner among (AllStay [] between si sb mi mb) now agree right.1 (omega (arith, few)) in
+    let last : Last = record { around = behind_parts d (ended_in t.ended s) parts; waiting = w } in
+    let rest = behind_end d parts c w on t.ended inner among (AllStay [] between si sb mi mb) now agree right.1 (omega (arith, few)) in
     subst (λ k. Led (sign ∷ t ∷ all_tokens parts) here (cond k (hash place ∷ t.token ∷ []) [] ++ tokens) places last) (sym (both_kept [] between si sb))
     (passes sign (t ∷ all_tokens parts) here (reading false place awaits.Word c inner among declared) (reading false place awaits.Word c inner among now) (hash place ∷ t.token ∷ tokens) places last
     (sign_kept sign c inner among declared are.0.0.0 are.0.0.1)
     (mid false sign c (directive false place awaits.Word ∷ []) None inner among None declared tt calm)
     (keeps_both t (all_tokens parts) place (reading false place awaits.Word c inner among now) (at c inner among None now) tokens places last
     (front_kept place t c inner among now are.0.1) rest))
-led d (Signed false sign t ∷ parts) inner among (AllStay (y ∷ inside) between si sb mi mb) declared c are agree right few = absurd (some_open [] y inside right.0)
-led d (Signed false sign t ∷ parts) inner among (InnerLeft deep x inside between left si sb mi mb) declared c are agree right few = absurd (some_open deep x inside right.0)
-led d (Signed true sign t ∷ parts) inner among (InnerLeft deep x inside between left si sb mi mb) declared c are agree right few =
-    let on : Onward d parts c = λ i a s m agreed rightly enough. led d parts i a s m c are.1 agreed rightly enough in
+led d (Signed false sign t ∷ parts) inner among (AllStay (y ∷ inside) between si sb mi mb) declared c w cw are agree right few = absurd (some_open [] y inside right.0)
+led d (Signed false sign t ∷ parts) inner among (InnerLeft deep x inside between left si sb mi mb) declared c w cw are agree right few = absurd (some_open deep x inside right.0)
+led d (Signed true sign t ∷ parts) inner among (InnerLeft deep x inside between left si sb mi mb) declared c w cw are agree right few =
+    let on : Onward d parts c w = λ i a s m agreed rightly enough. led d parts i a s m c w cw are.1 agreed rightly enough in
     let s : Around = record { inside = deep ++ x ∷ inside; between = between } in
     let n = length deep in
     let here : ℕ → Conditions = at c inner among (left_at true n) in
@@ -953,16 +975,16 @@ led d (Signed true sign t ∷ parts) inner among (InnerLeft deep x inside betwee
     let held_back : ℕ → Conditions = state c [] (Some place) inner among (left_at true n) in
     let tokens = kept_sides d (ended_in t.ended s) parts in
     let places = lone_parts d (ended_in t.ended s) parts in
-    let last = behind_parts d (ended_in t.ended s) parts in
-    let rest = behind_end d parts c on t.ended inner among (InnerLeft deep x inside between left si sb mi mb) now agree right.1 (omega (arith, few)) in
+    let last : Last = record { around = behind_parts d (ended_in t.ended s) parts; waiting = w } in
+    let rest = behind_end d parts c w on t.ended inner among (InnerLeft deep x inside between left si sb mi mb) now agree right.1 (omega (arith, few)) in
     subst (λ k. Led (sign ∷ t ∷ all_tokens parts) (here declared) (cond k (hash place ∷ t.token ∷ []) [] ++ tokens) places last) (sym (inner_not_kept deep x inside between left))
     (passes sign (t ∷ all_tokens parts) (here declared) (held_back declared) (held_back now) tokens places last
     (sign_left sign c inner among true n declared are.0.0.1.0 (omega (arith, few)))
     (mid true sign c [] (Some place) inner among (left_at true n) declared are.0.0.1.1 (calm_at true inner true n calm))
     (passes t (all_tokens parts) (held_back now) (here now) (ended_behind t.ended (here now)) tokens places last
     (signed_left t place c inner among true n now are.0.1 (omega (arith, few))) refl rest))
-led d (Signed is_inner sign t ∷ parts) inner among (OuterLeft deep x between none left sb mb) declared c are agree right few =
-    let on : Onward d parts c = λ i a s m agreed rightly enough. led d parts i a s m c are.1 agreed rightly enough in
+led d (Signed is_inner sign t ∷ parts) inner among (OuterLeft deep x between none left sb mb) declared c w cw are agree right few =
+    let on : Onward d parts c w = λ i a s m agreed rightly enough. led d parts i a s m c w cw are.1 agreed rightly enough in
     let s : Around = record { inside = []; between = deep ++ x ∷ between } in
     let n = length deep in
     let here : ℕ → Conditions = at c inner among (left_at false n) in
@@ -972,16 +994,16 @@ led d (Signed is_inner sign t ∷ parts) inner among (OuterLeft deep x between n
     let held_back : ℕ → Conditions = state c [] (Some place) inner among (left_at false n) in
     let tokens = kept_sides d (ended_in t.ended s) parts in
     let places = lone_parts d (ended_in t.ended s) parts in
-    let last = behind_parts d (ended_in t.ended s) parts in
-    let rest = behind_end d parts c on t.ended inner among (OuterLeft deep x between none left sb mb) now agree right.1 (omega (arith, few)) in
+    let last : Last = record { around = behind_parts d (ended_in t.ended s) parts; waiting = w } in
+    let rest = behind_end d parts c w on t.ended inner among (OuterLeft deep x between none left sb mb) now agree right.1 (omega (arith, few)) in
     subst (λ k. Led (sign ∷ t ∷ all_tokens parts) (here declared) (cond k (hash place ∷ t.token ∷ []) [] ++ tokens) places last) (sym (not_kept deep x between left))
     (passes sign (t ∷ all_tokens parts) (here declared) (held_back declared) (held_back now) tokens places last
     (sign_left sign c inner among false n declared (sign_hash is_inner sign t are.0.0) (omega (arith, few)))
     (mid is_inner sign c [] (Some place) inner among (left_at false n) declared (sign_goes is_inner sign t are.0.0) (calm_at is_inner inner false n calm))
     (passes t (all_tokens parts) (held_back now) (here now) (ended_behind t.ended (here now)) tokens places last
     (signed_left t place c inner among false n now are.0.1 (omega (arith, few))) refl rest))
-led d (Opening true if_declared first name end ∷ parts) inner among (AllStay inside between si sb mi mb) declared c are agree right few =
-    let on : Onward d parts c = λ i a s m agreed rightly enough. led d parts i a s m c are.1 agreed rightly enough in
+led d (Opening true if_declared first name end ∷ parts) inner among (AllStay inside between si sb mi mb) declared c w cw are agree right few =
+    let on : Onward d parts c w = λ i a s m agreed rightly enough. led d parts i a s m c w cw are.1 agreed rightly enough in
     let less = fewer first (name ∷ end ∷ all_tokens parts) in
     let now = declared_first first declared in
     let later = declared_behind name now in
@@ -994,18 +1016,18 @@ led d (Opening true if_declared first name end ∷ parts) inner among (AllStay i
     let stack : Bool → Bool → Around = λ k b.
     cond k (record { inside = record { place = place; is_second = false; stays = b } ∷ inside; between = between }) (record { inside = inside; between = record { place = place; is_second = false; stays = b } ∷ between }) in
     let after : Bool → Bool → Type 0 = λ k b. AllStandRight d (ended_in end.ended (stack k b)) parts
-    → Led (all_tokens parts) (ended_behind end.ended (at c (new ∷ inner) among (cond b None (left_at true 0)) later)) (kept_sides d (ended_in end.ended (stack k b)) parts) (lone_parts d (ended_in end.ended (stack k b)) parts) (behind_parts d (ended_in end.ended (stack k b)) parts) in
+    → Led (all_tokens parts) (ended_behind end.ended (at c (new ∷ inner) among (cond b None (left_at true 0)) later)) (kept_sides d (ended_in end.ended (stack k b)) parts) (lone_parts d (ended_in end.ended (stack k b)) parts) (record { around = behind_parts d (ended_in end.ended (stack k b)) parts; waiting = w }) in
     let first_stays : Open = record { place = place; is_second = false; stays = true } in
     let first_left : Open = record { place = place; is_second = false; stays = false } in
     let rest : after (are_kept between) stays =
     subst (λ k. after k stays) (sym sb)
     (bool_cases (after true) stays
-    (λ rightly. behind_end d parts c on end.ended (new ∷ inner) among (AllStay (first_stays ∷ inside) between si sb (ap (λ cs. new ∷ cs) mi) mb) later agree.1 rightly (omega (arith, few, less)))
-    (λ rightly. behind_end d parts c on end.ended (new ∷ inner) among (InnerLeft [] first_left inside between refl si sb (ap (λ cs. new ∷ cs) mi) mb) later agree.1 rightly (omega (arith, few, less)))) in
+    (λ rightly. behind_end d parts c w on end.ended (new ∷ inner) among (AllStay (first_stays ∷ inside) between si sb (ap (λ cs. new ∷ cs) mi) mb) later agree.1 rightly (omega (arith, few, less)))
+    (λ rightly. behind_end d parts c w on end.ended (new ∷ inner) among (InnerLeft [] first_left inside between refl si sb (ap (λ cs. new ∷ cs) mi) mb) later agree.1 rightly (omega (arith, few, less)))) in
     let key = are_kept between in
     let tokens = kept_sides d (ended_in end.ended (stack key stays)) parts in
     let places = lone_parts d (ended_in end.ended (stack key stays)) parts in
-    let last = behind_parts d (ended_in end.ended (stack key stays)) parts in
+    let last : Last = record { around = behind_parts d (ended_in end.ended (stack key stays)) parts; waiting = w } in
     let waits_name = awaits.Name if_declared in
     let waits_end = awaits.End (effect.Opens kept_so) in
     begins_kept true (opening if_declared) waits_name first.sign first.word (name ∷ end ∷ all_tokens parts) c c inner among declared tokens places last are.0.0.begins are.0.0.is are.0.0.goes_on
@@ -1017,8 +1039,8 @@ led d (Opening true if_declared first name end ∷ parts) inner among (AllStay i
     (end_kept (effect.Opens kept_so) true place end c inner among later are.0.1.1
     ∙ ap (λ b. ended_so (at c (new ∷ inner) among (cond b None (left_at true 0)) later) None (cond end.site.is_quiet None (Some place))) agrees)
     (rest right.1)))
-led d (Opening false if_declared first name end ∷ parts) inner among (AllStay [] between si sb mi mb) declared c are agree right few =
-    let on : Onward d parts c = λ i a s m agreed rightly enough. led d parts i a s m c are.1 agreed rightly enough in
+led d (Opening false if_declared first name end ∷ parts) inner among (AllStay [] between si sb mi mb) declared c w cw are agree right few =
+    let on : Onward d parts c w = λ i a s m agreed rightly enough. led d parts i a s m c w cw are.1 agreed rightly enough in
     let less = fewer first (name ∷ end ∷ all_tokens parts) in
     let now = declared_first first declared in
     let later = declared_behind name now in
@@ -1031,17 +1053,17 @@ led d (Opening false if_declared first name end ∷ parts) inner among (AllStay 
     let calm : Calm false inner None = λ _. (none, refl) in
     let stack : Bool → Bool → Around = λ k b. record { inside = []; between = record { place = place; is_second = false; stays = b } ∷ between } in
     let after : Bool → Bool → Type 0 = λ k b. AllStandRight d (ended_in end.ended (stack k b)) parts
-    → Led (all_tokens parts) (ended_behind end.ended (at c inner (new ∷ among) (cond b None (left_at false 0)) later)) (kept_sides d (ended_in end.ended (stack k b)) parts) (lone_parts d (ended_in end.ended (stack k b)) parts) (behind_parts d (ended_in end.ended (stack k b)) parts) in
+    → Led (all_tokens parts) (ended_behind end.ended (at c inner (new ∷ among) (cond b None (left_at false 0)) later)) (kept_sides d (ended_in end.ended (stack k b)) parts) (lone_parts d (ended_in end.ended (stack k b)) parts) (record { around = behind_parts d (ended_in end.ended (stack k b)) parts; waiting = w }) in
     let first_stays : Open = record { place = place; is_second = false; stays = true } in
     let first_left : Open = record { place = place; is_second = false; stays = false } in
     let rest : after false stays =
     bool_cases (after false) stays
-    (λ rightly. behind_end d parts c on end.ended inner (new ∷ among) (AllStay [] (first_stays ∷ between) si sb mi (ap (λ cs. new ∷ cs) mb)) later agree.1 rightly (omega (arith, few, less)))
-    (λ rightly. behind_end d parts c on end.ended inner (new ∷ among) (OuterLeft [] first_left between none refl sb (ap (λ cs. new ∷ cs) mb)) later agree.1 rightly (omega (arith, few, less))) in
+    (λ rightly. behind_end d parts c w on end.ended inner (new ∷ among) (AllStay [] (first_stays ∷ between) si sb mi (ap (λ cs. new ∷ cs) mb)) later agree.1 rightly (omega (arith, few, less)))
+    (λ rightly. behind_end d parts c w on end.ended inner (new ∷ among) (OuterLeft [] first_left between none refl sb (ap (λ cs. new ∷ cs) mb)) later agree.1 rightly (omega (arith, few, less))) in
     let key = false in
     let tokens = kept_sides d (ended_in end.ended (stack key stays)) parts in
     let places = lone_parts d (ended_in end.ended (stack key stays)) parts in
-    let last = behind_parts d (ended_in end.ended (stack key stays)) parts in
+    let last : Last = record { around = behind_parts d (ended_in end.ended (stack key stays)) parts; waiting = w } in
     let waits_name = awaits.Name if_declared in
     let waits_end = awaits.End (effect.Opens kept_so) in
     begins_kept false (opening if_declared) waits_name first.sign first.word (name ∷ end ∷ all_tokens parts) c c inner among declared tokens places last are.0.0.begins are.0.0.is are.0.0.goes_on
@@ -1053,10 +1075,10 @@ led d (Opening false if_declared first name end ∷ parts) inner among (AllStay 
     (end_kept (effect.Opens kept_so) false place end c inner among later are.0.1.1
     ∙ ap (λ b. ended_so (at c inner (new ∷ among) (cond b None (left_at false 0)) later) None (cond end.site.is_quiet None (Some place))) agrees)
     (rest right.1)))
-led d (Opening false if_declared first name end ∷ parts) inner among (AllStay (y ∷ inside) between si sb mi mb) declared c are agree right few = absurd (some_open [] y inside right.0)
-led d (Opening false if_declared first name end ∷ parts) inner among (InnerLeft deep x inside between left si sb mi mb) declared c are agree right few = absurd (some_open deep x inside right.0)
-led d (Opening true if_declared first name end ∷ parts) inner among (InnerLeft deep x inside between left si sb mi mb) declared c are agree right few =
-    let on : Onward d parts c = λ i a s m agreed rightly enough. led d parts i a s m c are.1 agreed rightly enough in
+led d (Opening false if_declared first name end ∷ parts) inner among (AllStay (y ∷ inside) between si sb mi mb) declared c w cw are agree right few = absurd (some_open [] y inside right.0)
+led d (Opening false if_declared first name end ∷ parts) inner among (InnerLeft deep x inside between left si sb mi mb) declared c w cw are agree right few = absurd (some_open deep x inside right.0)
+led d (Opening true if_declared first name end ∷ parts) inner among (InnerLeft deep x inside between left si sb mi mb) declared c w cw are agree right few =
+    let on : Onward d parts c w = λ i a s m agreed rightly enough. led d parts i a s m c w cw are.1 agreed rightly enough in
     let less = fewer first (name ∷ end ∷ all_tokens parts) in
     let now = declared_first first declared in
     let later = declared_behind name now in
@@ -1068,13 +1090,13 @@ led d (Opening true if_declared first name end ∷ parts) inner among (InnerLeft
     let key = are_kept between in
     let here : key ≡ true = sb in
     let after : Bool → Type 0 = λ k. AllStandRight d (ended_in end.ended (stack k)) parts
-    → Led (all_tokens parts) (ended_behind end.ended (deeper later)) (kept_sides d (ended_in end.ended (stack k)) parts) (lone_parts d (ended_in end.ended (stack k)) parts) (behind_parts d (ended_in end.ended (stack k)) parts) in
+    → Led (all_tokens parts) (ended_behind end.ended (deeper later)) (kept_sides d (ended_in end.ended (stack k)) parts) (lone_parts d (ended_in end.ended (stack k)) parts) (record { around = behind_parts d (ended_in end.ended (stack k)) parts; waiting = w }) in
     let rest : after key =
     subst after (sym here)
-    (λ rightly. behind_end d parts c on end.ended inner among (InnerLeft (more ∷ deep) x inside between left si sb mi mb) later agree.1 rightly (omega (arith, few, less))) in
+    (λ rightly. behind_end d parts c w on end.ended inner among (InnerLeft (more ∷ deep) x inside between left si sb mi mb) later agree.1 rightly (omega (arith, few, less))) in
     let tokens = kept_sides d (ended_in end.ended (stack key)) parts in
     let places = lone_parts d (ended_in end.ended (stack key)) parts in
-    let last = behind_parts d (ended_in end.ended (stack key)) parts in
+    let last : Last = record { around = behind_parts d (ended_in end.ended (stack key)) parts; waiting = w } in
     begins_left true (opening if_declared) (suc n) first.sign first.word (name ∷ end ∷ all_tokens parts) c inner among true n declared tokens places last are.0.0.begins are.0.0.is are.0.0.goes_on calm
     (omega (arith, few, less)) (opening_stays if_declared n (second inner among)) (opening_level if_declared n)
     (passes name (end ∷ all_tokens parts) (deeper now) (deeper now) (deeper later) tokens places last
@@ -1084,8 +1106,8 @@ led d (Opening true if_declared first name end ∷ parts) inner among (InnerLeft
     (plain_left end c inner among true (suc n) later (semicolon_plain end are.0.1.1) (omega (arith, few, less)))
     refl
     (rest right.1)))
-led d (Opening is_inner if_declared first name end ∷ parts) inner among (OuterLeft deep x between none left sb mb) declared c are agree right few =
-    let on : Onward d parts c = λ i a s m agreed rightly enough. led d parts i a s m c are.1 agreed rightly enough in
+led d (Opening is_inner if_declared first name end ∷ parts) inner among (OuterLeft deep x between none left sb mb) declared c w cw are agree right few =
+    let on : Onward d parts c w = λ i a s m agreed rightly enough. led d parts i a s m c w cw are.1 agreed rightly enough in
     let less = fewer first (name ∷ end ∷ all_tokens parts) in
     let now = declared_first first declared in
     let later = declared_behind name now in
@@ -1097,13 +1119,13 @@ led d (Opening is_inner if_declared first name end ∷ parts) inner among (Outer
     let key = is_inner && are_kept (deep ++ x ∷ between) in
     let here : key ≡ false = ap (λ k. is_inner && k) (not_kept deep x between left) ∙ and-false is_inner in
     let after : Bool → Type 0 = λ k. AllStandRight d (ended_in end.ended (stack k)) parts
-    → Led (all_tokens parts) (ended_behind end.ended (deeper later)) (kept_sides d (ended_in end.ended (stack k)) parts) (lone_parts d (ended_in end.ended (stack k)) parts) (behind_parts d (ended_in end.ended (stack k)) parts) in
+    → Led (all_tokens parts) (ended_behind end.ended (deeper later)) (kept_sides d (ended_in end.ended (stack k)) parts) (lone_parts d (ended_in end.ended (stack k)) parts) (record { around = behind_parts d (ended_in end.ended (stack k)) parts; waiting = w }) in
     let rest : after key =
     subst after (sym here)
-    (λ rightly. behind_end d parts c on end.ended inner among (OuterLeft (more ∷ deep) x between none left sb mb) later agree.1 rightly (omega (arith, few, less))) in
+    (λ rightly. behind_end d parts c w on end.ended inner among (OuterLeft (more ∷ deep) x between none left sb mb) later agree.1 rightly (omega (arith, few, less))) in
     let tokens = kept_sides d (ended_in end.ended (stack key)) parts in
     let places = lone_parts d (ended_in end.ended (stack key)) parts in
-    let last = behind_parts d (ended_in end.ended (stack key)) parts in
+    let last : Last = record { around = behind_parts d (ended_in end.ended (stack key)) parts; waiting = w } in
     begins_left is_inner (opening if_declared) (suc n) first.sign first.word (name ∷ end ∷ all_tokens parts) c inner among false n declared tokens places last are.0.0.begins are.0.0.is are.0.0.goes_on calm
     (omega (arith, few, less)) (opening_stays if_declared n (second inner among)) (opening_level if_declared n)
     (passes name (end ∷ all_tokens parts) (deeper now) (deeper now) (deeper later) tokens places last
@@ -1113,7 +1135,7 @@ led d (Opening is_inner if_declared first name end ∷ parts) inner among (Outer
     (plain_left end c inner among false (suc n) later (semicolon_plain end are.0.1.1) (omega (arith, few, less)))
     refl
     (rest right.1)))
-led d (Asking true wanted first read end ∷ parts) inner among (AllStay inside between si sb mi mb) declared c are agree right few =
+led d (Asking true wanted first read end ∷ parts) inner among (AllStay inside between si sb mi mb) declared c w cw are agree right few =
     let less = fewer first (read ++ end ∷ all_tokens parts) in
     let long = longer read (end ∷ all_tokens parts) in
     let now = declared_first first declared in
@@ -1131,30 +1153,30 @@ led d (Asking true wanted first read end ∷ parts) inner among (AllStay inside 
     cond k (record { inside = record { place = place; is_second = false; stays = b } ∷ inside; between = between }) (record { inside = inside; between = record { place = place; is_second = false; stays = b } ∷ between }) in
     let opened_now : Option Said → Conditions → Bool → Conditions = λ said after b. record (at after (new ∷ inner) among (cond b None (left_at true 0)) later) { said = said } in
     let after_all : Conditions → Bool → Bool → Type 0 = λ after k b. AllStandRight d (ended_in end.ended (stack k b)) parts
-    → Led (all_tokens parts) (ended_behind end.ended (opened_now None after b)) (kept_sides d (ended_in end.ended (stack k b)) parts) (lone_parts d (ended_in end.ended (stack k b)) parts) (behind_parts d (ended_in end.ended (stack k b)) parts) in
+    → Led (all_tokens parts) (ended_behind end.ended (opened_now None after b)) (kept_sides d (ended_in end.ended (stack k b)) parts) (lone_parts d (ended_in end.ended (stack k b)) parts) (record { around = behind_parts d (ended_in end.ended (stack k b)) parts; waiting = w }) in
     let first_stays : Open = record { place = place; is_second = false; stays = true } in
     let first_left : Open = record { place = place; is_second = false; stays = false } in
-    let on : (after : Conditions) → Onward d parts after = λ after i a s m agreed rightly enough. led d parts i a s m after are.1 agreed rightly enough in
+    let on : (after : Conditions) → after.waiting ≡ w → Onward d parts after w = λ after aw i a s m agreed rightly enough. led d parts i a s m after w aw are.1 agreed rightly enough in
     let key = are_kept between in
-    let rest : (after : Conditions) → after_all after key stays = λ after.
+    let rest : (after : Conditions) → after.waiting ≡ w → after_all after key stays = λ after aw.
     subst (λ k. after_all after k stays) (sym sb)
     (bool_cases (after_all after true) stays
-    (λ rightly. behind_end d parts after (on after) end.ended (new ∷ inner) among (AllStay (first_stays ∷ inside) between si sb (ap (λ cs. new ∷ cs) mi) mb) later agree.1 rightly (omega (arith, few, less, long)))
-    (λ rightly. behind_end d parts after (on after) end.ended (new ∷ inner) among (InnerLeft [] first_left inside between refl si sb (ap (λ cs. new ∷ cs) mi) mb) later agree.1 rightly (omega (arith, few, less, long)))) in
+    (λ rightly. behind_end d parts after w (on after aw) end.ended (new ∷ inner) among (AllStay (first_stays ∷ inside) between si sb (ap (λ cs. new ∷ cs) mi) mb) later agree.1 rightly (omega (arith, few, less, long)))
+    (λ rightly. behind_end d parts after w (on after aw) end.ended (new ∷ inner) among (InnerLeft [] first_left inside between refl si sb (ap (λ cs. new ∷ cs) mi) mb) later agree.1 rightly (omega (arith, few, less, long)))) in
     let tokens = kept_sides d (ended_in end.ended (stack key stays)) parts in
     let places = lone_parts d (ended_in end.ended (stack key stays)) parts in
-    let last = behind_parts d (ended_in end.ended (stack key stays)) parts in
+    let last : Last = record { around = behind_parts d (ended_in end.ended (stack key stays)) parts; waiting = w } in
     let a = awaits.Condition wanted in
     let ending = last_next true read end begun_so are.0.1.1 in
     let said = cond end.site.is_quiet None (told_by place whole v.finding) in
     begins_kept true (asking wanted) a first.sign first.word (read ++ end ∷ all_tokens parts) c (with_condition begun_so c) inner among declared tokens places last are.0.0.begins are.0.0.is are.0.0.goes_on
     (λ m. begun_asking true wanted first.word.token place c inner among m are.0.1.0) calm
     (asks read end (all_tokens parts) begun_so true wanted place c inner among now tokens places last are.0.1.1 calm
-    (λ after. acts end (all_tokens parts) (reading true place a (with_condition (condition_behind read begun_so) after) inner among later) (opened_now said after stays) None (cond end.site.is_quiet None (Some place)) tokens places last
+    (λ after aw. acts end (all_tokens parts) (reading true place a (with_condition (condition_behind read begun_so) after) inner among later) (opened_now said after stays) None (cond end.site.is_quiet None (Some place)) tokens places last
     (next_ends true wanted place end (condition_behind read begun_so) after inner among later ending
     ∙ ap (λ b. ended_so (opened_now said after b) None (cond end.site.is_quiet None (Some place))) agrees)
-    (rest after right.1)))
-led d (Asking false wanted first read end ∷ parts) inner among (AllStay [] between si sb mi mb) declared c are agree right few =
+    (rest after (aw ∙ cw) right.1)))
+led d (Asking false wanted first read end ∷ parts) inner among (AllStay [] between si sb mi mb) declared c w cw are agree right few =
     let less = fewer first (read ++ end ∷ all_tokens parts) in
     let long = longer read (end ∷ all_tokens parts) in
     let now = declared_first first declared in
@@ -1172,32 +1194,32 @@ led d (Asking false wanted first read end ∷ parts) inner among (AllStay [] bet
     let stack : Bool → Bool → Around = λ k b. record { inside = []; between = record { place = place; is_second = false; stays = b } ∷ between } in
     let opened_now : Option Said → Conditions → Bool → Conditions = λ said after b. record (at after inner (new ∷ among) (cond b None (left_at false 0)) later) { said = said } in
     let after_all : Conditions → Bool → Bool → Type 0 = λ after k b. AllStandRight d (ended_in end.ended (stack k b)) parts
-    → Led (all_tokens parts) (ended_behind end.ended (opened_now None after b)) (kept_sides d (ended_in end.ended (stack k b)) parts) (lone_parts d (ended_in end.ended (stack k b)) parts) (behind_parts d (ended_in end.ended (stack k b)) parts) in
+    → Led (all_tokens parts) (ended_behind end.ended (opened_now None after b)) (kept_sides d (ended_in end.ended (stack k b)) parts) (lone_parts d (ended_in end.ended (stack k b)) parts) (record { around = behind_parts d (ended_in end.ended (stack k b)) parts; waiting = w }) in
     let first_stays : Open = record { place = place; is_second = false; stays = true } in
     let first_left : Open = record { place = place; is_second = false; stays = false } in
-    let on : (after : Conditions) → Onward d parts after = λ after i a s m agreed rightly enough. led d parts i a s m after are.1 agreed rightly enough in
+    let on : (after : Conditions) → after.waiting ≡ w → Onward d parts after w = λ after aw i a s m agreed rightly enough. led d parts i a s m after w aw are.1 agreed rightly enough in
     let key = false in
-    let rest : (after : Conditions) → after_all after key stays = λ after.
+    let rest : (after : Conditions) → after.waiting ≡ w → after_all after key stays = λ after aw.
     bool_cases (after_all after false) stays
-    (λ rightly. behind_end d parts after (on after) end.ended inner (new ∷ among) (AllStay [] (first_stays ∷ between) si sb mi (ap (λ cs. new ∷ cs) mb)) later agree.1 rightly (omega (arith, few, less, long)))
-    (λ rightly. behind_end d parts after (on after) end.ended inner (new ∷ among) (OuterLeft [] first_left between none refl sb (ap (λ cs. new ∷ cs) mb)) later agree.1 rightly (omega (arith, few, less, long))) in
+    (λ rightly. behind_end d parts after w (on after aw) end.ended inner (new ∷ among) (AllStay [] (first_stays ∷ between) si sb mi (ap (λ cs. new ∷ cs) mb)) later agree.1 rightly (omega (arith, few, less, long)))
+    (λ rightly. behind_end d parts after w (on after aw) end.ended inner (new ∷ among) (OuterLeft [] first_left between none refl sb (ap (λ cs. new ∷ cs) mb)) later agree.1 rightly (omega (arith, few, less, long))) in
     let tokens = kept_sides d (ended_in end.ended (stack key stays)) parts in
     let places = lone_parts d (ended_in end.ended (stack key stays)) parts in
-    let last = behind_parts d (ended_in end.ended (stack key stays)) parts in
+    let last : Last = record { around = behind_parts d (ended_in end.ended (stack key stays)) parts; waiting = w } in
     let a = awaits.Condition wanted in
     let ending = last_next false read end begun_so are.0.1.1 in
     let said = cond end.site.is_quiet None (told_by place whole v.finding) in
     begins_kept false (asking wanted) a first.sign first.word (read ++ end ∷ all_tokens parts) c (with_condition begun_so c) inner among declared tokens places last are.0.0.begins are.0.0.is are.0.0.goes_on
     (λ m. begun_asking false wanted first.word.token place c inner among m are.0.1.0) calm
     (asks read end (all_tokens parts) begun_so false wanted place c inner among now tokens places last are.0.1.1 calm
-    (λ after. acts end (all_tokens parts) (reading false place a (with_condition (condition_behind read begun_so) after) inner among later) (opened_now said after stays) None (cond end.site.is_quiet None (Some place)) tokens places last
+    (λ after aw. acts end (all_tokens parts) (reading false place a (with_condition (condition_behind read begun_so) after) inner among later) (opened_now said after stays) None (cond end.site.is_quiet None (Some place)) tokens places last
     (next_ends false wanted place end (condition_behind read begun_so) after inner among later ending
     ∙ ap (λ b. ended_so (opened_now said after b) None (cond end.site.is_quiet None (Some place))) agrees)
-    (rest after right.1)))
-led d (Asking false wanted first read end ∷ parts) inner among (AllStay (y ∷ inside) between si sb mi mb) declared c are agree right few = absurd (some_open [] y inside right.0)
-led d (Asking false wanted first read end ∷ parts) inner among (InnerLeft deep x inside between left si sb mi mb) declared c are agree right few = absurd (some_open deep x inside right.0)
-led d (Asking true wanted first read end ∷ parts) inner among (InnerLeft deep x inside between left si sb mi mb) declared c are agree right few =
-    let on : Onward d parts c = λ i a s m agreed rightly enough. led d parts i a s m c are.1 agreed rightly enough in
+    (rest after (aw ∙ cw) right.1)))
+led d (Asking false wanted first read end ∷ parts) inner among (AllStay (y ∷ inside) between si sb mi mb) declared c w cw are agree right few = absurd (some_open [] y inside right.0)
+led d (Asking false wanted first read end ∷ parts) inner among (InnerLeft deep x inside between left si sb mi mb) declared c w cw are agree right few = absurd (some_open deep x inside right.0)
+led d (Asking true wanted first read end ∷ parts) inner among (InnerLeft deep x inside between left si sb mi mb) declared c w cw are agree right few =
+    let on : Onward d parts c w = λ i a s m agreed rightly enough. led d parts i a s m c w cw are.1 agreed rightly enough in
     let less = fewer first (read ++ end ∷ all_tokens parts) in
     let long = longer read (end ∷ all_tokens parts) in
     let now = declared_first first declared in
@@ -1213,13 +1235,13 @@ led d (Asking true wanted first read end ∷ parts) inner among (InnerLeft deep 
     let key = are_kept between in
     let here : key ≡ true = sb in
     let after : Bool → Type 0 = λ k. AllStandRight d (ended_in end.ended (stack k)) parts
-    → Led (all_tokens parts) (ended_behind end.ended (deeper later)) (kept_sides d (ended_in end.ended (stack k)) parts) (lone_parts d (ended_in end.ended (stack k)) parts) (behind_parts d (ended_in end.ended (stack k)) parts) in
+    → Led (all_tokens parts) (ended_behind end.ended (deeper later)) (kept_sides d (ended_in end.ended (stack k)) parts) (lone_parts d (ended_in end.ended (stack k)) parts) (record { around = behind_parts d (ended_in end.ended (stack k)) parts; waiting = w }) in
     let rest : after key =
     subst after (sym here)
-    (λ rightly. behind_end d parts c on end.ended inner among (InnerLeft (more ∷ deep) x inside between left si sb mi mb) later agree.1 rightly (omega (arith, few, less, long))) in
+    (λ rightly. behind_end d parts c w on end.ended inner among (InnerLeft (more ∷ deep) x inside between left si sb mi mb) later agree.1 rightly (omega (arith, few, less, long))) in
     let tokens = kept_sides d (ended_in end.ended (stack key)) parts in
     let places = lone_parts d (ended_in end.ended (stack key)) parts in
-    let last = behind_parts d (ended_in end.ended (stack key)) parts in
+    let last : Last = record { around = behind_parts d (ended_in end.ended (stack key)) parts; waiting = w } in
     begins_left true (asking wanted) (suc n) first.sign first.word (read ++ end ∷ all_tokens parts) c inner among true n declared tokens places last are.0.0.begins are.0.0.is are.0.0.goes_on calm
     (omega (arith, few, less, long)) (asking_stays wanted n (second inner among)) (asking_level wanted n)
     (skips read end (all_tokens parts) begun_so true c inner among true (suc n) now tokens places last are.0.1.1 calm (omega (arith, few, less, long))
@@ -1227,8 +1249,8 @@ led d (Asking true wanted first read end ∷ parts) inner among (InnerLeft deep 
     (plain_left end c inner among true (suc n) later ending.plain (omega (arith, few, less, long)))
     refl
     (rest right.1)))
-led d (Asking is_inner wanted first read end ∷ parts) inner among (OuterLeft deep x between none left sb mb) declared c are agree right few =
-    let on : Onward d parts c = λ i a s m agreed rightly enough. led d parts i a s m c are.1 agreed rightly enough in
+led d (Asking is_inner wanted first read end ∷ parts) inner among (OuterLeft deep x between none left sb mb) declared c w cw are agree right few =
+    let on : Onward d parts c w = λ i a s m agreed rightly enough. led d parts i a s m c w cw are.1 agreed rightly enough in
     let less = fewer first (read ++ end ∷ all_tokens parts) in
     let long = longer read (end ∷ all_tokens parts) in
     let now = declared_first first declared in
@@ -1244,13 +1266,13 @@ led d (Asking is_inner wanted first read end ∷ parts) inner among (OuterLeft d
     let key = is_inner && are_kept (deep ++ x ∷ between) in
     let here : key ≡ false = ap (λ k. is_inner && k) (not_kept deep x between left) ∙ and-false is_inner in
     let after : Bool → Type 0 = λ k. AllStandRight d (ended_in end.ended (stack k)) parts
-    → Led (all_tokens parts) (ended_behind end.ended (deeper later)) (kept_sides d (ended_in end.ended (stack k)) parts) (lone_parts d (ended_in end.ended (stack k)) parts) (behind_parts d (ended_in end.ended (stack k)) parts) in
+    → Led (all_tokens parts) (ended_behind end.ended (deeper later)) (kept_sides d (ended_in end.ended (stack k)) parts) (lone_parts d (ended_in end.ended (stack k)) parts) (record { around = behind_parts d (ended_in end.ended (stack k)) parts; waiting = w }) in
     let rest : after key =
     subst after (sym here)
-    (λ rightly. behind_end d parts c on end.ended inner among (OuterLeft (more ∷ deep) x between none left sb mb) later agree.1 rightly (omega (arith, few, less, long))) in
+    (λ rightly. behind_end d parts c w on end.ended inner among (OuterLeft (more ∷ deep) x between none left sb mb) later agree.1 rightly (omega (arith, few, less, long))) in
     let tokens = kept_sides d (ended_in end.ended (stack key)) parts in
     let places = lone_parts d (ended_in end.ended (stack key)) parts in
-    let last = behind_parts d (ended_in end.ended (stack key)) parts in
+    let last : Last = record { around = behind_parts d (ended_in end.ended (stack key)) parts; waiting = w } in
     begins_left is_inner (asking wanted) (suc n) first.sign first.word (read ++ end ∷ all_tokens parts) c inner among false n declared tokens places last are.0.0.begins are.0.0.is are.0.0.goes_on calm
     (omega (arith, few, less, long)) (asking_stays wanted n (second inner among)) (asking_level wanted n)
     (skips read end (all_tokens parts) begun_so is_inner c inner among false (suc n) now tokens places last are.0.1.1 calm (omega (arith, few, less, long))
@@ -1258,41 +1280,41 @@ led d (Asking is_inner wanted first read end ∷ parts) inner among (OuterLeft d
     (plain_left end c inner among false (suc n) later ending.plain (omega (arith, few, less, long)))
     refl
     (rest right.1)))
-led d (Turning is_inner first end ∷ parts) [] [] (AllStay [] [] si sb mi mb) declared c are agree right few =
-    let on : Onward d parts c = λ i a s m agreed rightly enough. led d parts i a s m c are.1 agreed rightly enough in
+led d (Turning is_inner first end ∷ parts) [] [] (AllStay [] [] si sb mi mb) declared c w cw are agree right few =
+    let on : Onward d parts c w = λ i a s m agreed rightly enough. led d parts i a s m c w cw are.1 agreed rightly enough in
     let less = fewer first (end ∷ all_tokens parts) in
     let now = declared_first first declared in
     let place = begins first in
     let stack : Around = record { inside = []; between = [] } in
     let tokens = kept_sides d (ended_in end.ended stack) parts in
     let places = lone_parts d (ended_in end.ended stack) parts in
-    let last = behind_parts d (ended_in end.ended stack) parts in
+    let last : Last = record { around = behind_parts d (ended_in end.ended stack) parts; waiting = w } in
     let waits = awaits.End effect.Turns in
     begins_kept is_inner word.Ifnot waits first.sign first.word (end ∷ all_tokens parts) c c [] [] declared tokens (lone_at word.Ifnot first end stack ++ places) last are.0.0.begins are.0.0.is are.0.0.goes_on (λ m. refl) (λ _. (refl, refl))
     (subst (λ ps. Led (end ∷ all_tokens parts) (reading is_inner place waits c [] [] now) tokens (ps ++ places) last) (lone_is word.Ifnot first end stack true refl refl)
     (acts end (all_tokens parts) (reading is_inner place waits c [] [] now) (at c [] [] None now) (cond end.site.is_quiet None (Some place)) (cond end.site.is_quiet None (Some place)) tokens places last
     (end_kept effect.Turns is_inner place end c [] [] now are.0.1)
-    (behind_end d parts c on end.ended [] [] (AllStay [] [] si sb mi mb) now agree right.1 (omega (arith, few, less)))))
-led d (Turning is_inner first end ∷ parts) [] (z ∷ among) (AllStay [] [] si sb mi mb) declared c are agree right few = cc
-led d (Turning is_inner first end ∷ parts) [] [] (AllStay [] (y ∷ between) si sb mi mb) declared c are agree right few = cc
-led d (Turning is_inner first end ∷ parts) [] (z ∷ among) (AllStay [] (y ∷ between) si sb mi mb) declared c are agree right few =
-    let on : Onward d parts c = λ i a s m agreed rightly enough. led d parts i a s m c are.1 agreed rightly enough in
+    (behind_end d parts c w on end.ended [] [] (AllStay [] [] si sb mi mb) now agree right.1 (omega (arith, few, less)))))
+led d (Turning is_inner first end ∷ parts) [] (z ∷ among) (AllStay [] [] si sb mi mb) declared c w cw are agree right few = cc
+led d (Turning is_inner first end ∷ parts) [] [] (AllStay [] (y ∷ between) si sb mi mb) declared c w cw are agree right few = cc
+led d (Turning is_inner first end ∷ parts) [] (z ∷ among) (AllStay [] (y ∷ between) si sb mi mb) declared c w cw are agree right few =
+    let on : Onward d parts c w = λ i a s m agreed rightly enough. led d parts i a s m c w cw are.1 agreed rightly enough in
     let less = fewer first (end ∷ all_tokens parts) in
     let now = declared_first first declared in
     let place = begins first in
     let stack : Around = record { inside = []; between = other_side y ∷ between } in
     let tokens = kept_sides d (ended_in end.ended stack) parts in
     let places = lone_parts d (ended_in end.ended stack) parts in
-    let last = behind_parts d (ended_in end.ended stack) parts in
+    let last : Last = record { around = behind_parts d (ended_in end.ended stack) parts; waiting = w } in
     let waits = awaits.End effect.Turns in
     let here = at c [] (z ∷ among) None now in
     let there = at c [] (record z { is_second = true } ∷ among) (left_at false 0) now in
     let is = second_same y between z among mb in
     let rest : Led (all_tokens parts) (ended_behind end.ended (silent (cond z.is_second here there))) tokens places last =
     of_both (λ (x : Conditions). Led (all_tokens parts) (ended_behind end.ended (silent x)) tokens places last) z.is_second here there
-    (λ e. behind_end d parts c on end.ended [] (z ∷ among) (AllStay [] (other_side y ∷ between) si (kept_still y between (sym is ∙ e) sb) mi (same_still y between (z ∷ among) (sym is ∙ e) mb)) now agree right.1
+    (λ e. behind_end d parts c w on end.ended [] (z ∷ among) (AllStay [] (other_side y ∷ between) si (kept_still y between (sym is ∙ e) sb) mi (same_still y between (z ∷ among) (sym is ∙ e) mb)) now agree right.1
     (omega (arith, few, less)))
-    (λ e. behind_end d parts c on end.ended [] (record z { is_second = true } ∷ among)
+    (λ e. behind_end d parts c w on end.ended [] (record z { is_second = true } ∷ among)
     (OuterLeft [] (other_side y) between refl (left_turned y (sym is ∙ e) (kept_head y between sb).0) (kept_head y between sb).1 (turned_same y between z among mb)) now agree right.1
     (omega (arith, few, less))) in
     let s : Around = record { inside = []; between = y ∷ between } in
@@ -1300,17 +1322,17 @@ led d (Turning is_inner first end ∷ parts) [] (z ∷ among) (AllStay [] (y ∷
     (subst (λ ps. Led (end ∷ all_tokens parts) (reading is_inner place waits c [] (z ∷ among) now) tokens (ps ++ places) last) (lone_is word.Ifnot first end s z.is_second sb is)
     (acts end (all_tokens parts) (reading is_inner place waits c [] (z ∷ among) now) (cond z.is_second here there) (cond z.is_second (cond end.site.is_quiet None (Some place)) None) (cond end.site.is_quiet None (Some place)) tokens places last
     (turns_among is_inner place end c z among now are.0.1) rest))
-led d (Turning is_inner first end ∷ parts) (z ∷ inner) among (AllStay [] between si sb mi mb) declared c are agree right few = cc
-led d (Turning is_inner first end ∷ parts) [] among (AllStay (y ∷ inside) between si sb mi mb) declared c are agree right few = cc
-led d (Turning is_inner first end ∷ parts) (z ∷ inner) among (AllStay (y ∷ inside) between si sb mi mb) declared c are agree right few =
-    let on : Onward d parts c = λ i a s m agreed rightly enough. led d parts i a s m c are.1 agreed rightly enough in
+led d (Turning is_inner first end ∷ parts) (z ∷ inner) among (AllStay [] between si sb mi mb) declared c w cw are agree right few = cc
+led d (Turning is_inner first end ∷ parts) [] among (AllStay (y ∷ inside) between si sb mi mb) declared c w cw are agree right few = cc
+led d (Turning is_inner first end ∷ parts) (z ∷ inner) among (AllStay (y ∷ inside) between si sb mi mb) declared c w cw are agree right few =
+    let on : Onward d parts c w = λ i a s m agreed rightly enough. led d parts i a s m c w cw are.1 agreed rightly enough in
     let less = fewer first (end ∷ all_tokens parts) in
     let now = declared_first first declared in
     let place = begins first in
     let stack : Around = record { inside = other_side y ∷ inside; between = between } in
     let tokens = kept_sides d (ended_in end.ended stack) parts in
     let places = lone_parts d (ended_in end.ended stack) parts in
-    let last = behind_parts d (ended_in end.ended stack) parts in
+    let last : Last = record { around = behind_parts d (ended_in end.ended stack) parts; waiting = w } in
     let waits = awaits.End effect.Turns in
     let s : Around = record { inside = y ∷ inside; between = between } in
     let calm : Calm is_inner (z ∷ inner) None = λ e. absurd (some_open [] y inside (turning_right is_inner first end s right.0 e)) in
@@ -1319,25 +1341,25 @@ led d (Turning is_inner first end ∷ parts) (z ∷ inner) among (AllStay (y ∷
     let is = second_same y inside z inner mi in
     let rest : Led (all_tokens parts) (ended_behind end.ended (silent (cond z.is_second here there))) tokens places last =
     of_both (λ (x : Conditions). Led (all_tokens parts) (ended_behind end.ended (silent x)) tokens places last) z.is_second here there
-    (λ e. behind_end d parts c on end.ended (z ∷ inner) among (AllStay (other_side y ∷ inside) between (kept_still y inside (sym is ∙ e) si) sb (same_still y inside (z ∷ inner) (sym is ∙ e) mi) mb) now agree right.1
+    (λ e. behind_end d parts c w on end.ended (z ∷ inner) among (AllStay (other_side y ∷ inside) between (kept_still y inside (sym is ∙ e) si) sb (same_still y inside (z ∷ inner) (sym is ∙ e) mi) mb) now agree right.1
     (omega (arith, few, less)))
-    (λ e. behind_end d parts c on end.ended (record z { is_second = true } ∷ inner) among
+    (λ e. behind_end d parts c w on end.ended (record z { is_second = true } ∷ inner) among
     (InnerLeft [] (other_side y) inside between (left_turned y (sym is ∙ e) (kept_head y inside si).0) (kept_head y inside si).1 sb (turned_same y inside z inner mi) mb) now agree right.1
     (omega (arith, few, less))) in
     begins_kept is_inner word.Ifnot waits first.sign first.word (end ∷ all_tokens parts) c c (z ∷ inner) among declared tokens (lone_at word.Ifnot first end s ++ places) last are.0.0.begins are.0.0.is are.0.0.goes_on (λ m. refl) calm
     (subst (λ ps. Led (end ∷ all_tokens parts) (reading is_inner place waits c (z ∷ inner) among now) tokens (ps ++ places) last) (lone_is word.Ifnot first end s z.is_second (both_kept (y ∷ inside) between si sb) is)
     (acts end (all_tokens parts) (reading is_inner place waits c (z ∷ inner) among now) (cond z.is_second here there) (cond z.is_second (cond end.site.is_quiet None (Some place)) None) (cond end.site.is_quiet None (Some place)) tokens places last
     (turns_inner is_inner place end c z inner among now are.0.1) rest))
-led d (Turning is_inner first end ∷ parts) [] among (InnerLeft [] x inside between left si sb mi mb) declared c are agree right few = cc
-led d (Turning is_inner first end ∷ parts) (z ∷ inner) among (InnerLeft [] x inside between left si sb mi mb) declared c are agree right few =
-    let on : Onward d parts c = λ i a s m agreed rightly enough. led d parts i a s m c are.1 agreed rightly enough in
+led d (Turning is_inner first end ∷ parts) [] among (InnerLeft [] x inside between left si sb mi mb) declared c w cw are agree right few = cc
+led d (Turning is_inner first end ∷ parts) (z ∷ inner) among (InnerLeft [] x inside between left si sb mi mb) declared c w cw are agree right few =
+    let on : Onward d parts c w = λ i a s m agreed rightly enough. led d parts i a s m c w cw are.1 agreed rightly enough in
     let less = fewer first (end ∷ all_tokens parts) in
     let now = declared_first first declared in
     let place = begins first in
     let stack : Around = record { inside = other_side x ∷ inside; between = between } in
     let tokens = kept_sides d (ended_in end.ended stack) parts in
     let places = lone_parts d (ended_in end.ended stack) parts in
-    let last = behind_parts d (ended_in end.ended stack) parts in
+    let last : Last = record { around = behind_parts d (ended_in end.ended stack) parts; waiting = w } in
     let s : Around = record { inside = x ∷ inside; between = between } in
     let calm : CalmLeft is_inner (z ∷ inner) true = λ e. absurd (some_open [] x inside (turning_right is_inner first end s right.0 e)) in
     let calm_now : Calm is_inner (record z { is_second = true } ∷ inner) None = λ e. absurd (some_open [] x inside (turning_right is_inner first end s right.0 e)) in
@@ -1349,23 +1371,23 @@ led d (Turning is_inner first end ∷ parts) (z ∷ inner) among (InnerLeft [] x
     begins_left is_inner word.Ifnot 0 first.sign first.word (end ∷ all_tokens parts) c (z ∷ inner) among true 0 declared tokens places last are.0.0.begins are.0.0.is are.0.0.goes_on calm (omega (arith, few, less)) (ap not (is ∙ e)) refl
     (passes end (all_tokens parts) (here now) (here now) (ended_behind end.ended (here now)) tokens places last
     (plain_left end c (z ∷ inner) among true 0 now (semicolon_plain end are.0.1) (omega (arith, few, less))) refl
-    (behind_end d parts c on end.ended (z ∷ inner) among (InnerLeft [] (other_side x) inside between (left_still x e left) si sb (same_still x inside (z ∷ inner) e mi) mb) now agree right.1
+    (behind_end d parts c w on end.ended (z ∷ inner) among (InnerLeft [] (other_side x) inside between (left_still x e left) si sb (same_still x inside (z ∷ inner) e mi) mb) now agree right.1
     (omega (arith, few, less)))))
     (λ e.
     let next : List Conditional = record z { is_second = true } ∷ inner in
     begins_end is_inner word.Ifnot first.sign first.word (end ∷ all_tokens parts) c (z ∷ inner) among next among true declared tokens places last are.0.0.begins are.0.0.is are.0.0.goes_on calm calm_now (omega (arith, few, less)) (ap not (is ∙ e)) (λ sign m. refl)
     (acts end (all_tokens parts) (reading false place (awaits.End effect.Nothing) c next among now) (at c next among None now) None (cond end.site.is_quiet None (Some place)) tokens places last
     (end_kept effect.Nothing false place end c next among now are.0.1)
-    (behind_end d parts c on end.ended next among (AllStay (other_side x ∷ inside) between (kept_turned x inside e left si) sb (turned_same x inside z inner mi) mb) now agree right.1 (omega (arith, few, less))))))
-led d (Turning is_inner first end ∷ parts) inner among (InnerLeft (y ∷ deep) x inside between left si sb mi mb) declared c are agree right few =
-    let on : Onward d parts c = λ i a s m agreed rightly enough. led d parts i a s m c are.1 agreed rightly enough in
+    (behind_end d parts c w on end.ended next among (AllStay (other_side x ∷ inside) between (kept_turned x inside e left si) sb (turned_same x inside z inner mi) mb) now agree right.1 (omega (arith, few, less))))))
+led d (Turning is_inner first end ∷ parts) inner among (InnerLeft (y ∷ deep) x inside between left si sb mi mb) declared c w cw are agree right few =
+    let on : Onward d parts c w = λ i a s m agreed rightly enough. led d parts i a s m c w cw are.1 agreed rightly enough in
     let less = fewer first (end ∷ all_tokens parts) in
     let now = declared_first first declared in
     let place = begins first in
     let stack : Around = record { inside = other_side y ∷ deep ++ x ∷ inside; between = between } in
     let tokens = kept_sides d (ended_in end.ended stack) parts in
     let places = lone_parts d (ended_in end.ended stack) parts in
-    let last = behind_parts d (ended_in end.ended stack) parts in
+    let last : Last = record { around = behind_parts d (ended_in end.ended stack) parts; waiting = w } in
     let n = length deep in
     let s : Around = record { inside = y ∷ deep ++ x ∷ inside; between = between } in
     let calm : CalmLeft is_inner inner true = λ e. absurd (some_open (y ∷ deep) x inside (turning_right is_inner first end s right.0 e)) in
@@ -1375,18 +1397,18 @@ led d (Turning is_inner first end ∷ parts) inner among (InnerLeft (y ∷ deep)
     (ap (λ b. b && not (second inner among)) (eqb-suc-zero n)) refl
     (passes end (all_tokens parts) (there now) (there now) (ended_behind end.ended (there now)) tokens places last
     (plain_left end c inner among true (suc n) now (semicolon_plain end are.0.1) (omega (arith, few, less))) refl
-    (behind_end d parts c on end.ended inner among (InnerLeft (other_side y ∷ deep) x inside between left si sb mi mb) now agree right.1 (omega (arith, few, less)))))
-led d (Turning is_inner first end ∷ parts) (z ∷ inner) among (OuterLeft [] x between none left sb mb) declared c are agree right few = cc
-led d (Turning is_inner first end ∷ parts) [] [] (OuterLeft [] x between none left sb mb) declared c are agree right few = cc
-led d (Turning is_inner first end ∷ parts) [] (z ∷ among) (OuterLeft [] x between none left sb mb) declared c are agree right few =
-    let on : Onward d parts c = λ i a s m agreed rightly enough. led d parts i a s m c are.1 agreed rightly enough in
+    (behind_end d parts c w on end.ended inner among (InnerLeft (other_side y ∷ deep) x inside between left si sb mi mb) now agree right.1 (omega (arith, few, less)))))
+led d (Turning is_inner first end ∷ parts) (z ∷ inner) among (OuterLeft [] x between none left sb mb) declared c w cw are agree right few = cc
+led d (Turning is_inner first end ∷ parts) [] [] (OuterLeft [] x between none left sb mb) declared c w cw are agree right few = cc
+led d (Turning is_inner first end ∷ parts) [] (z ∷ among) (OuterLeft [] x between none left sb mb) declared c w cw are agree right few =
+    let on : Onward d parts c w = λ i a s m agreed rightly enough. led d parts i a s m c w cw are.1 agreed rightly enough in
     let less = fewer first (end ∷ all_tokens parts) in
     let now = declared_first first declared in
     let place = begins first in
     let stack : Around = record { inside = []; between = other_side x ∷ between } in
     let tokens = kept_sides d (ended_in end.ended stack) parts in
     let places = lone_parts d (ended_in end.ended stack) parts in
-    let last = behind_parts d (ended_in end.ended stack) parts in
+    let last : Last = record { around = behind_parts d (ended_in end.ended stack) parts; waiting = w } in
     let s : Around = record { inside = []; between = x ∷ between } in
     let calm : CalmLeft is_inner [] false = λ _. (refl, refl) in
     let here : ℕ → Conditions = at c [] (z ∷ among) (left_at false 0) in
@@ -1397,23 +1419,23 @@ led d (Turning is_inner first end ∷ parts) [] (z ∷ among) (OuterLeft [] x be
     begins_left is_inner word.Ifnot 0 first.sign first.word (end ∷ all_tokens parts) c [] (z ∷ among) false 0 declared tokens places last are.0.0.begins are.0.0.is are.0.0.goes_on calm (omega (arith, few, less)) (ap not (is ∙ e)) refl
     (passes end (all_tokens parts) (here now) (here now) (ended_behind end.ended (here now)) tokens places last
     (plain_left end c [] (z ∷ among) false 0 now (semicolon_plain end are.0.1) (omega (arith, few, less))) refl
-    (behind_end d parts c on end.ended [] (z ∷ among) (OuterLeft [] (other_side x) between refl (left_still x e left) sb (same_still x between (z ∷ among) e mb)) now agree right.1
+    (behind_end d parts c w on end.ended [] (z ∷ among) (OuterLeft [] (other_side x) between refl (left_still x e left) sb (same_still x between (z ∷ among) e mb)) now agree right.1
     (omega (arith, few, less)))))
     (λ e.
     let next : List Conditional = record z { is_second = true } ∷ among in
     begins_end is_inner word.Ifnot first.sign first.word (end ∷ all_tokens parts) c [] (z ∷ among) [] next false declared tokens places last are.0.0.begins are.0.0.is are.0.0.goes_on calm (λ _. (refl, refl)) (omega (arith, few, less)) (ap not (is ∙ e)) (λ sign m. refl)
     (acts end (all_tokens parts) (reading false place (awaits.End effect.Nothing) c [] next now) (at c [] next None now) None (cond end.site.is_quiet None (Some place)) tokens places last
     (end_kept effect.Nothing false place end c [] next now are.0.1)
-    (behind_end d parts c on end.ended [] next (AllStay [] (other_side x ∷ between) refl (kept_turned x between e left sb) refl (turned_same x between z among mb)) now agree right.1 (omega (arith, few, less))))))
-led d (Turning is_inner first end ∷ parts) inner among (OuterLeft (y ∷ deep) x between none left sb mb) declared c are agree right few =
-    let on : Onward d parts c = λ i a s m agreed rightly enough. led d parts i a s m c are.1 agreed rightly enough in
+    (behind_end d parts c w on end.ended [] next (AllStay [] (other_side x ∷ between) refl (kept_turned x between e left sb) refl (turned_same x between z among mb)) now agree right.1 (omega (arith, few, less))))))
+led d (Turning is_inner first end ∷ parts) inner among (OuterLeft (y ∷ deep) x between none left sb mb) declared c w cw are agree right few =
+    let on : Onward d parts c w = λ i a s m agreed rightly enough. led d parts i a s m c w cw are.1 agreed rightly enough in
     let less = fewer first (end ∷ all_tokens parts) in
     let now = declared_first first declared in
     let place = begins first in
     let stack : Around = record { inside = []; between = other_side y ∷ deep ++ x ∷ between } in
     let tokens = kept_sides d (ended_in end.ended stack) parts in
     let places = lone_parts d (ended_in end.ended stack) parts in
-    let last = behind_parts d (ended_in end.ended stack) parts in
+    let last : Last = record { around = behind_parts d (ended_in end.ended stack) parts; waiting = w } in
     let n = length deep in
     let s : Around = record { inside = []; between = y ∷ deep ++ x ∷ between } in
     let calm : CalmLeft is_inner inner false = λ _. (none, refl) in
@@ -1423,51 +1445,51 @@ led d (Turning is_inner first end ∷ parts) inner among (OuterLeft (y ∷ deep)
     (ap (λ b. b && not (second inner among)) (eqb-suc-zero n)) refl
     (passes end (all_tokens parts) (there now) (there now) (ended_behind end.ended (there now)) tokens places last
     (plain_left end c inner among false (suc n) now (semicolon_plain end are.0.1) (omega (arith, few, less))) refl
-    (behind_end d parts c on end.ended inner among (OuterLeft (other_side y ∷ deep) x between none left sb mb) now agree right.1 (omega (arith, few, less)))))
-led d (Closing is_inner first end ∷ parts) [] [] (AllStay [] [] si sb mi mb) declared c are agree right few =
-    let on : Onward d parts c = λ i a s m agreed rightly enough. led d parts i a s m c are.1 agreed rightly enough in
+    (behind_end d parts c w on end.ended inner among (OuterLeft (other_side y ∷ deep) x between none left sb mb) now agree right.1 (omega (arith, few, less)))))
+led d (Closing is_inner first end ∷ parts) [] [] (AllStay [] [] si sb mi mb) declared c w cw are agree right few =
+    let on : Onward d parts c w = λ i a s m agreed rightly enough. led d parts i a s m c w cw are.1 agreed rightly enough in
     let less = fewer first (end ∷ all_tokens parts) in
     let now = declared_first first declared in
     let place = begins first in
     let stack : Around = record { inside = []; between = [] } in
     let tokens = kept_sides d (ended_in end.ended stack) parts in
     let places = lone_parts d (ended_in end.ended stack) parts in
-    let last = behind_parts d (ended_in end.ended stack) parts in
+    let last : Last = record { around = behind_parts d (ended_in end.ended stack) parts; waiting = w } in
     let waits = awaits.End effect.Closes in
     begins_kept is_inner word.Endif waits first.sign first.word (end ∷ all_tokens parts) c c [] [] declared tokens (lone_at word.Endif first end stack ++ places) last are.0.0.begins are.0.0.is are.0.0.goes_on (λ m. refl) (λ _. (refl, refl))
     (subst (λ ps. Led (end ∷ all_tokens parts) (reading is_inner place waits c [] [] now) tokens (ps ++ places) last) (lone_is word.Endif first end stack true refl refl)
     (acts end (all_tokens parts) (reading is_inner place waits c [] [] now) (at c [] [] None now) (cond end.site.is_quiet None (Some place)) (cond end.site.is_quiet None (Some place)) tokens places last
     (end_kept effect.Closes is_inner place end c [] [] now are.0.1)
-    (behind_end d parts c on end.ended [] [] (AllStay [] [] si sb mi mb) now agree right.1 (omega (arith, few, less)))))
-led d (Closing is_inner first end ∷ parts) [] (z ∷ among) (AllStay [] [] si sb mi mb) declared c are agree right few = cc
-led d (Closing is_inner first end ∷ parts) [] [] (AllStay [] (y ∷ between) si sb mi mb) declared c are agree right few = cc
-led d (Closing is_inner first end ∷ parts) [] (z ∷ among) (AllStay [] (y ∷ between) si sb mi mb) declared c are agree right few =
-    let on : Onward d parts c = λ i a s m agreed rightly enough. led d parts i a s m c are.1 agreed rightly enough in
+    (behind_end d parts c w on end.ended [] [] (AllStay [] [] si sb mi mb) now agree right.1 (omega (arith, few, less)))))
+led d (Closing is_inner first end ∷ parts) [] (z ∷ among) (AllStay [] [] si sb mi mb) declared c w cw are agree right few = cc
+led d (Closing is_inner first end ∷ parts) [] [] (AllStay [] (y ∷ between) si sb mi mb) declared c w cw are agree right few = cc
+led d (Closing is_inner first end ∷ parts) [] (z ∷ among) (AllStay [] (y ∷ between) si sb mi mb) declared c w cw are agree right few =
+    let on : Onward d parts c w = λ i a s m agreed rightly enough. led d parts i a s m c w cw are.1 agreed rightly enough in
     let less = fewer first (end ∷ all_tokens parts) in
     let now = declared_first first declared in
     let place = begins first in
     let stack : Around = record { inside = []; between = between } in
     let tokens = kept_sides d (ended_in end.ended stack) parts in
     let places = lone_parts d (ended_in end.ended stack) parts in
-    let last = behind_parts d (ended_in end.ended stack) parts in
+    let last : Last = record { around = behind_parts d (ended_in end.ended stack) parts; waiting = w } in
     let waits = awaits.End effect.Closes in
     let s : Around = record { inside = []; between = y ∷ between } in
     begins_kept is_inner word.Endif waits first.sign first.word (end ∷ all_tokens parts) c c [] (z ∷ among) declared tokens (lone_at word.Endif first end s ++ places) last are.0.0.begins are.0.0.is are.0.0.goes_on (λ m. refl) (λ _. (refl, refl))
     (subst (λ ps. Led (end ∷ all_tokens parts) (reading is_inner place waits c [] (z ∷ among) now) tokens (ps ++ places) last) (lone_is word.Endif first end s false sb refl)
     (acts end (all_tokens parts) (reading is_inner place waits c [] (z ∷ among) now) (at c [] among None now) None (cond end.site.is_quiet None (Some place)) tokens places last
     (end_kept effect.Closes is_inner place end c [] (z ∷ among) now are.0.1)
-    (behind_end d parts c on end.ended [] among (AllStay [] between si (kept_head y between sb).1 mi (ap (drop 1) mb)) now agree right.1 (omega (arith, few, less)))))
-led d (Closing is_inner first end ∷ parts) (z ∷ inner) among (AllStay [] between si sb mi mb) declared c are agree right few = cc
-led d (Closing is_inner first end ∷ parts) [] among (AllStay (y ∷ inside) between si sb mi mb) declared c are agree right few = cc
-led d (Closing is_inner first end ∷ parts) (z ∷ inner) among (AllStay (y ∷ inside) between si sb mi mb) declared c are agree right few =
-    let on : Onward d parts c = λ i a s m agreed rightly enough. led d parts i a s m c are.1 agreed rightly enough in
+    (behind_end d parts c w on end.ended [] among (AllStay [] between si (kept_head y between sb).1 mi (ap (drop 1) mb)) now agree right.1 (omega (arith, few, less)))))
+led d (Closing is_inner first end ∷ parts) (z ∷ inner) among (AllStay [] between si sb mi mb) declared c w cw are agree right few = cc
+led d (Closing is_inner first end ∷ parts) [] among (AllStay (y ∷ inside) between si sb mi mb) declared c w cw are agree right few = cc
+led d (Closing is_inner first end ∷ parts) (z ∷ inner) among (AllStay (y ∷ inside) between si sb mi mb) declared c w cw are agree right few =
+    let on : Onward d parts c w = λ i a s m agreed rightly enough. led d parts i a s m c w cw are.1 agreed rightly enough in
     let less = fewer first (end ∷ all_tokens parts) in
     let now = declared_first first declared in
     let place = begins first in
     let stack : Around = record { inside = inside; between = between } in
     let tokens = kept_sides d (ended_in end.ended stack) parts in
     let places = lone_parts d (ended_in end.ended stack) parts in
-    let last = behind_parts d (ended_in end.ended stack) parts in
+    let last : Last = record { around = behind_parts d (ended_in end.ended stack) parts; waiting = w } in
     let waits = awaits.End effect.Closes in
     let s : Around = record { inside = y ∷ inside; between = between } in
     let calm : Calm is_inner (z ∷ inner) None = λ e. absurd (some_open [] y inside (closing_right is_inner first end s right.0 e)) in
@@ -1475,17 +1497,17 @@ led d (Closing is_inner first end ∷ parts) (z ∷ inner) among (AllStay (y ∷
     (subst (λ ps. Led (end ∷ all_tokens parts) (reading is_inner place waits c (z ∷ inner) among now) tokens (ps ++ places) last) (lone_is word.Endif first end s false (both_kept (y ∷ inside) between si sb) refl)
     (acts end (all_tokens parts) (reading is_inner place waits c (z ∷ inner) among now) (at c inner among None now) None (cond end.site.is_quiet None (Some place)) tokens places last
     (end_kept effect.Closes is_inner place end c (z ∷ inner) among now are.0.1)
-    (behind_end d parts c on end.ended inner among (AllStay inside between (kept_head y inside si).1 sb (ap (drop 1) mi) mb) now agree right.1 (omega (arith, few, less)))))
-led d (Closing is_inner first end ∷ parts) [] among (InnerLeft [] x inside between left si sb mi mb) declared c are agree right few = cc
-led d (Closing is_inner first end ∷ parts) (z ∷ inner) among (InnerLeft [] x inside between left si sb mi mb) declared c are agree right few =
-    let on : Onward d parts c = λ i a s m agreed rightly enough. led d parts i a s m c are.1 agreed rightly enough in
+    (behind_end d parts c w on end.ended inner among (AllStay inside between (kept_head y inside si).1 sb (ap (drop 1) mi) mb) now agree right.1 (omega (arith, few, less)))))
+led d (Closing is_inner first end ∷ parts) [] among (InnerLeft [] x inside between left si sb mi mb) declared c w cw are agree right few = cc
+led d (Closing is_inner first end ∷ parts) (z ∷ inner) among (InnerLeft [] x inside between left si sb mi mb) declared c w cw are agree right few =
+    let on : Onward d parts c w = λ i a s m agreed rightly enough. led d parts i a s m c w cw are.1 agreed rightly enough in
     let less = fewer first (end ∷ all_tokens parts) in
     let now = declared_first first declared in
     let place = begins first in
     let stack : Around = record { inside = inside; between = between } in
     let tokens = kept_sides d (ended_in end.ended stack) parts in
     let places = lone_parts d (ended_in end.ended stack) parts in
-    let last = behind_parts d (ended_in end.ended stack) parts in
+    let last : Last = record { around = behind_parts d (ended_in end.ended stack) parts; waiting = w } in
     let s : Around = record { inside = x ∷ inside; between = between } in
     let calm : CalmLeft is_inner (z ∷ inner) true = λ e. absurd (some_open [] x inside (closing_right is_inner first end s right.0 e)) in
     let calm_now : Calm is_inner inner None = λ e. absurd (some_open [] x inside (closing_right is_inner first end s right.0 e)) in
@@ -1493,16 +1515,16 @@ led d (Closing is_inner first end ∷ parts) (z ∷ inner) among (InnerLeft [] x
     (begins_end is_inner word.Endif first.sign first.word (end ∷ all_tokens parts) c (z ∷ inner) among inner among true declared tokens places last are.0.0.begins are.0.0.is are.0.0.goes_on calm calm_now (omega (arith, few, less)) refl (λ sign m. refl)
     (acts end (all_tokens parts) (reading false place (awaits.End effect.Nothing) c inner among now) (at c inner among None now) None (cond end.site.is_quiet None (Some place)) tokens places last
     (end_kept effect.Nothing false place end c inner among now are.0.1)
-    (behind_end d parts c on end.ended inner among (AllStay inside between si sb (ap (drop 1) mi) mb) now agree right.1 (omega (arith, few, less)))))
-led d (Closing is_inner first end ∷ parts) inner among (InnerLeft (y ∷ deep) x inside between left si sb mi mb) declared c are agree right few =
-    let on : Onward d parts c = λ i a s m agreed rightly enough. led d parts i a s m c are.1 agreed rightly enough in
+    (behind_end d parts c w on end.ended inner among (AllStay inside between si sb (ap (drop 1) mi) mb) now agree right.1 (omega (arith, few, less)))))
+led d (Closing is_inner first end ∷ parts) inner among (InnerLeft (y ∷ deep) x inside between left si sb mi mb) declared c w cw are agree right few =
+    let on : Onward d parts c w = λ i a s m agreed rightly enough. led d parts i a s m c w cw are.1 agreed rightly enough in
     let less = fewer first (end ∷ all_tokens parts) in
     let now = declared_first first declared in
     let place = begins first in
     let stack : Around = record { inside = deep ++ x ∷ inside; between = between } in
     let tokens = kept_sides d (ended_in end.ended stack) parts in
     let places = lone_parts d (ended_in end.ended stack) parts in
-    let last = behind_parts d (ended_in end.ended stack) parts in
+    let last : Last = record { around = behind_parts d (ended_in end.ended stack) parts; waiting = w } in
     let n = length deep in
     let s : Around = record { inside = y ∷ deep ++ x ∷ inside; between = between } in
     let calm : CalmLeft is_inner inner true = λ e. absurd (some_open (y ∷ deep) x inside (closing_right is_inner first end s right.0 e)) in
@@ -1512,34 +1534,34 @@ led d (Closing is_inner first end ∷ parts) inner among (InnerLeft (y ∷ deep)
     (ap (λ b. b && true) (eqb-suc-zero n)) (omega arith)
     (passes end (all_tokens parts) (there now) (there now) (ended_behind end.ended (there now)) tokens places last
     (plain_left end c inner among true (n) now (semicolon_plain end are.0.1) (omega (arith, few, less))) refl
-    (behind_end d parts c on end.ended inner among (InnerLeft deep x inside between left si sb mi mb) now agree right.1 (omega (arith, few, less)))))
-led d (Closing is_inner first end ∷ parts) (z ∷ inner) among (OuterLeft [] x between none left sb mb) declared c are agree right few = cc
-led d (Closing is_inner first end ∷ parts) [] [] (OuterLeft [] x between none left sb mb) declared c are agree right few = cc
-led d (Closing is_inner first end ∷ parts) [] (z ∷ among) (OuterLeft [] x between none left sb mb) declared c are agree right few =
-    let on : Onward d parts c = λ i a s m agreed rightly enough. led d parts i a s m c are.1 agreed rightly enough in
+    (behind_end d parts c w on end.ended inner among (InnerLeft deep x inside between left si sb mi mb) now agree right.1 (omega (arith, few, less)))))
+led d (Closing is_inner first end ∷ parts) (z ∷ inner) among (OuterLeft [] x between none left sb mb) declared c w cw are agree right few = cc
+led d (Closing is_inner first end ∷ parts) [] [] (OuterLeft [] x between none left sb mb) declared c w cw are agree right few = cc
+led d (Closing is_inner first end ∷ parts) [] (z ∷ among) (OuterLeft [] x between none left sb mb) declared c w cw are agree right few =
+    let on : Onward d parts c w = λ i a s m agreed rightly enough. led d parts i a s m c w cw are.1 agreed rightly enough in
     let less = fewer first (end ∷ all_tokens parts) in
     let now = declared_first first declared in
     let place = begins first in
     let stack : Around = record { inside = []; between = between } in
     let tokens = kept_sides d (ended_in end.ended stack) parts in
     let places = lone_parts d (ended_in end.ended stack) parts in
-    let last = behind_parts d (ended_in end.ended stack) parts in
+    let last : Last = record { around = behind_parts d (ended_in end.ended stack) parts; waiting = w } in
     let s : Around = record { inside = []; between = x ∷ between } in
     let calm : CalmLeft is_inner [] false = λ _. (refl, refl) in
     subst (λ ps. Led (first_tokens first (end ∷ all_tokens parts)) (at c [] (z ∷ among) (left_at false 0) declared) tokens (ps ++ places) last) (sym (no_lone word.Endif first end s (not_kept [] x between left)))
     (begins_end is_inner word.Endif first.sign first.word (end ∷ all_tokens parts) c [] (z ∷ among) [] among false declared tokens places last are.0.0.begins are.0.0.is are.0.0.goes_on calm (λ _. (refl, refl)) (omega (arith, few, less)) refl (λ sign m. refl)
     (acts end (all_tokens parts) (reading false place (awaits.End effect.Nothing) c [] among now) (at c [] among None now) None (cond end.site.is_quiet None (Some place)) tokens places last
     (end_kept effect.Nothing false place end c [] among now are.0.1)
-    (behind_end d parts c on end.ended [] among (AllStay [] between refl sb refl (ap (drop 1) mb)) now agree right.1 (omega (arith, few, less)))))
-led d (Closing is_inner first end ∷ parts) inner among (OuterLeft (y ∷ deep) x between none left sb mb) declared c are agree right few =
-    let on : Onward d parts c = λ i a s m agreed rightly enough. led d parts i a s m c are.1 agreed rightly enough in
+    (behind_end d parts c w on end.ended [] among (AllStay [] between refl sb refl (ap (drop 1) mb)) now agree right.1 (omega (arith, few, less)))))
+led d (Closing is_inner first end ∷ parts) inner among (OuterLeft (y ∷ deep) x between none left sb mb) declared c w cw are agree right few =
+    let on : Onward d parts c w = λ i a s m agreed rightly enough. led d parts i a s m c w cw are.1 agreed rightly enough in
     let less = fewer first (end ∷ all_tokens parts) in
     let now = declared_first first declared in
     let place = begins first in
     let stack : Around = record { inside = []; between = deep ++ x ∷ between } in
     let tokens = kept_sides d (ended_in end.ended stack) parts in
     let places = lone_parts d (ended_in end.ended stack) parts in
-    let last = behind_parts d (ended_in end.ended stack) parts in
+    let last : Last = record { around = behind_parts d (ended_in end.ended stack) parts; waiting = w } in
     let n = length deep in
     let s : Around = record { inside = []; between = y ∷ deep ++ x ∷ between } in
     let calm : CalmLeft is_inner inner false = λ _. (none, refl) in
@@ -1549,7 +1571,7 @@ led d (Closing is_inner first end ∷ parts) inner among (OuterLeft (y ∷ deep)
     (ap (λ b. b && true) (eqb-suc-zero n)) (omega arith)
     (passes end (all_tokens parts) (there now) (there now) (ended_behind end.ended (there now)) tokens places last
     (plain_left end c inner among false (n) now (semicolon_plain end are.0.1) (omega (arith, few, less))) refl
-    (behind_end d parts c on end.ended inner among (OuterLeft deep x between none left sb mb) now agree right.1 (omega (arith, few, less)))))
+    (behind_end d parts c w on end.ended inner among (OuterLeft deep x between none left sb mb) now agree right.1 (omega (arith, few, less)))))
 
 pub one_side_is_kept : OneSideIsKept
 one_side_is_kept d parts c clear file =
@@ -1562,20 +1584,21 @@ one_side_is_kept d parts c clear file =
     ∙ ap (λ s. record c { sign = s; said = None }) (sym clear.no_sign)
     ∙ ap (λ s. record c { said = s }) (sym clear.none_said) in
     let few = file.few in
-    let all = led d parts [] [] (AllStay [] [] refl refl refl refl) c.declared c file.are_parts file.names file.directives (omega (arith, few)) in
+    let all = led d parts [] [] (AllStay [] [] refl refl refl refl) c.declared c c.waiting refl file.are_parts file.names file.directives (omega (arith, few)) in
     let last = behind_parts d none_around parts in
+    let open_so = open_of (record { around = last; waiting = c.waiting }) (all_behind (all_tokens parts) here) all.ends in
     record {
       handed_on = ap (all_handed_on (all_tokens parts)) (sym is) ∙ all.hands;
       lone = ap (all_lone_places (all_tokens parts)) (sym is) ∙ all.tells;
       in_file = λ end files r is_last.
           let behind = all_behind (all_tokens parts) here in
           let now = (judged_at end behind).now in
-          let same = end_stays end behind is_last all.ends.1.0 all.ends.1.1 in
+          let same = end_stays end behind is_last (ap (λ (x : Conditions). x.pending) all.ends.is) (ap (λ (x : Conditions). x.sign) all.ends.is) in
           ap (λ (x : Conditions). file_told files (judged_at end (all_behind (all_tokens parts) x)).now r) (sym is)
-          ∙ ap (λ r. with_all_lone files (reverse now.among) r) (told_all files now.inner last.inside r (same.1 ∙ all.ends.0.inside))
-          ∙ told_all files now.among last.between (with_all_at files (unended last.inside) r) (same.0 ∙ all.ends.0.between)
+          ∙ ap (λ r. with_all_lone files (reverse now.among) r) (told_all files now.inner last.inside r (same.1 ∙ open_so.inside))
+          ∙ told_all files now.among last.between (with_all_at files (unended last.inside) r) (same.0 ∙ open_so.between)
           ∙ sym (told_both files (unended last.inside) (unended last.between) r);
       in_directive = λ files r.
           ap (λ (x : Conditions). piece_told files (all_behind (all_tokens parts) x) r) (sym is)
-          ∙ told_all files (all_behind (all_tokens parts) here).inner last.inside r all.ends.0.inside;
+          ∙ told_all files (all_behind (all_tokens parts) here).inner last.inside r open_so.inside;
     }

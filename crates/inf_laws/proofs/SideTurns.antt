@@ -43,7 +43,7 @@ heeded_conditions sources o s going none =
     (λ _. refl)
     (λ _. ap (λ b. (cond b (left s) (answered s.work.asked sources o (asked_nothing s))).conditions) going ∙ answered_conditions s.work.asked sources o (asked_nothing s) none)
 
-rested_conditions : (s : State) → (rested s).conditions ≡ ended_behind (ends_there s) s.conditions
+pub rested_conditions : (s : State) → (rested s).conditions ≡ ended_behind (ends_there s) s.conditions
 rested_conditions s = go (has_ended s) (is_resting s)
   where
     go : (b r : Bool) → (cond b s (cond r (piece_closed s) s)).conditions ≡ ended_behind (cond b None (cond r (Some s.work.output.names.declared) None)) s.conditions
@@ -71,7 +71,7 @@ shown_token : (h : Option Handed) (t : Spelled) (w : Work) → map shown (given_
 shown_token None t w = refl
 shown_token (Some h) t w = shown_as h t w
 
-all_shown : (files : FileNames) (j : Judged) (t : Spelled) (s : Stand) → map shown (given_of files j t s) ≡ handed_on j t
+pub all_shown : (files : FileNames) (j : Judged) (t : Spelled) (s : Stand) → map shown (given_of files j t s) ≡ handed_on j t
 all_shown files j t s =
     let behind : Work = (sign_taken j.sign files s).work in
     map-append shown (given_sign j.sign s.work) (given_token j.token t behind)

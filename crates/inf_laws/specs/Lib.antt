@@ -13,5 +13,6 @@ pub mod LoneEnds
 pub mod InnerSides
 pub mod KeptSides
 pub mod SideTurns
+pub mod IncludedFiles
 pub mod Hashes
 pub mod Parts

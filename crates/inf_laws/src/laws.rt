@@ -2,6 +2,7 @@
 ghost use Rattle.inf_laws.specs.Counts.{LimitsCountTheStory};
 ghost use Rattle.inf_laws.specs.Findings.{HeadersTellTheFirst};
 ghost use Rattle.inf_laws.specs.MissingEnds.{MissingEndsAreTold};
+ghost use Rattle.inf_laws.specs.IncludedFiles.{FilesKeepSides, FilesTellUnended, TurnsKeepFiles};
 ghost use Rattle.inf_laws.specs.InnerSides.{InnerSidesAgree, InnerSidesAreCut, SemicolonsEndThem, WordsEndSides};
 ghost use Rattle.inf_laws.specs.KeptSides.{OneSideIsKept};
 ghost use Rattle.inf_laws.specs.KeptTokens.{KeptTokensAreRead, TokensAreHandedOn};
@@ -103,6 +104,15 @@ pub fn one_side_is_kept()
     ensures turns { TurnsKeepSides }
     ensures ends { TurnsTellMissingEnds }
     ensures start { ReadingsStartClear }
+{}
+
+/// Of files that include one another each keeps the tokens that its own conditionals keep, and around none of them a conditional of the file counts that
+/// includes it. The end of a file, of an included one or of the outermost, tells just those conditionals that are open in it, in order, but for what was
+/// opened in a side that is left out; behind an included file those of the file around it are open again. So do the turns of a reading.
+pub fn included_files_keep_sides()
+    ensures kept { FilesKeepSides }
+    ensures ends { FilesTellUnended }
+    ensures turns { TurnsKeepFiles }
 {}
 
 /// Where a conditional must end, at the end of its file or of the directive in which it was opened, those are told that no `Endif` of their own level

@@ -1,0 +1,188 @@
+-- Which tokens are kept of files that include one another: of each file those that its own conditionals keep.
+use Rattle.std.specs.Prelude.{◌≡◌, ◌≤◌, ℕ, zero, suc, List, [], ◌∷◌, ◌++◌, map, reverse, length, Bool, true, false, if◌then◌else◌}
+use Rattle.inf_token.specs.Files.{Sources}
+use Rattle.inf_scanner.specs.declared.tokens.Place.{Place}
+use Rattle.inf_sources.specs.Inclusions.{Inclusion, Opens, OpensNone, inclusion}
+use Rattle.inf_unit.specs.Directives.{Asked, End, Include, Nothing}
+use Rattle.inf_unit.specs.Messages.{FileNames, Reported}
+use Rattle.inf_unit.specs.Tokens.{Spelled, is_end}
+use Rattle.inf_conditionals.specs.declared.open.Conditional.{Conditional}
+use Rattle.inf_conditionals.specs.Ends.{file_entered, file_left, file_told}
+use Rattle.inf_conditionals.specs.Open.{Conditions, most_levels, silent}
+use Rattle.inf_reader.specs.Reading.{is_mode_ended}
+use Rattle.inf_session.specs.Choices.{Choices}
+use Rattle.inf_session.specs.Session.{State, file_closed, stepped, token_of, turn}
+use Rattle.inf_laws.specs.KeptSides.{Agree, AllStandRight, Answers, AreParts, Around, At, Handing, IsClear, IsPlain, Part, all_behind, all_kept, all_tokens, as_kept, behind_parts, ended_behind, ended_in, handed_on, judged_at, kept_sides, lone_parts, lone_places, none_around, unended}
+use Rattle.inf_laws.specs.KeptTurns.{given_in, turned}
+use Rattle.inf_laws.specs.MissingEnds.{with_all_at}
+use Rattle.inf_laws.specs.SideTurns.{at_turn, shown}
+
+-- Steps
+
+-- Behind a token reading stays in its file, enters one that is included, or leaves the one that has ended.
+pub data Passage : Type 0 where
+  Stays : Passage
+  Enters : Passage
+  Leaves : Passage
+
+pub record Step : Type 0 where
+  pub at : At
+  pub passage : Passage
+
+abbrev pub staying : At → Step
+staying t = record { at = t; passage = Stays }
+
+abbrev pub passed_files : Passage → Conditions → Conditions
+passed_files Stays c = c
+passed_files Enters c = file_entered c
+passed_files Leaves c = file_left c
+
+-- the conditionals behind a step
+abbrev pub step_behind : Step → Conditions → Conditions
+step_behind x c = ended_behind x.at.ended (passed_files x.passage (silent (judged_at x.at c).now))
+
+abbrev pub steps_behind : List Step → Conditions → Conditions
+steps_behind [] c = c
+steps_behind (x ∷ steps) c = steps_behind steps (step_behind x c)
+
+-- what is handed on
+abbrev pub handed_by : List Step → Conditions → List Handing
+handed_by [] c = []
+handed_by (x ∷ steps) c = handed_on (judged_at x.at c).judged x.at.token ++ handed_by steps (step_behind x c)
+
+-- the places of directives that are told to have no conditional to turn or to end
+abbrev pub lone_by : List Step → Conditions → List Place
+lone_by [] c = []
+lone_by (x ∷ steps) c = lone_places (judged_at x.at c).judged.lone ++ lone_by steps (step_behind x c)
+
+-- and those of conditionals that are told at the end of a file
+abbrev pub places : List Conditional → List Place
+places cs = map (λ (x : Conditional). x.place) cs
+
+abbrev pub told_behind : Passage → Conditions → List Place
+told_behind Leaves c = places (reverse c.inner) ++ places (reverse c.among)
+told_behind _ c = []
+
+abbrev pub unended_by : List Step → Conditions → List Place
+unended_by [] c = []
+unended_by (x ∷ steps) c = told_behind x.passage (judged_at x.at c).now ++ unended_by steps (step_behind x c)
+
+-- Files
+
+-- What is still to come of a file: no inclusion; or parts of it, the token with which an included file is entered, what that has, the token at
+-- its end, and what comes behind.
+pub data Files : Type 0 where
+  Alone : (parts : List Part) → Files
+  Including : (parts : List Part) (entering : At) (included : Files) (leaving : At) (behind : Files) → Files
+
+abbrev pub steps : Files → List Step
+steps (Alone parts) = map staying (all_tokens parts)
+steps (Including parts entering included leaving behind) =
+    map staying (all_tokens parts) ++ record { at = entering; passage = Enters } ∷ (steps included ++ record { at = leaving; passage = Leaves } ∷ steps behind)
+
+-- where an included file begins none is open between its directives, and behind it those are that were before
+abbrev pub around_included : At → Around → Around
+around_included entering s = ended_in entering.ended (record s { between = [] })
+
+abbrev pub around_behind : Around → Around
+around_behind s = record s { inside = [] }
+
+-- what is open at the end of a file
+abbrev pub behind_files : Answers → Around → Files → Around
+behind_files answers s (Alone parts) = behind_parts answers s parts
+behind_files answers s (Including parts entering included leaving behind) = behind_files answers (around_behind (behind_parts answers s parts)) behind
+
+-- the tokens that are kept: of each file those that its own conditionals keep, with the end of each included one
+abbrev pub kept_files : Answers → Around → Files → List Spelled
+kept_files answers s (Alone parts) = kept_sides answers s parts
+kept_files answers s (Including parts entering included leaving behind) =
+    kept_sides answers s parts
+    ++ entering.token ∷ (kept_files answers (around_included entering (behind_parts answers s parts)) included ++ leaving.token ∷ kept_files answers (around_behind (behind_parts answers s parts)) behind)
+
+abbrev pub lone_files : Answers → Around → Files → List Place
+lone_files answers s (Alone parts) = lone_parts answers s parts
+lone_files answers s (Including parts entering included leaving behind) =
+    lone_parts answers s parts
+    ++ (lone_files answers (around_included entering (behind_parts answers s parts)) included ++ lone_files answers (around_behind (behind_parts answers s parts)) behind)
+
+-- at the end of each included file those are told that are open in it
+abbrev pub all_unended : Around → List Place
+all_unended s = unended s.inside ++ unended s.between
+
+abbrev pub unended_files : Answers → Around → Files → List Place
+unended_files answers s (Alone parts) = []
+unended_files answers s (Including parts entering included leaving behind) =
+    unended_files answers (around_included entering (behind_parts answers s parts)) included
+    ++ (all_unended (behind_files answers (around_included entering (behind_parts answers s parts)) included) ++ unended_files answers (around_behind (behind_parts answers s parts)) behind)
+
+-- The law
+
+-- parts of a file, by what is told of their names and conditions
+pub record AreOfAFile (answers : Answers) (s : Around) (declared : ℕ) (parts : List Part) : Type 0 where
+  pub are_parts : AreParts parts
+  pub names : Agree answers declared parts
+  pub directives : AllStandRight answers s parts
+  pub few : length (all_tokens parts) ≤ most_levels
+
+-- a file is entered at a plain token that is kept, and left at its end
+pub record IsIncluded (s : Around) (entering leaving : At) : Type 0 where
+  pub is_kept : all_kept s ≡ true
+  pub plain : IsPlain entering
+  pub is_last : is_end leaving.token.kind ≡ true
+
+abbrev pub AreFiles : Answers → Around → Conditions → Files → Type 0
+AreFiles answers s c (Alone parts) = AreOfAFile answers s c.declared parts
+AreFiles answers s c (Including parts entering included leaving behind) =
+    AreOfAFile answers s c.declared parts
+    × (IsIncluded (behind_parts answers s parts) entering leaving
+    × (AreFiles answers (around_included entering (behind_parts answers s parts)) (step_behind (record { at = entering; passage = Enters }) (all_behind (all_tokens parts) c)) included
+    × AreFiles answers (around_behind (behind_parts answers s parts))
+    (step_behind (record { at = leaving; passage = Leaves }) (steps_behind (steps included) (step_behind (record { at = entering; passage = Enters }) (all_behind (all_tokens parts) c)))) behind))
+
+-- Just these tokens are handed on, each as one that is kept, and just these places are told; at the end of the outermost file those of what is open in it.
+pub record KeepsFiles (answers : Answers) (files : Files) (c : Conditions) : Type 0 where
+  pub handed_on : handed_by (steps files) c ≡ map as_kept (kept_files answers none_around files)
+  pub lone : lone_by (steps files) c ≡ lone_files answers none_around files
+  pub unended : unended_by (steps files) c ≡ unended_files answers none_around files
+  pub at_last : (end : At) → is_end end.token.kind ≡ true
+      → told_behind Leaves (judged_at end (steps_behind (steps files) c)).now ≡ all_unended (behind_files answers none_around files)
+
+abbrev pub FilesKeepSides : Type 0
+FilesKeepSides = (answers : Answers) (files : Files) (c : Conditions) → IsClear c → AreFiles answers none_around c files → KeepsFiles answers files c
+
+-- Turns
+
+-- whether an inclusion opens a file
+abbrev pub opens : Inclusion → Passage
+opens (Opens name) = Enters
+opens (OpensNone why) = Stays
+
+abbrev pub asked_passage : Asked → Sources → Choices → State → Passage
+asked_passage (Include text unit) sources o s = opens (inclusion sources o.directories text s.nesting)
+asked_passage End sources o s = Stays
+asked_passage Nothing sources o s = Stays
+
+-- where reading goes behind a token
+abbrev pub passage : Sources → Choices → State → Passage
+passage sources o s =
+    if s.work.report.counts.is_over then Stays else if is_mode_ended s.reading.mode then Leaves else asked_passage s.work.asked sources o s
+
+abbrev pub step_at : Sources → Choices → State → Step
+step_at sources o s = record { at = at_turn sources o s; passage = passage sources o (stepped s) }
+
+abbrev pub steps_at : Sources → Choices → ℕ → State → List Step
+steps_at sources o zero s = []
+steps_at sources o (suc n) s = step_at sources o s ∷ steps_at sources o n (turn sources o s)
+
+-- Turns whose steps are those of files keep what these keep. The end of a file tells what is told behind its step, in this order, after all else.
+pub record TurnsKeep (answers : Answers) (sources : Sources) (o : Choices) (n : ℕ) (s : State) (files : Files) : Type 0 where
+  pub handed_on : map shown (given_in sources o n s) ≡ map as_kept (kept_files answers none_around files)
+  pub at_last : let last = stepped (turned sources o n s) in is_end (token_of (turned sources o n s).nesting.cursor).kind ≡ true
+      → (file_closed last).work.report ≡ with_all_at last.nesting.names (all_unended (behind_files answers none_around files)) last.work.report
+
+abbrev pub TurnsKeepFiles : Type 0
+TurnsKeepFiles = (answers : Answers) (sources : Sources) (o : Choices) (n : ℕ) (s : State) (files : Files) → steps_at sources o n s ≡ steps files
+    → IsClear s.conditions → AreFiles answers none_around s.conditions files → TurnsKeep answers sources o n s files
+
+abbrev pub FilesTellUnended : Type 0
+FilesTellUnended = (files : FileNames) (c : Conditions) (r : Reported) → file_told files c r ≡ with_all_at files (told_behind Leaves c) r
