@@ -1,5 +1,5 @@
 -- Files that include one another keep what each of them keeps.
-use Rattle.std.proofs.Common.{◌≡◌, ℕ, zero, suc, List, [], ◌∷◌, ◌++◌, map, reverse, cond, ◌&&◌, Bool, true, false, Option, Some, None, refl, sym, ap, subst, ◌∙◌, append_assoc, arith}
+use Rattle.std.proofs.Common.{◌≡◌, ℕ, zero, suc, ◌+◌, length, List, [], ◌∷◌, ◌++◌, map, reverse, cond, ◌&&◌, Bool, true, false, Option, Some, None, refl, sym, ap, subst, ◌∙◌, append_assoc, arith}
 use Rattle.std.proofs.lemmas.List.{map-append}
 use Rattle.inf_scanner.specs.declared.tokens.Place.{Place}
 use Rattle.inf_token.specs.Files.{Sources}
@@ -21,11 +21,11 @@ use Rattle.inf_reader.specs.Reading.{is_mode_ended}
 use Rattle.inf_session.specs.Choices.{Choices}
 use Rattle.inf_session.specs.Session.{State, answered, asked_nothing, heeded, included_by, left, left_by, file_closed, none_included, stand_of, stepped, token_of, turn}
 use Rattle.inf_laws.specs.IncludedFiles.{Alone, AreFiles, AreOfAFile, Enters, Files, FilesKeepSides, FilesTellUnended, Including, IsIncluded, KeepsFiles, Leaves, Passage, Stays, Step, TurnsKeep, TurnsKeepFiles, all_unended, around_behind, around_included, asked_passage, behind_files, handed_by, kept_files, lone_by, lone_files, opens, passage, passed_files, places, staying, step_at, step_behind, steps, steps_at, steps_behind, told_behind, unended_by, unended_files}
-use Rattle.inf_laws.specs.KeptSides.{Answers, Around, At, Handing, IsClear, IsPlain, Open, Part, all_behind, all_handed_on, all_kept, all_lone_places, all_tokens, are_kept, as_kept, behind_parts, ended_behind, handed_on, judged_at, ended_in, kept_sides, lone_parts, lone_places, none_around, unended}
+use Rattle.inf_laws.specs.KeptSides.{Answers, Around, At, Handing, IsClear, IsPlain, Open, Parts, all_behind, all_handed_on, all_kept, all_lone_places, all_tokens, are_kept, as_kept, behind_parts, declared_tokens, ended_behind, handed_on, judged_at, ended_in, kept_sides, lone_parts, lone_places, none_around, unended}
 use Rattle.inf_laws.specs.KeptTurns.{given_by, given_in, turned}
 use Rattle.inf_laws.specs.MissingEnds.{with_all_at}
 use Rattle.inf_laws.specs.SideTurns.{at_turn, ends_there, shown}
-use Rattle.inf_laws.proofs.KeptSides.{AllStay, EndsAs, InnerLeft, Last, Led, OuterLeft, Stands, at, conditionals, end_kept_so, inner_not_kept, left_of, led, not_kept, open_of, outer, plain_kept, stack_of, told_both, unended_is}
+use Rattle.inf_laws.proofs.KeptSides.{AllStay, Hands, InnerLeft, OuterLeft, Reader, Stands, StandsAt, all_handed, all_taken, at, conditionals, end_kept_so, among_of, hands_on, inner_not_kept, inner_of, last_at, led, not_kept, open_of, outer, plain_kept, stack_of, stands_at, told_both, unended_is}
 use Rattle.inf_laws.proofs.MissingEnds.{place_of, told_at}
 use Rattle.inf_laws.proofs.SideTurns.{all_shown, rested_conditions}
 
@@ -73,6 +73,16 @@ behind_staying (t ∷ tokens) c = behind_staying tokens (step_behind (staying t)
 
 -- What steps come to
 
+-- what is open at last, and in the files that wait
+record Last : Type 0 where
+  around : Around
+  waiting : List (List Conditional)
+
+record EndsAs (last : Last) (c : Conditions) : Type 0 where
+  declared : ℕ
+  levels : ℕ
+  stands : StandsAt Hands (last_at last.around declared levels last.waiting) c
+
 record FilesLed (all : List Step) (c : Conditions) (tokens : List Spelled) (alone missing : List Place) (last : Last) : Type 0 where
   hands : handed_by all c ≡ map as_kept tokens
   tells : lone_by all c ≡ alone
@@ -97,22 +107,28 @@ record Begun (s : Around) (w : List (List Conditional)) (c : Conditions) : Type 
   between_kept : are_kept s.between ≡ true
   is : at c (conditionals s.inside) (conditionals s.between) None c.declared ≡ c
   waits : c.waiting ≡ w
+  none_read : c.pending ≡ []
 
-abbrev last_at : Around → List (List Conditional) → Last
-last_at s w = record { around = s; waiting = w }
+abbrev last_in : Around → List (List Conditional) → Last
+last_in s w = record { around = s; waiting = w }
 
-stretch : (d : Answers) (s : Around) (w : List (List Conditional)) (c : Conditions) (parts : List Part) → Begun s w c → AreOfAFile d s c.declared parts
-    → FilesLed (map staying (all_tokens parts)) c (kept_sides d s parts) (lone_parts d s parts) [] (last_at (behind_parts d s parts) w)
+stretch : (d : Answers) (s : Around) (w : List (List Conditional)) (c : Conditions) (parts : Parts) → Begun s w c → AreOfAFile d s c.declared parts
+    → FilesLed (map staying (all_tokens parts)) c (kept_sides d s parts) (lone_parts d s parts) [] (last_in (behind_parts d s parts) w)
 stretch d s w c parts b are =
     let few = are.few in
-    let all : Led (all_tokens parts) c (kept_sides d s parts) (lone_parts d s parts) (last_at (behind_parts d s parts) w) =
-    subst (λ (x : Conditions). Led (all_tokens parts) x (kept_sides d s parts) (lone_parts d s parts) (last_at (behind_parts d s parts) w)) b.is
-    (led d parts (conditionals s.inside) (conditionals s.between) (AllStay s.inside s.between b.inside_kept b.between_kept refl refl) c.declared c w b.waits are.are_parts are.names are.directives (omega (arith, few))) in
+    let tokens = all_tokens parts in
+    let kept_so = kept_sides d s parts in
+    let start : StandsAt Hands (last_at s c.declared 0 w) c =
+    record { base = c; stand = AllStay s.inside s.between b.inside_kept b.between_kept; holds = b.none_read; waits = b.waits; is = sym b.is; stack = refl; few = omega arith } in
+    let all = led d parts Hands s c.declared 0 w c start are.are_parts (all_taken kept_so) (omega (arith, few)) in
+    let behind = all_behind tokens c in
+    let last = last_at (behind_parts d s parts) (declared_tokens tokens c.declared) (0 + length tokens) w in
     record {
-      hands = hands_staying (all_tokens parts) c ∙ all.hands;
-      tells = lone_staying (all_tokens parts) c ∙ all.tells;
-      misses = unended_staying (all_tokens parts) c;
-      ends = subst (λ (x : Conditions). EndsAs (last_at (behind_parts d s parts) w) x) (sym (behind_staying (all_tokens parts) c)) all.ends;
+      hands = hands_staying tokens c ∙ all.hands ∙ all_handed kept_so;
+      tells = lone_staying tokens c ∙ all.tells;
+      misses = unended_staying tokens c;
+      ends = subst (λ (x : Conditions). EndsAs (last_in (behind_parts d s parts) w) x) (sym (behind_staying tokens c))
+          (record { declared = declared_tokens tokens c.declared; levels = 0 + length tokens; stands = subst (λ (q : Reader). StandsAt q last behind) (hands_on kept_so) all.ends });
     }
 
 -- An included file is entered
@@ -131,33 +147,32 @@ record StaysAt (s : Around) (w : List (List Conditional)) (c : Conditions) : Typ
   between_kept : are_kept s.between ≡ true
   is : c ≡ at base (conditionals s.inside) (conditionals s.between) None declared
   waits : base.waiting ≡ w
+  none_read : base.pending ≡ []
 
-kept_there : (inner among : List Conditional) (st : Stands inner among) (s : Around) (w : List (List Conditional)) (c base : Conditions) (declared : ℕ) → stack_of inner among st ≡ s
-    → c ≡ at base inner among (left_of inner among st) declared → base.waiting ≡ w → all_kept s ≡ true → StaysAt s w c
-kept_there inner among (AllStay inside between si sb mi mb) s w c base declared stack is waits all = record {
+kept_there : (st : Stands) (s : Around) (w : List (List Conditional)) (c base : Conditions) (declared : ℕ) → stack_of st ≡ s
+    → c ≡ stands_at base st declared → base.waiting ≡ w → base.pending ≡ [] → all_kept s ≡ true → StaysAt s w c
+kept_there (AllStay inside between si sb) s w c base declared stack is waits none all = record {
   base = base;
   declared = declared;
   inside_kept = ap (λ (x : Around). are_kept x.inside) (sym stack) ∙ si;
   between_kept = ap (λ (x : Around). are_kept x.between) (sym stack) ∙ sb;
-  is =
-      is
-      ∙ ap (λ i. at base i among None declared) (sym mi ∙ ap (λ (x : Around). conditionals x.inside) stack)
-      ∙ ap (λ a. at base (conditionals s.inside) a None declared) (sym mb ∙ ap (λ (x : Around). conditionals x.between) stack);
+  is = is ∙ ap (λ (x : Around). at base (conditionals x.inside) (conditionals x.between) None declared) stack;
   waits = waits;
+  none_read = none;
 }
-kept_there inner among (InnerLeft deep x inside between left si sb mi mb) s w c base declared stack is waits all =
+kept_there (InnerLeft deep x inside between left si sb) s w c base declared stack is waits none all =
     absurd (let never : true ≡ false = sym all ∙ ap all_kept (sym stack) ∙ inner_not_kept deep x inside between left in cc)
-kept_there inner among (OuterLeft deep x between none left sb mb) s w c base declared stack is waits all =
+kept_there (OuterLeft deep x between left sb) s w c base declared stack is waits none all =
     absurd (let never : true ≡ false = sym all ∙ ap all_kept (sym stack) ∙ not_kept deep x between left in cc)
 
-stays_at : (s : Around) (w : List (List Conditional)) (c : Conditions) → EndsAs (last_at s w) c → all_kept s ≡ true → StaysAt s w c
-stays_at s w c e all = kept_there e.inner e.among e.stand s w c e.base e.declared e.stack e.is e.waits all
+stays_at : (s : Around) (w : List (List Conditional)) (c : Conditions) → EndsAs (last_in s w) c → all_kept s ≡ true → StaysAt s w c
+stays_at s w c e all = let there = e.stands in kept_there there.stand s w c there.base e.declared there.stack there.is there.waits there.holds all
 
-begun_in : (e : Option ℕ) (s : Around) (w : List (List Conditional)) (base : Conditions) (declared : ℕ) → are_kept s.inside ≡ true → base.waiting ≡ w
+begun_in : (e : Option ℕ) (s : Around) (w : List (List Conditional)) (base : Conditions) (declared : ℕ) → are_kept s.inside ≡ true → base.waiting ≡ w → base.pending ≡ []
     → Begun (ended_in e (record s { between = [] })) (conditionals s.between ∷ w)
     (ended_behind e (file_entered (at base (conditionals s.inside) (conditionals s.between) None declared)))
-begun_in None s w base declared kept_so waits = record { inside_kept = kept_so; between_kept = refl; is = refl; waits = ap (λ x. conditionals s.between ∷ x) waits }
-begun_in (Some now) s w base declared kept_so waits = record { inside_kept = refl; between_kept = refl; is = refl; waits = ap (λ x. conditionals s.between ∷ x) waits }
+begun_in None s w base declared kept_so waits none = record { inside_kept = kept_so; between_kept = refl; is = refl; waits = ap (λ x. conditionals s.between ∷ x) waits; none_read = none }
+begun_in (Some now) s w base declared kept_so waits none = record { inside_kept = refl; between_kept = refl; is = refl; waits = ap (λ x. conditionals s.between ∷ x) waits; none_read = none }
 
 record Entered (t : At) (s : Around) (w : List (List Conditional)) (c : Conditions) : Type 0 where
   hands : handed_on (judged_at t c).judged t.token ≡ as_kept t.token ∷ []
@@ -167,12 +182,12 @@ record Entered (t : At) (s : Around) (w : List (List Conditional)) (c : Conditio
 entered_at : (t : At) (s : Around) (w : List (List Conditional)) (c : Conditions) → StaysAt s w c → IsPlain t → Entered t s w c
 entered_at t s w c st plain =
     let here = at st.base (conditionals s.inside) (conditionals s.between) None st.declared in
-    let keeps = ap (judged_at t) st.is ∙ plain_kept t st.base (conditionals s.inside) (conditionals s.between) st.declared plain in
+    let keeps = ap (judged_at t) st.is ∙ plain_kept t st.base (conditionals s.inside) (conditionals s.between) st.declared st.none_read plain in
     record {
       hands = ap (λ (b : Behind). handed_on b.judged t.token) keeps;
       tells = ap (λ (b : Behind). lone_places b.judged.lone) keeps;
       begun = subst (λ (b : Behind). Begun (around_included t s) (conditionals s.between ∷ w) (ended_behind t.ended (file_entered (silent b.now)))) (sym keeps)
-          (begun_in t.ended s w st.base st.declared st.inside_kept st.waits);
+          (begun_in t.ended s w st.base st.declared st.inside_kept st.waits st.none_read);
     }
 
 -- and left
@@ -197,13 +212,13 @@ told_places : (around : List Open) (cs : List Conditional) → cs ≡ conditiona
 told_places around cs e = ap (λ x. places (reverse x)) e ∙ sym (unended_is around)
 
 begun_behind : (e : Option ℕ) (s : Around) (w : List (List Conditional)) (base : Conditions) (inner among : List Conditional) (declared : ℕ) → are_kept s.between ≡ true
-    → base.waiting ≡ conditionals s.between ∷ w → Begun (around_behind s) w (ended_behind e (file_left (at base inner among None declared)))
-begun_behind e s w base inner among declared kept_so waits =
+    → base.waiting ≡ conditionals s.between ∷ w → base.pending ≡ [] → Begun (around_behind s) w (ended_behind e (file_left (at base inner among None declared)))
+begun_behind e s w base inner among declared kept_so waits none =
     subst (λ ws. Begun (around_behind s) w (ended_behind e (file_left_to ws (at base inner among None declared)))) (sym waits) (go e)
   where
     go : (e : Option ℕ) → Begun (around_behind s) w (ended_behind e (file_left_to (conditionals s.between ∷ w) (at base inner among None declared)))
-    go None = record { inside_kept = refl; between_kept = kept_so; is = refl; waits = refl }
-    go (Some now) = record { inside_kept = refl; between_kept = kept_so; is = refl; waits = refl }
+    go None = record { inside_kept = refl; between_kept = kept_so; is = refl; waits = refl; none_read = none }
+    go (Some now) = record { inside_kept = refl; between_kept = kept_so; is = refl; waits = refl; none_read = none }
 
 record LeftAt (t : At) (s inner : Around) (w : List (List Conditional)) (c : Conditions) : Type 0 where
   hands : handed_on (judged_at t c).judged t.token ≡ as_kept t.token ∷ []
@@ -214,29 +229,31 @@ record LeftAt (t : At) (s inner : Around) (w : List (List Conditional)) (c : Con
 -- the places that are told at an end
 misses_at : (t : At) (last : Last) (c : Conditions) → EndsAs last c → is_end t.token.kind ≡ true → told_behind Leaves (judged_at t c).now ≡ all_unended last.around
 misses_at t last c e is_last =
-    let open_so = open_of last c e in
-    ap (λ (b : Behind). told_behind Leaves b.now) (end_is_kept t c is_last (ap (λ (x : Conditions). x.pending) e.is) (ap (λ (x : Conditions). x.sign) e.is))
+    let stands = e.stands in
+    let open_so = open_of Hands (last_at last.around e.declared e.levels last.waiting) c stands in
+    ap (λ (b : Behind). told_behind Leaves b.now) (end_is_kept t c is_last (ap (λ (x : Conditions). x.pending) stands.is ∙ stands.holds) (ap (λ (x : Conditions). x.sign) stands.is))
     ∙ ap (λ ps. ps ++ places (reverse c.among)) (told_places last.around.inside c.inner open_so.inside)
     ∙ ap (λ ps. unended last.around.inside ++ ps) (told_places last.around.between c.among open_so.between)
 
-left_at_end : (t : At) (s inner : Around) (w : List (List Conditional)) (c : Conditions) → EndsAs (last_at inner (conditionals s.between ∷ w)) c → are_kept s.between ≡ true
+left_at_end : (t : At) (s inner : Around) (w : List (List Conditional)) (c : Conditions) → EndsAs (last_in inner (conditionals s.between ∷ w)) c → are_kept s.between ≡ true
     → is_end t.token.kind ≡ true → LeftAt t s inner w c
 left_at_end t s inner w c e kept_so is_last =
-    let last = last_at inner (conditionals s.between ∷ w) in
-    let keeps = end_is_kept t c is_last (ap (λ (x : Conditions). x.pending) e.is) (ap (λ (x : Conditions). x.sign) e.is) in
+    let last = last_in inner (conditionals s.between ∷ w) in
+    let stands = e.stands in
+    let keeps = end_is_kept t c is_last (ap (λ (x : Conditions). x.pending) stands.is ∙ stands.holds) (ap (λ (x : Conditions). x.sign) stands.is) in
     record {
       hands = ap (λ (b : Behind). handed_on b.judged t.token) keeps;
       tells = ap (λ (b : Behind). lone_places b.judged.lone) keeps;
       misses = misses_at t last c e is_last;
       begun = subst (λ (b : Behind). Begun (around_behind s) w (ended_behind t.ended (file_left (silent b.now)))) (sym keeps)
-          (subst (λ (x : Conditions). Begun (around_behind s) w (ended_behind t.ended (file_left (silent (record x { left_out = None; sign = None }))))) (sym e.is)
-          (begun_behind t.ended s w e.base e.inner e.among e.declared kept_so e.waits));
+          (subst (λ (x : Conditions). Begun (around_behind s) w (ended_behind t.ended (file_left (silent (record x { left_out = None; sign = None }))))) (sym stands.is)
+          (begun_behind t.ended s w stands.base (inner_of stands.stand) (among_of stands.stand) e.declared kept_so stands.waits stands.holds));
     }
 
 -- All files
 
 files_led : (d : Answers) (f : Files) (s : Around) (w : List (List Conditional)) (c : Conditions) → Begun s w c → AreFiles d s c f
-    → FilesLed (steps f) c (kept_files d s f) (lone_files d s f) (unended_files d s f) (last_at (behind_files d s f) w)
+    → FilesLed (steps f) c (kept_files d s f) (lone_files d s f) (unended_files d s f) (last_in (behind_files d s f) w)
 files_led d (Alone parts) s w c b are = stretch d s w c parts b are
 files_led d (Including parts t f end more) s w c b are =
     let here = behind_parts d s parts in
@@ -245,10 +262,10 @@ files_led d (Including parts t f end more) s w c b are =
     let c_in = step_behind (enters t) c_here in
     let c_end = steps_behind (steps f) c_in in
     let c_more = step_behind (leaves end) c_end in
-    let last = last_at (behind_files d (around_behind here) more) w in
+    let last = last_in (behind_files d (around_behind here) more) w in
     let first = stretch d s w c parts b are.0 in
     let to_here = behind_staying (all_tokens parts) c in
-    let st = stays_at here w c_here (subst (λ (x : Conditions). EndsAs (last_at here w) x) to_here first.ends) are.1.0.is_kept in
+    let st = stays_at here w c_here (subst (λ (x : Conditions). EndsAs (last_in here w) x) to_here first.ends) are.1.0.is_kept in
     let enter = entered_at t here w c_here st are.1.0.plain in
     let inner = files_led d f inside (conditionals here.between ∷ w) c_in enter.begun are.1.1.0 in
     let leave = left_at_end end here (behind_files d inside f) w c_end inner.ends st.between_kept are.1.0.is_last in
@@ -263,7 +280,7 @@ files_led d (Including parts t f end more) s w c b are =
     } in
     let inner_on =
     joined (steps f) (leaves end ∷ steps more) c_in (kept_files d inside f) (end.token ∷ kept_files d (around_behind here) more) (lone_files d inside f) (lone_files d (around_behind here) more)
-    (unended_files d inside f) (all_unended (behind_files d inside f) ++ unended_files d (around_behind here) more) (last_at (behind_files d inside f) (conditionals here.between ∷ w)) last inner leaving_on in
+    (unended_files d inside f) (all_unended (behind_files d inside f) ++ unended_files d (around_behind here) more) (last_in (behind_files d inside f) (conditionals here.between ∷ w)) last inner leaving_on in
     let all_inner = steps f ++ leaves end ∷ steps more in
     let tokens = kept_files d inside f ++ end.token ∷ kept_files d (around_behind here) more in
     let alone = lone_files d inside f ++ lone_files d (around_behind here) more in
@@ -275,7 +292,7 @@ files_led d (Including parts t f end more) s w c b are =
       misses = inner_on.misses;
       ends = inner_on.ends;
     } in
-    joined (map staying (all_tokens parts)) (enters t ∷ all_inner) c (kept_sides d s parts) (t.token ∷ tokens) (lone_parts d s parts) alone [] missing (last_at here w) last first
+    joined (map staying (all_tokens parts)) (enters t ∷ all_inner) c (kept_sides d s parts) (t.token ∷ tokens) (lone_parts d s parts) alone [] missing (last_in here w) last first
     (subst (λ (x : Conditions). FilesLed (enters t ∷ all_inner) x (t.token ∷ tokens) alone missing last) (sym to_here) entering_on)
 
 begun_clear : (c : Conditions) → IsClear c → Begun none_around c.waiting c
@@ -283,13 +300,13 @@ begun_clear c clear = record {
   inside_kept = refl;
   between_kept = refl;
   is =
-      ap (λ a. record c { among = a; inner = []; pending = []; left_out = None; sign = None; said = None }) (sym clear.none_among)
-      ∙ ap (λ i. record c { inner = i; pending = []; left_out = None; sign = None; said = None }) (sym clear.none_inner)
-      ∙ ap (λ p. record c { pending = p; left_out = None; sign = None; said = None }) (sym clear.none_pending)
+      ap (λ a. record c { among = a; inner = []; left_out = None; sign = None; said = None }) (sym clear.none_among)
+      ∙ ap (λ i. record c { inner = i; left_out = None; sign = None; said = None }) (sym clear.none_inner)
       ∙ ap (λ l. record c { left_out = l; sign = None; said = None }) (sym clear.all_kept)
       ∙ ap (λ s. record c { sign = s; said = None }) (sym clear.no_sign)
       ∙ ap (λ s. record c { said = s }) (sym clear.none_said);
   waits = refl;
+  none_read = clear.none_pending;
 }
 
 pub files_keep_sides : FilesKeepSides
@@ -299,7 +316,7 @@ files_keep_sides d f c clear are =
       handed_on = all.hands;
       lone = all.tells;
       unended = all.misses;
-      at_last = λ end is_last. misses_at end (last_at (behind_files d none_around f) c.waiting) (steps_behind (steps f) c) all.ends is_last;
+      at_last = λ end is_last. misses_at end (last_in (behind_files d none_around f) c.waiting) (steps_behind (steps f) c) all.ends is_last;
     }
 
 pub files_tell_unended : FilesTellUnended

@@ -1,8 +1,9 @@
 -- Of each conditional one side is kept.
-use Rattle.std.proofs.Common.{◌≡◌, ℕ, suc, ◌+◌, ◌≤◌, ◌==◌, max, List, [], ◌∷◌, ◌++◌, drop, length, map, reverse, cond, not, ◌&&◌, Bool, true, false, Option, Some, None, unwrap_or, refl, sym, ap, subst, ◌∙◌, arith}
+use Rattle.std.proofs.Common.{◌≡◌, ℕ, suc, ◌+◌, ◌≤◌, ◌==◌, max, List, [], ◌∷◌, ◌++◌, drop, length, map, reverse, cond, not, ◌&&◌, ◌||◌, Bool, true, false, Option, Some, None, unwrap_or, refl, sym, ap, subst, ◌∙◌, append_assoc, arith}
 use Rattle.std.proofs.lemmas.List.{append-nil, map-append, reverse-append}
 use Rattle.std.proofs.Math.Bool.{and-false}
 use Rattle.std.proofs.Math.Dec.{eqb-suc-zero}
+use Rattle.inf_names.specs.Symbols.{declared_before}
 use Rattle.inf_output.specs.Output.{Out}
 use Rattle.inf_scanner.specs.declared.tokens.Mark.TheVariants as mark
 use Rattle.inf_scanner.specs.declared.tokens.Place.{Place}
@@ -14,7 +15,7 @@ use Rattle.inf_unit.specs.Messages.{FileNames, Reported}
 use Rattle.inf_unit.specs.Tokens.{Spelled, is_end, is_mark}
 use Rattle.inf_unit.specs.Units.{outer_tokens}
 use Rattle.inf_conditionals.specs.Atoms.{atom_of}
-use Rattle.inf_conditionals.specs.Condition.{Condition, condition_begun, condition_took, verdict_of}
+use Rattle.inf_conditionals.specs.Condition.{Condition, condition_begun, condition_took, is_whole, verdict_of}
 use Rattle.inf_conditionals.specs.Said.{Said, told_by, too_much}
 use Rattle.inf_conditionals.specs.declared.condition.Verdict.{Verdict}
 use Rattle.inf_unit.proofs.Cases.{of_both}
@@ -33,7 +34,7 @@ use Rattle.inf_conditionals.specs.Judging.{Behind, at_front, asking as asking_on
 use Rattle.inf_conditionals.specs.Open.{Conditions, ended_by, is_second, latest_among, levels_behind, most_levels, silent, turned_first}
 use Rattle.inf_conditionals.specs.Words.{word_of}
 use Rattle.inf_reader.specs.Handing.{hash}
-use Rattle.inf_laws.specs.KeptSides.{Agree, AllStandRight, Answers, AreNext, AreParts, Around, Asking, At, Begins, Closing, First, GoesOn, IsNext, IsPlain, IsSemicolon, OneSideIsKept, Open, Opening, Part, Plain, Signed, StandsRight, Turning, all_handed_on, all_behind, all_kept, all_lone_places, all_tokens, are_kept, as_kept, asking, begins, begins_at, behind_parts, condition_behind, declared_behind, declared_first, declared_sign, declared_tokens, ended_behind, ended_in, first_side, first_tokens, handed_on, judged_at, kept_sides, lone_at, lone_parts, lone_places, none_around, opening, other_side, placed_word, seconds, signed_tokens, unended, whole_condition}
+use Rattle.inf_laws.specs.KeptSides.{AddsNone, Answers, AreParts, AreTaken, Around, Asking, At, Begins, Closing, First, GoesOn, Handing, IsAsked, IsCondition, IsFirst, IsName, IsPart, IsPlain, IsSemicolon, IsSign, NoneInside, NoneInsideBehind, NoParts, OneSideIsKept, Open, Opening, Part, Parts, Plain, Signed, StayAs, Then, Turning, acted, acting, all_behind, all_handed_on, all_kept, all_lone_places, all_tokens, among, are_kept, as_kept, asking, asking_parts, before_parts, begins, begins_at, behind_name, behind_part, behind_parts, closed, condition_behind, declared_behind, declared_first, declared_sign, declared_tokens, ended_behind, ended_in, first_side, first_tokens, going_on, handed_on, judged_at, kept_of, kept_sides, lone_at, lone_of, lone_parts, lone_places, none_around, opened_more, opening, opening_parts, other_side, part_tokens, placed_word, seconds, signed_tokens, turned, unended, whole_condition}
 use Rattle.inf_laws.specs.LoneEnds.{is_lone}
 use Rattle.inf_laws.specs.MissingEnds.{with_all_at}
 use Rattle.inf_laws.specs.Sides.{ends_side, level_behind}
@@ -102,14 +103,13 @@ name_plain t is none = record { no_word = none; no_hash = ap (is_mark mark.Hash)
 
 -- Conditionals
 
--- with what is read of a directive, and a `#` that is held back
-abbrev pub state : Conditions → List Pending → Option Place → List Conditional → List Conditional → Option LeftOut → ℕ → Conditions
-state c pending sign inner among left declared =
-    record c { among = among; inner = inner; pending = pending; left_out = left; sign = sign; declared = declared; said = None }
+-- where a `#` may be held back
+abbrev pub state : Conditions → Option Place → List Conditional → List Conditional → Option LeftOut → ℕ → Conditions
+state c sign inner among left declared = record c { among = among; inner = inner; left_out = left; sign = sign; declared = declared; said = None }
 
 -- between two parts
 abbrev pub at : Conditions → List Conditional → List Conditional → Option LeftOut → ℕ → Conditions
-at c inner among left declared = state c [] None inner among left declared
+at c inner among left declared = state c None inner among left declared
 
 abbrev pub left_at : Bool → ℕ → Option LeftOut
 left_at is_inner n = Some (record { is_inner = is_inner; levels = n })
@@ -118,43 +118,49 @@ left_at is_inner n = Some (record { is_inner = is_inner; levels = n })
 abbrev directive : Bool → Place → Awaits → Pending
 directive is_inner place a = record { place = place; is_inner = is_inner; awaits = a }
 
+abbrev awaits_it : Bool → Place → Awaits → Conditions → Conditions
+awaits_it is_inner place a c = record c { pending = directive is_inner place a ∷ c.pending }
+
 abbrev reading : Bool → Place → Awaits → Conditions → List Conditional → List Conditional → ℕ → Conditions
-reading is_inner place a c inner among declared = state c (directive is_inner place a ∷ []) None inner among None declared
+reading is_inner place a c inner among declared = at (awaits_it is_inner place a c) inner among None declared
 
 -- Where no side is left out
 
-pub plain_kept : (t : At) (c : Conditions) (inner among : List Conditional) (declared : ℕ) → IsPlain t
+abbrev is_front : At → Conditions → Bool
+is_front t c = t.site.is_between && is_none_pending c.pending
+
+pub plain_kept : (t : At) (c : Conditions) (inner among : List Conditional) (declared : ℕ) → c.pending ≡ [] → IsPlain t
     → judged_at t (at c inner among None declared) ≡ kept (at c inner among None declared)
-plain_kept t c inner among declared is =
+plain_kept t c inner among declared none is =
     let here = at c inner among None declared in
-    let front = t.site.is_between && true in
-    ap (λ (b : Bool). cond b (passed (held front t.token.place here)) (cond front (at_front (word_of t.token) t.token here) (kept here))) is.no_hash
+    let front = is_front t c in
+    ap (λ (b : Bool). cond b (passed (held front t.token.place here)) (offered_to c.pending front t.site.is_quiet t.out t.token here)) is.no_hash
+    ∙ ap (λ ps. offered_to ps front t.site.is_quiet t.out t.token here) none
     ∙ of_both (λ (b : Behind). b ≡ kept here) front (at_front (word_of t.token) t.token here) (kept here) (λ _. ap (λ o. at_front o t.token here) is.no_word) (λ _. refl)
 
 -- a `#` between directives, and inside one
-sign_kept : (t : At) (c : Conditions) (inner among : List Conditional) (declared : ℕ) → t.site.is_between ≡ true → is_mark mark.Hash t.token.kind ≡ true
+sign_kept : (t : At) (c : Conditions) (inner among : List Conditional) (declared : ℕ) → is_front t c ≡ true → is_mark mark.Hash t.token.kind ≡ true
     → judged_at t (at c inner among None declared) ≡ passed (reading false t.token.place awaits.Word c inner among declared)
-sign_kept t c inner among declared between hash =
+sign_kept t c inner among declared front hash =
     let here = at c inner among None declared in
-    let front = t.site.is_between && true in
-    ap (λ (b : Bool). cond b (passed (held front t.token.place here)) (cond front (at_front (word_of t.token) t.token here) (kept here))) hash
-    ∙ ap (λ (b : Bool). passed (held (b && true) t.token.place here)) between
+    ap (λ (b : Bool). cond b (passed (held (is_front t c) t.token.place here)) (offered_to c.pending (is_front t c) t.site.is_quiet t.out t.token here)) hash
+    ∙ ap (λ (b : Bool). passed (held b t.token.place here)) front
 
-sign_inner : (t : At) (c : Conditions) (inner among : List Conditional) (declared : ℕ) → t.site.is_between ≡ false → is_mark mark.Hash t.token.kind ≡ true
-    → judged_at t (at c inner among None declared) ≡ passed (state c [] (Some t.token.place) inner among None declared)
-sign_inner t c inner among declared between hash =
+sign_inner : (t : At) (c : Conditions) (inner among : List Conditional) (declared : ℕ) → is_front t c ≡ false → is_mark mark.Hash t.token.kind ≡ true
+    → judged_at t (at c inner among None declared) ≡ passed (state c (Some t.token.place) inner among None declared)
+sign_inner t c inner among declared front hash =
     let here = at c inner among None declared in
-    let front = t.site.is_between && true in
-    ap (λ (b : Bool). cond b (passed (held front t.token.place here)) (cond front (at_front (word_of t.token) t.token here) (kept here))) hash
-    ∙ ap (λ (b : Bool). passed (held (b && true) t.token.place here)) between
+    ap (λ (b : Bool). cond b (passed (held (is_front t c) t.token.place here)) (offered_to c.pending (is_front t c) t.site.is_quiet t.out t.token here)) hash
+    ∙ ap (λ (b : Bool). passed (held b t.token.place here)) front
 
 -- a word alone, behind a `#` between directives, and inside one
-word_kept : (w : ConditionalWord) (t : At) (c : Conditions) (inner among : List Conditional) (declared : ℕ) → t.site.is_between ≡ true → word_of t.token ≡ Some w
+word_kept : (w : ConditionalWord) (t : At) (c : Conditions) (inner among : List Conditional) (declared : ℕ) → c.pending ≡ [] → t.site.is_between ≡ true → word_of t.token ≡ Some w
     → judged_at t (at c inner among None declared) ≡ begun w t.token t.token.place false (at c inner among None declared)
-word_kept w t c inner among declared between is =
+word_kept w t c inner among declared none between is =
     let here = at c inner among None declared in
-    ap (λ (k : TokenKind). cond (is_mark mark.Hash k) (passed (held (t.site.is_between && true) t.token.place here)) (cond (t.site.is_between && true) (at_front (word_of t.token) t.token here) (kept here)))
+    ap (λ (k : TokenKind). cond (is_mark mark.Hash k) (passed (held (is_front t c) t.token.place here)) (offered_to c.pending (is_front t c) t.site.is_quiet t.out t.token here))
     (is_name t.token w is)
+    ∙ ap (λ ps. offered_to ps (t.site.is_between && is_none_pending ps) t.site.is_quiet t.out t.token here) none
     ∙ ap (λ (b : Bool). cond (b && true) (at_front (word_of t.token) t.token here) (kept here)) between
     ∙ ap (λ o. at_front o t.token here) is
 
@@ -169,8 +175,8 @@ signed_kept w place t c inner among declared is =
     ∙ ap (λ o. behind_front o t.token p here) is
 
 signed_inner : (w : ConditionalWord) (place : Place) (t : At) (c : Conditions) (inner among : List Conditional) (declared : ℕ) → word_of t.token ≡ Some w
-    → judged_at t (state c [] (Some place) inner among None declared) ≡ begun w t.token place true (at c inner among None declared)
-signed_inner w place t c inner among declared is = ap (λ o. behind_sign o place t.site.is_quiet t.out t.token (state c [] (Some place) inner among None declared)) is
+    → judged_at t (state c (Some place) inner among None declared) ≡ begun w t.token place true (at c inner among None declared)
+signed_inner w place t c inner among declared is = ap (λ o. behind_sign o place t.site.is_quiet t.out t.token (state c (Some place) inner among None declared)) is
 
 begun_opening : (is_inner if_declared : Bool) (t : Spelled) (place : Place) (c : Conditions) → begun (opening if_declared) t place is_inner c ≡ passed (awaiting place is_inner (awaits.Name if_declared) c)
 begun_opening is_inner true t place c = refl
@@ -250,7 +256,7 @@ plain_left t c inner among b n declared is few =
 
 -- behind a `#`
 signed_left : (t : At) (place : Place) (c : Conditions) (inner among : List Conditional) (b : Bool) (n declared : ℕ) → IsPlain t → n + 1 ≤ most_levels
-    → judged_at t (state c [] (Some place) inner among (left_at b n) declared) ≡ passed (at c inner among (left_at b n) declared)
+    → judged_at t (state c (Some place) inner among (left_at b n) declared) ≡ passed (at c inner among (left_at b n) declared)
 signed_left t place c inner among b n declared is few =
     let base = at c inner among None declared in
     token_is t.site t.out t.token base (side_at b) n (Some place) declared is.goes_on (ap (λ o. ends_side (second inner among) n o) is.no_word) few
@@ -258,7 +264,7 @@ signed_left t place c inner among b n declared is few =
     ∙ ap (λ h. passed (left_inside base (side_at b) n (cond h (Some t.token.place) None) declared)) is.no_hash
 
 sign_left : (t : At) (c : Conditions) (inner among : List Conditional) (b : Bool) (n declared : ℕ) → is_mark mark.Hash t.token.kind ≡ true → n + 1 ≤ most_levels
-    → judged_at t (at c inner among (left_at b n) declared) ≡ passed (state c [] (Some t.token.place) inner among (left_at b n) declared)
+    → judged_at t (at c inner among (left_at b n) declared) ≡ passed (state c (Some t.token.place) inner among (left_at b n) declared)
 sign_left t c inner among b n declared hash few =
     let base = at c inner among None declared in
     let none = hash_word t.token hash in
@@ -269,7 +275,7 @@ sign_left t c inner among b n declared hash few =
 -- a word that ends no side
 word_left : (w : ConditionalWord) (t : At) (sign : Option Place) (c : Conditions) (inner among : List Conditional) (b : Bool) (n declared : ℕ) → word_of t.token ≡ Some w → n + 1 ≤ most_levels
     → ends_side (second inner among) n (Some w) ≡ false
-    → judged_at t (state c [] sign inner among (left_at b n) declared) ≡ passed (at c inner among (left_at b (level_behind (Some w) n)) declared)
+    → judged_at t (state c sign inner among (left_at b n) declared) ≡ passed (at c inner among (left_at b (level_behind (Some w) n)) declared)
 word_left w t sign c inner among b n declared is few stays =
     let base = at c inner among None declared in
     token_is t.site t.out t.token base (side_at b) n sign declared (ap is_end (is_name t.token w is)) (ap (λ o. ends_side (second inner among) n o) is ∙ stays) few
@@ -278,13 +284,13 @@ word_left w t sign c inner among b n declared is few stays =
 -- and one that does, behind which these conditionals are open
 abbrev Acted : ConditionalWord → Bool → Conditions → List Conditional → List Conditional → List Conditional → List Conditional → Type 0
 Acted w b c inner among inner_now among_now = (sign : Option Place) (declared : ℕ)
-    → record (ended_by w (state c [] sign inner among (left_at b 0) declared)) { left_out = None; sign = None } ≡ at c inner_now among_now None declared
+    → record (ended_by w (state c sign inner among (left_at b 0) declared)) { left_out = None; sign = None } ≡ at c inner_now among_now None declared
 
 word_ends : (w : ConditionalWord) (t : At) (sign : Option Place) (c : Conditions) (inner among inner_now among_now : List Conditional) (b : Bool) (declared : ℕ) → word_of t.token ≡ Some w
     → ends_side (second inner among) 0 (Some w) ≡ true → Acted w b c inner among inner_now among_now
-    → judged_at t (state c [] sign inner among (left_at b 0) declared) ≡ passed (reading false (unwrap_or sign t.token.place) (awaits.End effect.Nothing) c inner_now among_now declared)
+    → judged_at t (state c sign inner among (left_at b 0) declared) ≡ passed (reading false (unwrap_or sign t.token.place) (awaits.End effect.Nothing) c inner_now among_now declared)
 word_ends w t sign c inner among inner_now among_now b declared is ends acted =
-    let here = state c [] sign inner among (left_at b 0) declared in
+    let here = state c sign inner among (left_at b 0) declared in
     let place = unwrap_or sign t.token.place in
     let now = awaiting place false (awaits.End effect.Nothing) (record (ended_by w here) { left_out = None; sign = None }) in
     ap (λ (x : Bool). cond x (offered false t.site.is_quiet t.out t.token (at c inner among None declared)) (passed (passed_by (word_of t.token) t.token (side_at b) here))) (ap is_end (is_name t.token w is))
@@ -297,16 +303,16 @@ word_ends w t sign c inner among inner_now among_now b declared is ends acted =
 abbrev Calm : Bool → List Conditional → Option LeftOut → Type 0
 Calm is_inner inner left = is_inner ≡ false → (inner ≡ []) × (side_kept left ≡ left)
 
-mid : (is_inner : Bool) (t : At) (c : Conditions) (pending : List Pending) (sign : Option Place) (inner among : List Conditional) (left : Option LeftOut) (declared : ℕ) → GoesOn is_inner t → Calm is_inner inner left
-    → ended_behind t.ended (state c pending sign inner among left declared) ≡ state c pending sign inner among left (declared_behind t declared)
-mid true t c pending sign inner among left declared goes calm =
-    ap (λ e. ended_behind e (state c pending sign inner among left declared)) goes
-    ∙ sym (ap (λ e. state c pending sign inner among left (unwrap_or e declared)) goes)
-mid false t c pending sign inner among left declared goes calm = go t.ended
+mid : (is_inner : Bool) (t : At) (c : Conditions) (sign : Option Place) (inner among : List Conditional) (left : Option LeftOut) (declared : ℕ) → GoesOn is_inner t → Calm is_inner inner left
+    → ended_behind t.ended (state c sign inner among left declared) ≡ state c sign inner among left (declared_behind t declared)
+mid true t c sign inner among left declared goes calm =
+    ap (λ e. ended_behind e (state c sign inner among left declared)) goes
+    ∙ sym (ap (λ e. state c sign inner among left (unwrap_or e declared)) goes)
+mid false t c sign inner among left declared goes calm = go t.ended
   where
-    go : (e : Option ℕ) → ended_behind e (state c pending sign inner among left declared) ≡ state c pending sign inner among left (unwrap_or e declared)
+    go : (e : Option ℕ) → ended_behind e (state c sign inner among left declared) ≡ state c sign inner among left (unwrap_or e declared)
     go None = refl
-    go (Some now) = ap (λ x. state c pending sign [] among x now) (calm refl).1 ∙ ap (λ x. state c pending sign x among left now) (sym (calm refl).0)
+    go (Some now) = ap (λ x. state c sign [] among x now) (calm refl).1 ∙ ap (λ x. state c sign x among left now) (sym (calm refl).0)
 
 -- where a side is left out
 abbrev CalmLeft : Bool → List Conditional → Bool → Type 0
@@ -328,85 +334,252 @@ abbrev pub outer : List Open → List Open
 outer [] = []
 outer (x ∷ around) = cond (are_kept around) (x ∷ outer around) (outer around)
 
--- Conditionals that are open
+-- Of none of the conditionals that are open a side is left out, or of one that was opened inside a directive or between directives, and so many
+-- others are open in it.
+pub data Stands : Type 0 where
+  AllStay : (inside between : List Open) → are_kept inside ≡ true → are_kept between ≡ true → Stands
+  InnerLeft : (deep : List Open) (x : Open) (inside between : List Open) → x.stays ≡ false → are_kept inside ≡ true → are_kept between ≡ true → Stands
+  OuterLeft : (deep : List Open) (x : Open) (between : List Open) → x.stays ≡ false → are_kept between ≡ true → Stands
 
--- the conditionals by what is open: of none of them a side is left out, or of one that was opened inside a directive or between directives, and so many
--- others are open in it
-pub data Stands (inner among : List Conditional) : Type 0 where
-  AllStay : (inside between : List Open) → are_kept inside ≡ true → are_kept between ≡ true → conditionals inside ≡ inner → conditionals between ≡ among → Stands inner among
-  InnerLeft : (deep : List Open) (x : Open) (inside between : List Open) → x.stays ≡ false → are_kept inside ≡ true → are_kept between ≡ true → conditionals (x ∷ inside) ≡ inner → conditionals between ≡ among → Stands inner among
-  OuterLeft : (deep : List Open) (x : Open) (between : List Open) → inner ≡ [] → x.stays ≡ false → are_kept between ≡ true → conditionals (x ∷ between) ≡ among → Stands inner among
+abbrev pub stack_of : Stands → Around
+stack_of (AllStay inside between si sb) = record { inside = inside; between = between }
+stack_of (InnerLeft deep x inside between left si sb) = record { inside = deep ++ x ∷ inside; between = between }
+stack_of (OuterLeft deep x between left sb) = record { inside = []; between = deep ++ x ∷ between }
 
-abbrev pub stack_of : (inner among : List Conditional) → Stands inner among → Around
-stack_of inner among (AllStay inside between si sb mi mb) = record { inside = inside; between = between }
-stack_of inner among (InnerLeft deep x inside between left si sb mi mb) = record { inside = deep ++ x ∷ inside; between = between }
-stack_of inner among (OuterLeft deep x between none left sb mb) = record { inside = []; between = deep ++ x ∷ between }
+abbrev pub inner_of : Stands → List Conditional
+inner_of (AllStay inside between si sb) = conditionals inside
+inner_of (InnerLeft deep x inside between left si sb) = conditionals (x ∷ inside)
+inner_of (OuterLeft deep x between left sb) = []
 
-abbrev pub left_of : (inner among : List Conditional) → Stands inner among → Option LeftOut
-left_of inner among (AllStay inside between si sb mi mb) = None
-left_of inner among (InnerLeft deep x inside between left si sb mi mb) = left_at true (length deep)
-left_of inner among (OuterLeft deep x between none left sb mb) = left_at false (length deep)
+abbrev pub among_of : Stands → List Conditional
+among_of (AllStay inside between si sb) = conditionals between
+among_of (InnerLeft deep x inside between left si sb) = conditionals between
+among_of (OuterLeft deep x between left sb) = conditionals (x ∷ between)
 
-abbrev pub levels_of : (inner among : List Conditional) → Stands inner among → ℕ
-levels_of inner among (AllStay inside between si sb mi mb) = 0
-levels_of inner among (InnerLeft deep x inside between left si sb mi mb) = length deep
-levels_of inner among (OuterLeft deep x between none left sb mb) = length deep
+abbrev pub left_of : Stands → Option LeftOut
+left_of (AllStay inside between si sb) = None
+left_of (InnerLeft deep x inside between left si sb) = left_at true (length deep)
+left_of (OuterLeft deep x between left sb) = left_at false (length deep)
 
--- what is open at last, and what is open in the files that wait
+abbrev pub levels_of : Stands → ℕ
+levels_of (AllStay inside between si sb) = 0
+levels_of (InnerLeft deep x inside between left si sb) = length deep
+levels_of (OuterLeft deep x between left sb) = length deep
+
+abbrev pub stands_at : Conditions → Stands → ℕ → Conditions
+stands_at c st declared = at c (inner_of st) (among_of st) (left_of st) declared
+
+-- What is kept is handed on, or a conditional directive takes it, which is read inside of others, with these conditions.
+pub data Reader : Type 0 where
+  Hands : Reader
+  Reads : (p : Pending) (others : List Pending) (ks : List Condition) → Reader
+
+abbrev pub within : Reader → Bool
+within Hands = false
+within (Reads p others ks) = true
+
+abbrev pub Holds : Reader → Conditions → Type 0
+Holds Hands c = c.pending ≡ []
+Holds (Reads p others ks) c = (c.pending ≡ p ∷ others) × (c.conditions ≡ ks)
+
+-- behind a token, and behind some
+abbrev pub read_one : Spelled → Reader → Reader
+read_one t Hands = Hands
+read_one t (Reads p others []) = Reads p others []
+read_one t (Reads p others (k ∷ ks)) = Reads p others (condition_took t k ∷ ks)
+
+abbrev pub read_on : List Spelled → Reader → Reader
+read_on [] r = r
+read_on (t ∷ tokens) r = read_on tokens (read_one t r)
+
+abbrev handed_one : Reader → Spelled → List Handing
+handed_one Hands t = as_kept t ∷ []
+handed_one (Reads p others ks) t = []
+
+abbrev pub handed_to : Reader → List Spelled → List Handing
+handed_to r [] = []
+handed_to r (t ∷ tokens) = handed_one r t ++ handed_to (read_one t r) tokens
+
+-- one that a directive takes and that is not its last
+abbrev TakenBy : Awaits → Spelled → List Condition → Type 0
+TakenBy (awaits.Condition wanted) t (k ∷ ks) = (fits grammar known (atom_of t) k.stack ≡ true) × (is_whole (condition_took t k) ≡ false)
+TakenBy a t ks = ⊥
+
+abbrev TakesOne : Reader → Spelled → Type 0
+TakesOne Hands t = Unit {0}
+TakesOne (Reads p others ks) t = TakenBy p.awaits t ks
+
+abbrev pub TakesAll : Reader → List Spelled → Type 0
+TakesAll r [] = Unit {0}
+TakesAll r (t ∷ tokens) = TakesOne r t × TakesAll (read_one t r) tokens
+
+takes_both : (first second : List Spelled) (r : Reader) → TakesAll r (first ++ second) → TakesAll r first × TakesAll (read_on first r) second
+takes_both [] second r e = (tt, e)
+takes_both (t ∷ first) second r e = let both = takes_both first second (read_one t r) e.1 in ((e.0, both.0), both.1)
+
+handed_both : (first second : List Spelled) (r : Reader) → handed_to r (first ++ second) ≡ handed_to r first ++ handed_to (read_on first r) second
+handed_both [] second r = refl
+handed_both (t ∷ first) second r =
+    ap (λ hs. handed_one r t ++ hs) (handed_both first second (read_one t r))
+    ∙ sym (append_assoc (handed_one r t) (handed_to (read_one t r) first) (handed_to (read_on first (read_one t r)) second))
+
+nothing_handed : (tokens : List Spelled) (p : Pending) (others : List Pending) (ks : List Condition) → handed_to (Reads p others ks) tokens ≡ []
+nothing_handed [] p others ks = refl
+nothing_handed (t ∷ tokens) p others [] = nothing_handed tokens p others []
+nothing_handed (t ∷ tokens) p others (k ∷ ks) = nothing_handed tokens p others (condition_took t k ∷ ks)
+
+pub all_handed : (tokens : List Spelled) → handed_to Hands tokens ≡ map as_kept tokens
+all_handed [] = refl
+all_handed (t ∷ tokens) = ap (λ hs. as_kept t ∷ hs) (all_handed tokens)
+
+pub hands_on : (tokens : List Spelled) → read_on tokens Hands ≡ Hands
+hands_on [] = refl
+hands_on (t ∷ tokens) = hands_on tokens
+
+pub all_taken : (tokens : List Spelled) → TakesAll Hands tokens
+all_taken [] = tt
+all_taken (t ∷ tokens) = (tt, all_taken tokens)
+
+within_one : (t : Spelled) (r : Reader) → within (read_one t r) ≡ within r
+within_one t Hands = refl
+within_one t (Reads p others []) = refl
+within_one t (Reads p others (k ∷ ks)) = refl
+
+within_same : (tokens : List Spelled) (r : Reader) → within (read_on tokens r) ≡ within r
+within_same [] r = refl
+within_same (t ∷ tokens) r = within_same tokens (read_one t r) ∙ within_one t r
+
+-- a condition
+read_condition : (tokens : List Spelled) (p : Pending) (others : List Pending) (k : Condition) (ks : List Condition) → read_on tokens (Reads p others (k ∷ ks)) ≡ Reads p others (condition_behind tokens k ∷ ks)
+read_condition [] p others k ks = refl
+read_condition (t ∷ tokens) p others k ks = read_condition tokens p others (condition_took t k) ks
+
+takes_condition : (tokens : List Spelled) (end : At) (k : Condition) (is_inner wanted : Bool) (place : Place) (others : List Pending) (ks : List Condition) → AreTaken tokens end k
+    → TakesAll (Reads (directive is_inner place (awaits.Condition wanted)) others (k ∷ ks)) tokens
+takes_condition [] end k is_inner wanted place others ks are = tt
+takes_condition (t ∷ tokens) end k is_inner wanted place others ks are = ((are.0, are.1.0), takes_condition tokens end (condition_took t k) is_inner wanted place others ks are.1.1)
+
+last_taken : (tokens : List Spelled) (end : At) (k : Condition) → AreTaken tokens end k
+    → (fits grammar known (atom_of end.token) (condition_behind tokens k).stack ≡ true) × (is_whole (condition_took end.token (condition_behind tokens k)) ≡ true)
+last_taken [] end k are = are
+last_taken (t ∷ tokens) end k are = last_taken tokens end (condition_took t k) are.1.1
+
+-- what is open at last, how many names are declared, in how many levels of a side at most, and what is open in the files that wait
 pub record Last : Type 0 where
   pub around : Around
+  pub declared : ℕ
+  pub levels : ℕ
   pub waiting : List (List Conditional)
 
-pub record AreOpen (last : Around) (inner among : List Conditional) : Type 0 where
-  pub inside : inner ≡ conditionals (outer last.inside)
-  pub between : among ≡ conditionals (outer last.between)
+abbrev pub last_at : Around → ℕ → ℕ → List (List Conditional) → Last
+last_at s declared n w = record { around = s; declared = declared; levels = n; waiting = w }
 
-pub record EndsAs (last : Last) (c : Conditions) : Type 0 where
+pub record StandsAt (r : Reader) (last : Last) (c : Conditions) : Type 0 where
   pub base : Conditions
-  pub inner : List Conditional
-  pub among : List Conditional
-  pub stand : Stands inner among
-  pub declared : ℕ
-  pub is : c ≡ at base inner among (left_of inner among stand) declared
-  pub stack : stack_of inner among stand ≡ last.around
+  pub stand : Stands
+  pub holds : Holds r base
   pub waits : base.waiting ≡ last.waiting
+  pub is : c ≡ stands_at base stand last.declared
+  pub stack : stack_of stand ≡ last.around
+  pub few : levels_of stand ≤ last.levels
 
-pub record Led (all : List At) (c : Conditions) (tokens : List Spelled) (places : List Place) (last : Last) : Type 0 where
-  pub hands : all_handed_on all c ≡ map as_kept tokens
+pub record Led (r : Reader) (all : List At) (c : Conditions) (tokens : List Spelled) (places : List Place) (last : Last) : Type 0 where
+  pub hands : all_handed_on all c ≡ handed_to r tokens
   pub tells : all_lone_places all c ≡ places
-  pub ends : EndsAs last (all_behind all c)
+  pub ends : StandsAt (read_on tokens r) last (all_behind all c)
 
-keeps : (t : At) (all : List At) (c : Conditions) (tokens : List Spelled) (places : List Place) (last : Last) → judged_at t c ≡ kept c → Led all (ended_behind t.ended (silent c)) tokens places last
-    → Led (t ∷ all) c (t.token ∷ tokens) places last
-keeps t all c tokens places last e rest = record {
+-- One after the other
+
+hands_both : (first second : List At) (c : Conditions) → all_handed_on (first ++ second) c ≡ all_handed_on first c ++ all_handed_on second (all_behind first c)
+hands_both [] second c = refl
+hands_both (t ∷ first) second c =
+    ap (λ hs. handed_on (judged_at t c).judged t.token ++ hs) (hands_both first second (going_on t c))
+    ∙ sym (append_assoc (handed_on (judged_at t c).judged t.token) (all_handed_on first (going_on t c)) (all_handed_on second (all_behind first (going_on t c))))
+
+tells_both : (first second : List At) (c : Conditions) → all_lone_places (first ++ second) c ≡ all_lone_places first c ++ all_lone_places second (all_behind first c)
+tells_both [] second c = refl
+tells_both (t ∷ first) second c =
+    ap (λ ps. lone_places (judged_at t c).judged.lone ++ ps) (tells_both first second (going_on t c))
+    ∙ sym (append_assoc (lone_places (judged_at t c).judged.lone) (all_lone_places first (going_on t c)) (all_lone_places second (all_behind first (going_on t c))))
+
+behind_both : (first second : List At) (c : Conditions) → all_behind (first ++ second) c ≡ all_behind second (all_behind first c)
+behind_both [] second c = refl
+behind_both (t ∷ first) second c = behind_both first second (going_on t c)
+
+declared_both : (first second : List At) (declared : ℕ) → declared_tokens (first ++ second) declared ≡ declared_tokens second (declared_tokens first declared)
+declared_both [] second declared = refl
+declared_both (t ∷ first) second declared = declared_both first second (declared_behind t declared)
+
+length_both : (first second : List At) → length (first ++ second) ≡ length first + length second
+length_both [] second = omega arith
+length_both (t ∷ first) second = omega (arith, length_both first second)
+
+joined : (r : Reader) (first second : List At) (c : Conditions) (tokens more : List Spelled) (places others : List Place) (between last : Last)
+    → Led r first c tokens places between → Led (read_on tokens r) second (all_behind first c) more others last → Led r (first ++ second) c (tokens ++ more) (places ++ others) last
+joined r first second c tokens more places others between last a b = record {
   hands =
-      ap (λ (b : Behind). handed_on b.judged t.token ++ all_handed_on all (ended_behind t.ended (silent b.now))) e ∙ ap (λ hs. as_kept t.token ∷ hs) rest.hands;
-  tells = ap (λ (b : Behind). lone_places b.judged.lone ++ all_lone_places all (ended_behind t.ended (silent b.now))) e ∙ rest.tells;
-  ends = subst (λ (x : Conditions). EndsAs last (all_behind all x)) (sym (ap (λ (b : Behind). ended_behind t.ended (silent b.now)) e)) rest.ends;
+      hands_both first second c ∙ ap (λ hs. hs ++ all_handed_on second (all_behind first c)) a.hands ∙ ap (λ hs. handed_to r tokens ++ hs) b.hands
+      ∙ sym (handed_both tokens more r);
+  tells = tells_both first second c ∙ ap (λ ps. ps ++ all_lone_places second (all_behind first c)) a.tells ∙ ap (λ ps. places ++ ps) b.tells;
+  ends = subst (λ (x : Conditions). StandsAt (read_on (tokens ++ more) r) last x) (sym (behind_both first second c)) (subst (λ (q : Reader). StandsAt q last (all_behind second (all_behind first c))) (sym (read_both tokens more r)) b.ends);
 }
+  where
+    read_both : (first second : List Spelled) (r : Reader) → read_on (first ++ second) r ≡ read_on second (read_on first r)
+    read_both [] second r = refl
+    read_both (t ∷ first) second r = read_both first second (read_one t r)
 
-passes : (t : At) (all : List At) (c now next : Conditions) (tokens : List Spelled) (places : List Place) (last : Last) → judged_at t c ≡ passed now → ended_behind t.ended (silent now) ≡ next → Led all next tokens places last
-    → Led (t ∷ all) c tokens places last
-passes t all c now next tokens places last e to rest = record {
+-- what is told of more names and levels
+relaxed : (r : Reader) (all : List At) (c : Conditions) (tokens : List Spelled) (places : List Place) (s : Around) (declared declared_so n m : ℕ) (w : List (List Conditional)) → declared ≡ declared_so → n ≤ m
+    → Led r all c tokens places (last_at s declared n w) → Led r all c tokens places (last_at s declared_so m w)
+relaxed r all c tokens places s declared declared_so n m w e few is =
+    let at_end = is.ends in
+    record {
+      hands = is.hands;
+      tells = is.tells;
+      ends = record {
+        base = at_end.base;
+        stand = at_end.stand;
+        holds = at_end.holds;
+        waits = at_end.waits;
+        is = at_end.is ∙ ap (λ x. stands_at at_end.base at_end.stand x) e;
+        stack = at_end.stack;
+        few = let at_most = at_end.few in omega (arith, few, at_most);
+      };
+    }
+
+-- Tokens
+
+-- nothing more
+rests : (r : Reader) (c : Conditions) (last : Last) → StandsAt r last c → Led r [] c [] [] last
+rests r c last e = record { hands = refl; tells = refl; ends = e }
+
+passes : (r : Reader) (t : At) (all : List At) (c now next : Conditions) (tokens : List Spelled) (places : List Place) (last : Last) → judged_at t c ≡ passed now → ended_behind t.ended (silent now) ≡ next → Led r all next tokens places last
+    → Led r (t ∷ all) c tokens places last
+passes r t all c now next tokens places last e to rest = record {
   hands =
       ap (λ (b : Behind). handed_on b.judged t.token ++ all_handed_on all (ended_behind t.ended (silent b.now))) e ∙ ap (all_handed_on all) to ∙ rest.hands;
   tells =
       ap (λ (b : Behind). lone_places b.judged.lone ++ all_lone_places all (ended_behind t.ended (silent b.now))) e ∙ ap (all_lone_places all) to ∙ rest.tells;
-  ends = subst (λ (x : Conditions). EndsAs last (all_behind all x)) (sym (ap (λ (b : Behind). ended_behind t.ended (silent b.now)) e ∙ to)) rest.ends;
+  ends = subst (λ (x : Conditions). StandsAt (read_on tokens r) last (all_behind all x)) (sym (ap (λ (b : Behind). ended_behind t.ended (silent b.now)) e ∙ to)) rest.ends;
 }
 
--- a token is kept with the `#` before it
+-- one that is kept, alone or behind a `#`
+keeps : (t : At) (c : Conditions) (last : Last) → judged_at t c ≡ kept c → StandsAt Hands last (ended_behind t.ended (silent c)) → Led Hands (t ∷ []) c (t.token ∷ []) [] last
+keeps t c last e rest = record {
+  hands = ap (λ (b : Behind). handed_on b.judged t.token ++ []) e;
+  tells = ap (λ (b : Behind). lone_places b.judged.lone ++ []) e;
+  ends = subst (λ (x : Conditions). StandsAt Hands last x) (sym (ap (λ (b : Behind). ended_behind t.ended (silent b.now)) e)) rest;
+}
+
 abbrev both_kept_so : Place → Conditions → Behind
 both_kept_so place now = record { now = now; judged = record none_handed { sign = Some (record { place = place; handed = handed.Kept }); token = Some handed.Kept } }
 
-keeps_both : (t : At) (all : List At) (place : Place) (c now : Conditions) (tokens : List Spelled) (places : List Place) (last : Last) → judged_at t c ≡ both_kept_so place now
-    → Led all (ended_behind t.ended (silent now)) tokens places last → Led (t ∷ all) c (hash place ∷ t.token ∷ tokens) places last
-keeps_both t all place c now tokens places last e rest = record {
-  hands =
-      ap (λ (b : Behind). handed_on b.judged t.token ++ all_handed_on all (ended_behind t.ended (silent b.now))) e
-      ∙ ap (λ hs. as_kept (hash place) ∷ as_kept t.token ∷ hs) rest.hands;
-  tells = ap (λ (b : Behind). lone_places b.judged.lone ++ all_lone_places all (ended_behind t.ended (silent b.now))) e ∙ rest.tells;
-  ends = subst (λ (x : Conditions). EndsAs last (all_behind all x)) (sym (ap (λ (b : Behind). ended_behind t.ended (silent b.now)) e)) rest.ends;
+keeps_both : (t : At) (place : Place) (c now : Conditions) (last : Last) → judged_at t c ≡ both_kept_so place now
+    → StandsAt Hands last (ended_behind t.ended (silent now)) → Led Hands (t ∷ []) c (hash place ∷ t.token ∷ []) [] last
+keeps_both t place c now last e rest = record {
+  hands = ap (λ (b : Behind). handed_on b.judged t.token ++ []) e;
+  tells = ap (λ (b : Behind). lone_places b.judged.lone ++ []) e;
+  ends = subst (λ (x : Conditions). StandsAt Hands last x) (sym (ap (λ (b : Behind). ended_behind t.ended (silent b.now)) e)) rest;
 }
 
 -- between directives, and inside one
@@ -421,113 +594,139 @@ front_kept place t c inner among declared is =
 
 -- what is read of conditions is given up there
 abbrev given_up_so : Conditions → Conditions
-given_up_so c = record c { conditions = [] }
+given_up_so c = record c { pending = []; conditions = [] }
 
-inside_kept : (place : Place) (t : At) (c : Conditions) (inner among : List Conditional) (declared : ℕ) → IsPlain t
-    → judged_at t (state c [] (Some place) inner among None declared) ≡ both_kept_so place (at (given_up_so c) inner among None declared)
-inside_kept place t c inner among declared is =
+inside_kept : (place : Place) (t : At) (c : Conditions) (inner among : List Conditional) (declared : ℕ) → c.pending ≡ [] → IsPlain t
+    → judged_at t (state c (Some place) inner among None declared) ≡ both_kept_so place (at (given_up_so c) inner among None declared)
+inside_kept place t c inner among declared none is =
     let here = at (given_up_so c) inner among None declared in
-    let with_sign : Behind → Behind = λ b. record b { judged = record b.judged { sign = Some (record { place = place; handed = handed.Kept }) } } in
-    ap (λ o. behind_sign o place t.site.is_quiet t.out t.token (state c [] (Some place) inner among None declared)) is.no_word
-    ∙ ap (λ (b : Bool). with_sign (cond b (passed (held false t.token.place here)) (kept here))) is.no_hash
+    let signed : List Pending → Behind → Behind = λ ps b.
+    record b { judged = record b.judged { sign = Some (record { place = place; handed = cond (is_none_pending ps) handed.Kept handed.Unfit }) } } in
+    ap (λ o. behind_sign o place t.site.is_quiet t.out t.token (state c (Some place) inner among None declared)) is.no_word
+    ∙ ap (λ (b : Bool). signed c.pending (cond b (passed (held false t.token.place here)) (kept here))) is.no_hash
+    ∙ ap (λ ps. signed ps (kept here)) none
 
 -- a directive has ended, which is lone or not
 abbrev ended_so : Conditions → Option Place → Option Place → Behind
 ended_so now alone place = record { now = now; judged = record none_handed { lone = alone; ended = place } }
 
-acts : (t : At) (all : List At) (c now : Conditions) (alone place : Option Place) (tokens : List Spelled) (places : List Place) (last : Last) → judged_at t c ≡ ended_so now alone place
-    → Led all (ended_behind t.ended (silent now)) tokens places last → Led (t ∷ all) c tokens (lone_places alone ++ places) last
-acts t all c now alone place tokens places last e rest = record {
-  hands = ap (λ (b : Behind). handed_on b.judged t.token ++ all_handed_on all (ended_behind t.ended (silent b.now))) e ∙ rest.hands;
-  tells =
-      ap (λ (b : Behind). lone_places b.judged.lone ++ all_lone_places all (ended_behind t.ended (silent b.now))) e ∙ ap (λ ps. lone_places alone ++ ps) rest.tells;
-  ends = subst (λ (x : Conditions). EndsAs last (all_behind all x)) (sym (ap (λ (b : Behind). ended_behind t.ended (silent b.now)) e)) rest.ends;
+acts : (r : Reader) (t : At) (c now : Conditions) (alone place : Option Place) (last : Last) → judged_at t c ≡ ended_so now alone place
+    → StandsAt r last (ended_behind t.ended (silent now)) → Led r (t ∷ []) c [] (lone_places alone) last
+acts r t c now alone place last e rest = record {
+  hands = ap (λ (b : Behind). handed_on b.judged t.token ++ []) e;
+  tells = ap (λ (b : Behind). lone_places b.judged.lone ++ []) e ∙ append-nil (lone_places alone);
+  ends = subst (λ (x : Conditions). StandsAt r last x) (sym (ap (λ (b : Behind). ended_behind t.ended (silent b.now)) e)) rest;
 }
+
+takes : (r : Reader) (t : At) (c now : Conditions) (last : Last) → handed_one r t.token ≡ [] → judged_at t c ≡ taken now
+    → StandsAt (read_one t.token r) last (ended_behind t.ended (silent now)) → Led r (t ∷ []) c (t.token ∷ []) [] last
+takes r t c now last none e rest = record {
+  hands = ap (λ (b : Behind). handed_on b.judged t.token ++ []) e ∙ sym (ap (λ hs. hs ++ []) none);
+  tells = ap (λ (b : Behind). lone_places b.judged.lone ++ []) e;
+  ends = subst (λ (x : Conditions). StandsAt (read_one t.token r) last x) (sym (ap (λ (b : Behind). ended_behind t.ended (silent b.now)) e)) rest;
+}
+
+-- behind the end of a directive, or where none ends
+pub ended_stands : (r : Reader) (e : Option ℕ) (st : Stands) (declared n : ℕ) (w : List (List Conditional)) (c : Conditions) → Holds r c → c.waiting ≡ w → levels_of st ≤ n
+    → StandsAt r (last_at (ended_in e (stack_of st)) (unwrap_or e declared) n w) (ended_behind e (stands_at c st declared))
+ended_stands r None st declared n w c holds waits few = record { base = c; stand = st; holds = holds; waits = waits; is = refl; stack = refl; few = few }
+ended_stands r (Some now) (AllStay inside between si sb) declared n w c holds waits few =
+    record { base = c; stand = AllStay [] between refl sb; holds = holds; waits = waits; is = refl; stack = refl; few = omega arith }
+ended_stands r (Some now) (InnerLeft deep x inside between left si sb) declared n w c holds waits few =
+    record { base = c; stand = AllStay [] between refl sb; holds = holds; waits = waits; is = refl; stack = refl; few = omega arith }
+ended_stands r (Some now) (OuterLeft deep x between left sb) declared n w c holds waits few =
+    record { base = c; stand = OuterLeft deep x between left sb; holds = holds; waits = waits; is = refl; stack = refl; few = few }
 
 -- The first tokens of a directive
 
-sign_hash : (is_inner : Bool) (sign t : At) → Begins is_inner (Some sign) t → is_mark mark.Hash sign.token.kind ≡ true
-sign_hash true sign t is = is.1.0
-sign_hash false sign t is = is.1
+sign_hash : (is_inner is_within : Bool) (sign t : At) → Begins true is_inner is_within (Some sign) t → IsSign is_inner sign
+sign_hash true is_within sign t is = is.1
+sign_hash false false sign t is = is.1
+sign_hash false true sign t is = absurd is
 
-sign_goes : (is_inner : Bool) (sign t : At) → Begins is_inner (Some sign) t → GoesOn is_inner sign
-sign_goes true sign t is = is.1.1
-sign_goes false sign t is = tt
+-- inside a directive reading is not at the front of one
+inner_front : (r : Reader) (sign : At) (c : Conditions) → Holds r c → (within r ≡ false → sign.site.is_between ≡ false) → is_front sign c ≡ false
+inner_front Hands sign c holds inside = ap (λ b. b && is_none_pending c.pending) (inside refl)
+inner_front (Reads p others ks) sign c holds inside = ap (λ ps. sign.site.is_between && is_none_pending ps) holds.0 ∙ and-false sign.site.is_between
 
-begins_kept : (is_inner : Bool) (w : ConditionalWord) (a : Awaits) (sign : Option At) (t : At) (all : List At) (c after : Conditions) (inner among : List Conditional) (declared : ℕ) (tokens : List Spelled) (places : List Place) (last : Last)
-    → Begins is_inner sign t → word_of t.token ≡ Some w → GoesOn is_inner t
+outer_front : (sign : At) (c : Conditions) → c.pending ≡ [] → sign.site.is_between ≡ true → is_front sign c ≡ true
+outer_front sign c none between = ap (λ ps. sign.site.is_between && is_none_pending ps) none ∙ ap (λ b. b && true) between
+
+begins_kept : (r : Reader) (is_inner : Bool) (w : ConditionalWord) (a : Awaits) (sign : Option At) (t : At) (all : List At) (c after : Conditions) (inner among : List Conditional) (declared : ℕ) (places : List Place) (last : Last)
+    → Holds r c → Begins true is_inner (within r) sign t → word_of t.token ≡ Some w → GoesOn is_inner t
     → ((m : ℕ) → begun w t.token (begins_at sign t) is_inner (at c inner among None m) ≡ passed (reading is_inner (begins_at sign t) a after inner among m)) → Calm is_inner inner None
-    → Led all (reading is_inner (begins_at sign t) a after inner among (declared_behind t (declared_sign sign declared))) tokens places last
-    → Led (signed_tokens sign (t ∷ all)) (at c inner among None declared) tokens places last
-begins_kept false w a None t all c after inner among declared tokens places last between is goes waits calm rest =
+    → Led r all (reading is_inner (begins_at sign t) a after inner among (declared_behind t (declared_sign sign declared))) [] places last
+    → Led r (signed_tokens sign (t ∷ all)) (at c inner among None declared) [] places last
+begins_kept Hands false w a None t all c after inner among declared places last holds between is goes waits calm rest =
     let place = t.token.place in
-    passes t all (at c inner among None declared) (reading false place a after inner among declared) (reading false place a after inner among (declared_behind t declared)) tokens places last
-    (word_kept w t c inner among declared between is ∙ waits declared)
-    (mid false t after (directive false place a ∷ []) None inner among None declared goes calm) rest
-begins_kept false w a (Some sign) t all c after inner among declared tokens places last between is goes waits calm rest =
+    passes Hands t all (at c inner among None declared) (reading false place a after inner among declared) (reading false place a after inner among (declared_behind t declared)) [] places last
+    (word_kept w t c inner among declared holds between is ∙ waits declared)
+    (mid false t (awaits_it false place a after) None inner among None declared goes calm) rest
+begins_kept Hands false w a (Some sign) t all c after inner among declared places last holds between is goes waits calm rest =
     let place = sign.token.place in
     let now = declared_behind sign declared in
-    passes sign (t ∷ all) (at c inner among None declared) (reading false place awaits.Word c inner among declared) (reading false place awaits.Word c inner among now) tokens places last
-    (sign_kept sign c inner among declared between.0 between.1)
-    (mid false sign c (directive false place awaits.Word ∷ []) None inner among None declared tt calm)
-    (passes t all (reading false place awaits.Word c inner among now) (reading false place a after inner among now) (reading false place a after inner among (declared_behind t now)) tokens places last
+    passes Hands sign (t ∷ all) (at c inner among None declared) (reading false place awaits.Word c inner among declared) (reading false place awaits.Word c inner among now) [] places last
+    (sign_kept sign c inner among declared (outer_front sign c holds between.0) between.1.is)
+    (mid false sign (awaits_it false place awaits.Word c) None inner among None declared tt calm)
+    (passes Hands t all (reading false place awaits.Word c inner among now) (reading false place a after inner among now) (reading false place a after inner among (declared_behind t now)) [] places last
     (signed_kept w place t c inner among now is ∙ waits now)
-    (mid false t after (directive false place a ∷ []) None inner among None now goes calm) rest)
-begins_kept true w a None t all c after inner among declared tokens places last between is goes waits calm rest = absurd between
-begins_kept true w a (Some sign) t all c after inner among declared tokens places last between is goes waits calm rest =
+    (mid false t (awaits_it false place a after) None inner among None now goes calm) rest)
+begins_kept (Reads p others ks) false w a sign t all c after inner among declared places last holds between is goes waits calm rest = absurd between
+begins_kept r true w a None t all c after inner among declared places last holds between is goes waits calm rest = absurd between
+begins_kept r true w a (Some sign) t all c after inner among declared places last holds between is goes waits calm rest =
     let place = sign.token.place in
     let now = declared_behind sign declared in
-    passes sign (t ∷ all) (at c inner among None declared) (state c [] (Some place) inner among None declared) (state c [] (Some place) inner among None now) tokens places last
-    (sign_inner sign c inner among declared between.0 between.1.0)
-    (mid true sign c [] (Some place) inner among None declared between.1.1 calm)
-    (passes t all (state c [] (Some place) inner among None now) (reading true place a after inner among now) (reading true place a after inner among (declared_behind t now)) tokens places last
+    passes r sign (t ∷ all) (at c inner among None declared) (state c (Some place) inner among None declared) (state c (Some place) inner among None now) [] places last
+    (sign_inner sign c inner among declared (inner_front r sign c holds between.0) between.1.is)
+    (mid true sign c (Some place) inner among None declared between.1.goes_on calm)
+    (passes r t all (state c (Some place) inner among None now) (reading true place a after inner among now) (reading true place a after inner among (declared_behind t now)) [] places last
     (signed_inner w place t c inner among now is ∙ waits now)
-    (mid true t after (directive true place a ∷ []) None inner among None now goes calm) rest)
+    (mid true t (awaits_it true place a after) None inner among None now goes calm) rest)
 
 -- where a side is left out, one that ends none
-begins_left : (is_inner : Bool) (w : ConditionalWord) (m : ℕ) (sign : Option At) (t : At) (all : List At) (c : Conditions) (inner among : List Conditional) (b : Bool) (n declared : ℕ) (tokens : List Spelled) (places : List Place) (last : Last)
-    → Begins is_inner sign t → word_of t.token ≡ Some w → GoesOn is_inner t → CalmLeft is_inner inner b → n + 1 ≤ most_levels → ends_side (second inner among) n (Some w) ≡ false
+begins_left : (r : Reader) (is_inner is_within : Bool) (w : ConditionalWord) (m : ℕ) (sign : Option At) (t : At) (all : List At) (c : Conditions) (inner among : List Conditional) (b : Bool) (n declared : ℕ) (places : List Place) (last : Last)
+    → Begins false is_inner is_within sign t → word_of t.token ≡ Some w → GoesOn is_inner t → CalmLeft is_inner inner b → n + 1 ≤ most_levels → ends_side (second inner among) n (Some w) ≡ false
     → level_behind (Some w) n ≡ m
-    → Led all (at c inner among (left_at b m) (declared_behind t (declared_sign sign declared))) tokens places last
-    → Led (signed_tokens sign (t ∷ all)) (at c inner among (left_at b n) declared) tokens places last
-begins_left is_inner w m None t all c inner among b n declared tokens places last between is goes calm few stays level rest =
-    passes t all (at c inner among (left_at b n) declared) (at c inner among (left_at b m) declared) (at c inner among (left_at b m) (declared_behind t declared)) tokens places last
+    → Led r all (at c inner among (left_at b m) (declared_behind t (declared_sign sign declared))) [] places last
+    → Led r (signed_tokens sign (t ∷ all)) (at c inner among (left_at b n) declared) [] places last
+begins_left r is_inner is_within w m None t all c inner among b n declared places last between is goes calm few stays level rest =
+    passes r t all (at c inner among (left_at b n) declared) (at c inner among (left_at b m) declared) (at c inner among (left_at b m) (declared_behind t declared)) [] places last
     (word_left w t None c inner among b n declared is few stays ∙ ap (λ l. passed (at c inner among (left_at b l) declared)) level)
-    (mid is_inner t c [] None inner among (left_at b m) declared goes (calm_at is_inner inner b m calm)) rest
-begins_left is_inner w m (Some sign) t all c inner among b n declared tokens places last between is goes calm few stays level rest =
+    (mid is_inner t c None inner among (left_at b m) declared goes (calm_at is_inner inner b m calm)) rest
+begins_left r is_inner is_within w m (Some sign) t all c inner among b n declared places last between is goes calm few stays level rest =
     let place = sign.token.place in
     let now = declared_behind sign declared in
-    let held_back : ℕ → Conditions = state c [] (Some place) inner among (left_at b n) in
-    passes sign (t ∷ all) (at c inner among (left_at b n) declared) (held_back declared) (held_back now) tokens places last
-    (sign_left sign c inner among b n declared (sign_hash is_inner sign t between) few)
-    (mid is_inner sign c [] (Some place) inner among (left_at b n) declared (sign_goes is_inner sign t between) (calm_at is_inner inner b n calm))
-    (passes t all (held_back now) (at c inner among (left_at b m) now) (at c inner among (left_at b m) (declared_behind t now)) tokens places last
+    let held_back : ℕ → Conditions = state c (Some place) inner among (left_at b n) in
+    passes r sign (t ∷ all) (at c inner among (left_at b n) declared) (held_back declared) (held_back now) [] places last
+    (sign_left sign c inner among b n declared between.is few)
+    (mid is_inner sign c (Some place) inner among (left_at b n) declared between.goes_on (calm_at is_inner inner b n calm))
+    (passes r t all (held_back now) (at c inner among (left_at b m) now) (at c inner among (left_at b m) (declared_behind t now)) [] places last
     (word_left w t (Some place) c inner among b n now is few stays ∙ ap (λ l. passed (at c inner among (left_at b l) now)) level)
-    (mid is_inner t c [] None inner among (left_at b m) now goes (calm_at is_inner inner b m calm)) rest)
+    (mid is_inner t c None inner among (left_at b m) now goes (calm_at is_inner inner b m calm)) rest)
 
 -- and one that ends it
-begins_end : (is_inner : Bool) (w : ConditionalWord) (sign : Option At) (t : At) (all : List At) (c : Conditions) (inner among inner_now among_now : List Conditional) (b : Bool) (declared : ℕ) (tokens : List Spelled) (places : List Place) (last : Last)
-    → Begins is_inner sign t → word_of t.token ≡ Some w → GoesOn is_inner t → CalmLeft is_inner inner b → Calm is_inner inner_now None → 1 ≤ most_levels → ends_side (second inner among) 0 (Some w) ≡ true
+begins_end : (r : Reader) (is_inner is_within : Bool) (w : ConditionalWord) (sign : Option At) (t : At) (all : List At) (c : Conditions) (inner among inner_now among_now : List Conditional) (b : Bool) (declared : ℕ) (places : List Place) (last : Last)
+    → Begins false is_inner is_within sign t → word_of t.token ≡ Some w → GoesOn is_inner t → CalmLeft is_inner inner b → Calm is_inner inner_now None → 1 ≤ most_levels → ends_side (second inner among) 0 (Some w) ≡ true
     → Acted w b c inner among inner_now among_now
-    → Led all (reading false (begins_at sign t) (awaits.End effect.Nothing) c inner_now among_now (declared_behind t (declared_sign sign declared))) tokens places last
-    → Led (signed_tokens sign (t ∷ all)) (at c inner among (left_at b 0) declared) tokens places last
-begins_end is_inner w None t all c inner among inner_now among_now b declared tokens places last between is goes calm calm_now few ends acted rest =
+    → Led r all (reading false (begins_at sign t) (awaits.End effect.Nothing) c inner_now among_now (declared_behind t (declared_sign sign declared))) [] places last
+    → Led r (signed_tokens sign (t ∷ all)) (at c inner among (left_at b 0) declared) [] places last
+begins_end r is_inner is_within w None t all c inner among inner_now among_now b declared places last between is goes calm calm_now few ends acted rest =
     let place = t.token.place in
     let a = awaits.End effect.Nothing in
-    passes t all (at c inner among (left_at b 0) declared) (reading false place a c inner_now among_now declared) (reading false place a c inner_now among_now (declared_behind t declared)) tokens places last
+    passes r t all (at c inner among (left_at b 0) declared) (reading false place a c inner_now among_now declared) (reading false place a c inner_now among_now (declared_behind t declared)) [] places last
     (word_ends w t None c inner among inner_now among_now b declared is ends acted)
-    (mid is_inner t c (directive false place a ∷ []) None inner_now among_now None declared goes calm_now) rest
-begins_end is_inner w (Some sign) t all c inner among inner_now among_now b declared tokens places last between is goes calm calm_now few ends acted rest =
+    (mid is_inner t (awaits_it false place a c) None inner_now among_now None declared goes calm_now) rest
+begins_end r is_inner is_within w (Some sign) t all c inner among inner_now among_now b declared places last between is goes calm calm_now few ends acted rest =
     let place = sign.token.place in
     let now = declared_behind sign declared in
     let a = awaits.End effect.Nothing in
-    let held_back : ℕ → Conditions = state c [] (Some place) inner among (left_at b 0) in
-    passes sign (t ∷ all) (at c inner among (left_at b 0) declared) (held_back declared) (held_back now) tokens places last
-    (sign_left sign c inner among b 0 declared (sign_hash is_inner sign t between) few)
-    (mid is_inner sign c [] (Some place) inner among (left_at b 0) declared (sign_goes is_inner sign t between) (calm_at is_inner inner b 0 calm))
-    (passes t all (held_back now) (reading false place a c inner_now among_now now) (reading false place a c inner_now among_now (declared_behind t now)) tokens places last
+    let held_back : ℕ → Conditions = state c (Some place) inner among (left_at b 0) in
+    passes r sign (t ∷ all) (at c inner among (left_at b 0) declared) (held_back declared) (held_back now) [] places last
+    (sign_left sign c inner among b 0 declared between.is few)
+    (mid is_inner sign c (Some place) inner among (left_at b 0) declared between.goes_on (calm_at is_inner inner b 0 calm))
+    (passes r t all (held_back now) (reading false place a c inner_now among_now now) (reading false place a c inner_now among_now (declared_behind t now)) [] places last
     (word_ends w t (Some place) c inner among inner_now among_now b now is ends acted)
-    (mid is_inner t c (directive false place a ∷ []) None inner_now among_now None now goes calm_now) rest)
+    (mid is_inner t (awaits_it false place a c) None inner_now among_now None now goes calm_now) rest)
 
 -- The tokens of a condition
 
@@ -551,89 +750,44 @@ begun_asking is_inner false t place c inner among declared is =
     ap (λ (b : Bool). cond b (passed (asking_on place is_inner false (condition_took first condition_begun) here)) (unfit here)) is
 
 -- a token that it takes, whatever then is
-next_taken : (last is_inner wanted : Bool) (place : Place) (t : At) (k : Condition) (c : Conditions) (inner among : List Conditional) (declared : ℕ) → IsNext last t k
+next_taken : (is_inner wanted : Bool) (place : Place) (t : At) (k : Condition) (c : Conditions) (inner among : List Conditional) (declared : ℕ) → IsPlain t → fits grammar known (atom_of t.token) k.stack ≡ true
     → judged_at t (reading is_inner place (awaits.Condition wanted) (with_condition k c) inner among declared)
     ≡ went_on wanted t.site.is_quiet t.out t.token (condition_took t.token k) (directive is_inner place (awaits.Condition wanted)) (at c inner among None declared)
-next_taken last is_inner wanted place t k c inner among declared is =
+next_taken is_inner wanted place t k c inner among declared plain is_taken =
     let here = at c inner among None declared in
     let p = directive is_inner place (awaits.Condition wanted) in
     let then = went_on wanted t.site.is_quiet t.out t.token (condition_took t.token k) p here in
     ap (λ (b : Bool). cond b (passed (held (t.site.is_between && false) t.token.place (reading is_inner place (awaits.Condition wanted) (with_condition k c) inner among declared)))
-    (cond (fits grammar known (atom_of t.token) k.stack) then (unfit here))) is.plain.no_hash
-    ∙ ap (λ (b : Bool). cond b then (unfit here)) is.is_taken
+    (cond (fits grammar known (atom_of t.token) k.stack) then (unfit here))) plain.no_hash
+    ∙ ap (λ (b : Bool). cond b then (unfit here)) is_taken
 
 -- one that is not the last
-next_goes : (is_inner wanted : Bool) (place : Place) (t : At) (k : Condition) (c : Conditions) (inner among : List Conditional) (declared : ℕ) → IsNext false t k
+next_goes : (is_inner wanted : Bool) (place : Place) (t : At) (k : Condition) (c : Conditions) (inner among : List Conditional) (declared : ℕ) → IsPlain t → fits grammar known (atom_of t.token) k.stack ≡ true
+    → is_whole (condition_took t.token k) ≡ false
     → judged_at t (reading is_inner place (awaits.Condition wanted) (with_condition k c) inner among declared)
     ≡ taken (asking_on place is_inner wanted (condition_took t.token k) (saying t.site.is_quiet (too_much c.longest t.token (condition_took t.token k)) (tokens_counted t.site.is_quiet (condition_took t.token k) (at c inner among None declared))))
-next_goes is_inner wanted place t k c inner among declared is =
+next_goes is_inner wanted place t k c inner among declared plain is_taken whole =
     let here = at c inner among None declared in
     let p = directive is_inner place (awaits.Condition wanted) in
     let next = condition_took t.token k in
     let quiet = t.site.is_quiet in
-    next_taken false is_inner wanted place t k c inner among declared is
+    next_taken is_inner wanted place t k c inner among declared plain is_taken
     ∙ ap (λ (b : Bool). cond b (decided (verdict_of declared t.out next) wanted quiet next p here)
-    (taken (asking_on place is_inner wanted next (saying quiet (too_much c.longest t.token next) (tokens_counted quiet next here))))) is.whole
+    (taken (asking_on place is_inner wanted next (saying quiet (too_much c.longest t.token next) (tokens_counted quiet next here))))) whole
 
 -- and the last
-next_ends : (is_inner wanted : Bool) (place : Place) (t : At) (k : Condition) (c : Conditions) (inner among : List Conditional) (declared : ℕ) → IsNext true t k
+next_ends : (is_inner wanted : Bool) (place : Place) (t : At) (k : Condition) (c : Conditions) (inner among : List Conditional) (declared : ℕ) → IsPlain t → fits grammar known (atom_of t.token) k.stack ≡ true
+    → is_whole (condition_took t.token k) ≡ true
     → judged_at t (reading is_inner place (awaits.Condition wanted) (with_condition k c) inner among declared)
     ≡ decided (verdict_of declared t.out (condition_took t.token k)) wanted t.site.is_quiet (condition_took t.token k) (directive is_inner place (awaits.Condition wanted)) (at c inner among None declared)
-next_ends is_inner wanted place t k c inner among declared is =
+next_ends is_inner wanted place t k c inner among declared plain is_taken whole =
     let here = at c inner among None declared in
     let p = directive is_inner place (awaits.Condition wanted) in
     let next = condition_took t.token k in
     let quiet = t.site.is_quiet in
-    next_taken true is_inner wanted place t k c inner among declared is
+    next_taken is_inner wanted place t k c inner among declared plain is_taken
     ∙ ap (λ (b : Bool). cond b (decided (verdict_of declared t.out next) wanted quiet next p here)
-    (taken (asking_on place is_inner wanted next (saying quiet (too_much c.longest t.token next) (tokens_counted quiet next here))))) is.whole
-
-takes : (t : At) (all : List At) (c now next : Conditions) (tokens : List Spelled) (places : List Place) (last : Last) → judged_at t c ≡ taken now → ended_behind t.ended (silent now) ≡ next → Led all next tokens places last
-    → Led (t ∷ all) c tokens places last
-takes t all c now next tokens places last e to rest = record {
-  hands =
-      ap (λ (b : Behind). handed_on b.judged t.token ++ all_handed_on all (ended_behind t.ended (silent b.now))) e ∙ ap (all_handed_on all) to ∙ rest.hands;
-  tells =
-      ap (λ (b : Behind). lone_places b.judged.lone ++ all_lone_places all (ended_behind t.ended (silent b.now))) e ∙ ap (all_lone_places all) to ∙ rest.tells;
-  ends = subst (λ (x : Conditions). EndsAs last (all_behind all x)) (sym (ap (λ (b : Behind). ended_behind t.ended (silent b.now)) e ∙ to)) rest.ends;
-}
-
--- all before the last
-asks : (read : List At) (end : At) (all : List At) (k : Condition) (is_inner wanted : Bool) (place : Place) (c : Conditions) (inner among : List Conditional) (declared : ℕ) (tokens : List Spelled) (places : List Place) (last : Last)
-    → AreNext is_inner read end k → Calm is_inner inner None
-    → ((after : Conditions) → after.waiting ≡ c.waiting → Led (end ∷ all) (reading is_inner place (awaits.Condition wanted) (with_condition (condition_behind read k) after) inner among (declared_tokens read declared)) tokens places last)
-    → Led (read ++ end ∷ all) (reading is_inner place (awaits.Condition wanted) (with_condition k c) inner among declared) tokens places last
-asks [] end all k is_inner wanted place c inner among declared tokens places last are calm rest = rest c refl
-asks (t ∷ read) end all k is_inner wanted place c inner among declared tokens places last are calm rest =
-    let next = condition_took t.token k in
-    let quiet = t.site.is_quiet in
-    let after = counted quiet next c in
-    let now = asking_on place is_inner wanted next (saying quiet (too_much c.longest t.token next) (tokens_counted quiet next (at c inner among None declared))) in
-    takes t (read ++ end ∷ all) (reading is_inner place (awaits.Condition wanted) (with_condition k c) inner among declared) now
-    (reading is_inner place (awaits.Condition wanted) (with_condition next after) inner among (declared_behind t declared)) tokens places last
-    (next_goes is_inner wanted place t k c inner among declared are.0)
-    (mid is_inner t (with_condition next after) (directive is_inner place (awaits.Condition wanted) ∷ []) None inner among None declared are.1.0 calm)
-    (asks read end all next is_inner wanted place after inner among (declared_behind t declared) tokens places last are.1.1 calm rest)
-
-last_next : (is_inner : Bool) (read : List At) (end : At) (k : Condition) → AreNext is_inner read end k → IsNext true end (condition_behind read k)
-last_next is_inner [] end k are = are
-last_next is_inner (t ∷ read) end k are = last_next is_inner read end (condition_took t.token k) are.1.1
-
--- where a side is left out
-skips : (read : List At) (end : At) (all : List At) (k : Condition) (is_inner : Bool) (c : Conditions) (inner among : List Conditional) (b : Bool) (n declared : ℕ) (tokens : List Spelled) (places : List Place) (last : Last)
-    → AreNext is_inner read end k → CalmLeft is_inner inner b → n + 1 ≤ most_levels
-    → Led (end ∷ all) (at c inner among (left_at b n) (declared_tokens read declared)) tokens places last
-    → Led (read ++ end ∷ all) (at c inner among (left_at b n) declared) tokens places last
-skips [] end all k is_inner c inner among b n declared tokens places last are calm few rest = rest
-skips (t ∷ read) end all k is_inner c inner among b n declared tokens places last are calm few rest =
-    passes t (read ++ end ∷ all) (at c inner among (left_at b n) declared) (at c inner among (left_at b n) declared) (at c inner among (left_at b n) (declared_behind t declared)) tokens places last
-    (plain_left t c inner among b n declared are.0.plain few)
-    (mid is_inner t c [] None inner among (left_at b n) declared are.1.0 (calm_at is_inner inner b n calm))
-    (skips read end all (condition_took t.token k) is_inner c inner among b n (declared_behind t declared) tokens places last are.1.1 calm few rest)
-
-longer : (read rest : List At) → length rest ≤ length (read ++ rest)
-longer [] rest = omega arith
-longer (t ∷ read) rest = omega (arith, longer read rest)
+    (taken (asking_on place is_inner wanted next (saying quiet (too_much c.longest t.token next) (tokens_counted quiet next here))))) whole
 
 -- Facts of what is open
 
@@ -661,37 +815,7 @@ other_same x e = ap (λ b. cond b x (record x { is_second = true; stays = not x.
 other_is : (x : Open) → x.is_second ≡ false → other_side x ≡ record x { is_second = true; stays = not x.stays }
 other_is x e = ap (λ b. cond b x (record x { is_second = true; stays = not x.stays })) e
 
-other_second : (x : Open) → (other_side x).is_second ≡ true
-other_second x = go x.is_second refl
-  where
-    go : (b : Bool) → x.is_second ≡ b → (other_side x).is_second ≡ true
-    go true e = ap (λ (o : Open). o.is_second) (other_same x e) ∙ e
-    go false e = ap (λ (o : Open). o.is_second) (other_is x e)
-
-other_place : (x : Open) → (other_side x).place ≡ x.place
-other_place x = go x.is_second
-  where
-    go : (b : Bool) → (cond b x (record x { is_second = true; stays = not x.stays })).place ≡ x.place
-    go true = refl
-    go false = refl
-
-turned_same : (x : Open) (around : List Open) (z : Conditional) (cs : List Conditional) → conditionals (x ∷ around) ≡ z ∷ cs → conditionals (other_side x ∷ around) ≡ record z { is_second = true } ∷ cs
-turned_same x around z cs same =
-    ap (λ p. record { place = p; is_second = (other_side x).is_second } ∷ conditionals around) (other_place x)
-    ∙ ap (λ b. record { place = x.place; is_second = b } ∷ conditionals around) (other_second x)
-    ∙ ap turned_first same
-
-abbrev is_first_second : List Conditional → Bool
-is_first_second [] = false
-is_first_second (z ∷ cs) = z.is_second
-
-second_same : (x : Open) (around : List Open) (z : Conditional) (cs : List Conditional) → conditionals (x ∷ around) ≡ z ∷ cs → z.is_second ≡ x.is_second
-second_same x around z cs same = ap is_first_second (sym same)
-
 -- what stays as it is
-same_still : (x : Open) (around : List Open) (cs : List Conditional) → x.is_second ≡ true → conditionals (x ∷ around) ≡ cs → conditionals (other_side x ∷ around) ≡ cs
-same_still x around cs e same = ap (λ (o : Open). conditional_of o ∷ conditionals around) (other_same x e) ∙ same
-
 kept_still : (x : Open) (around : List Open) → x.is_second ≡ true → are_kept (x ∷ around) ≡ true → are_kept (other_side x ∷ around) ≡ true
 kept_still x around e stay = ap (λ (o : Open). o.stays && are_kept around) (other_same x e) ∙ stay
 
@@ -733,38 +857,6 @@ no_lone w first end s left = go end.site.is_quiet
     go true = refl
     go false = ap (λ x. cond (x && is_lone w (seconds (s.inside ++ s.between))) (begins first ∷ []) []) left
 
--- The semicolon of an `Ifnot`
-
-turns_among : (is_inner : Bool) (place : Place) (t : At) (c : Conditions) (z : Conditional) (among : List Conditional) (declared : ℕ) → IsSemicolon t
-    → judged_at t (reading is_inner place (awaits.End effect.Turns) c [] (z ∷ among) declared)
-    ≡ ended_so (cond z.is_second (at c [] (z ∷ among) None declared) (at c [] (record z { is_second = true } ∷ among) (left_at false 0) declared)) (cond z.is_second (cond t.site.is_quiet None (Some place)) None) (cond t.site.is_quiet None (Some place))
-turns_among is_inner place t c z among declared is = end_kept effect.Turns is_inner place t c [] (z ∷ among) declared is ∙ go z.is_second
-  where
-    here : Conditions
-    here = at c [] (z ∷ among) None declared
-
-    there : Conditions
-    there = at c [] (record z { is_second = true } ∷ among) (left_at false 0) declared
-
-    go : (b : Bool) → (let x = cond b (lone t.site.is_quiet place here) (passed there) in record { now = x.now; judged = record x.judged { ended = cond t.site.is_quiet None (Some place) } }) ≡ ended_so (cond b here there) (cond b (cond t.site.is_quiet None (Some place)) None) (cond t.site.is_quiet None (Some place))
-    go true = refl
-    go false = refl
-
-turns_inner : (is_inner : Bool) (place : Place) (t : At) (c : Conditions) (z : Conditional) (inner among : List Conditional) (declared : ℕ) → IsSemicolon t
-    → judged_at t (reading is_inner place (awaits.End effect.Turns) c (z ∷ inner) among declared)
-    ≡ ended_so (cond z.is_second (at c (z ∷ inner) among None declared) (at c (record z { is_second = true } ∷ inner) among (left_at true 0) declared)) (cond z.is_second (cond t.site.is_quiet None (Some place)) None) (cond t.site.is_quiet None (Some place))
-turns_inner is_inner place t c z inner among declared is = end_kept effect.Turns is_inner place t c (z ∷ inner) among declared is ∙ go z.is_second
-  where
-    here : Conditions
-    here = at c (z ∷ inner) among None declared
-
-    there : Conditions
-    there = at c (record z { is_second = true } ∷ inner) among (left_at true 0) declared
-
-    go : (b : Bool) → (let x = cond b (lone t.site.is_quiet place here) (passed there) in record { now = x.now; judged = record x.judged { ended = cond t.site.is_quiet None (Some place) } }) ≡ ended_so (cond b here there) (cond b (cond t.site.is_quiet None (Some place)) None) (cond t.site.is_quiet None (Some place))
-    go true = refl
-    go false = refl
-
 -- Small facts
 
 bool_cases : (P : Bool → Type 0) (b : Bool) → P true → P false → P b
@@ -793,7 +885,7 @@ asking_level : (wanted : Bool) (n : ℕ) → level_behind (Some (asking wanted))
 asking_level true n = omega arith
 asking_level false n = omega arith
 
--- what is behind the first tokens is shorter
+-- what is behind the first tokens is shorter, and begins with these names
 fewer : (first : First) (tokens : List At) → length tokens + 1 ≤ length (first_tokens first tokens)
 fewer first tokens = go first.sign
   where
@@ -801,7 +893,1057 @@ fewer first tokens = go first.sign
     go None = omega arith
     go (Some sign) = omega arith
 
--- what is open at last
+declared_behind_first : (first : First) (tokens : List At) (declared : ℕ) → declared_tokens tokens (declared_first first declared) ≡ declared_tokens (first_tokens first tokens) declared
+declared_behind_first first tokens declared = go first.sign
+  where
+    go : (sign : Option At) → declared_tokens tokens (declared_behind first.word (declared_sign sign declared)) ≡ declared_tokens (signed_tokens sign (first.word ∷ tokens)) declared
+    go None = refl
+    go (Some sign) = refl
+
+some_open : (deep : List Open) (x : Open) (around : List Open) → deep ++ x ∷ around ≡ [] → ⊥
+some_open [] x around e = cc
+some_open (y ∷ deep) x around e = cc
+
+no_false : true ≡ false → ⊥
+no_false e = cc
+
+none_open : (is_inner : Bool) (s : Around) → NoneInside is_inner s → is_inner ≡ false → s.inside ≡ []
+none_open false s right e = right
+none_open true s right e = cc
+
+-- what waits around a directive
+holds_on : (r : Reader) (c base : Conditions) → Holds r c → Holds r (record base { pending = c.pending; conditions = c.conditions })
+holds_on Hands c base holds = holds
+holds_on (Reads p others ks) c base holds = holds
+
+-- where all is kept, while a directive is read
+record KeptAt (p : Pending) (others : List Pending) (ks : List Condition) (last : Last) (c : Conditions) : Type 0 where
+  base : Conditions
+  inside_kept : are_kept last.around.inside ≡ true
+  between_kept : are_kept last.around.between ≡ true
+  waits : base.waiting ≡ last.waiting
+  is : c ≡ at (record base { pending = p ∷ others; conditions = ks }) (conditionals last.around.inside) (conditionals last.around.between) None last.declared
+
+kept_at : (p : Pending) (others : List Pending) (ks : List Condition) (last : Last) (c : Conditions) → StandsAt (Reads p others ks) last c → all_kept last.around ≡ true → KeptAt p others ks last c
+kept_at p others ks last c e all = go e.stand e.stack e.is
+  where
+    go : (st : Stands) → stack_of st ≡ last.around → c ≡ stands_at e.base st last.declared → KeptAt p others ks last c
+    go (AllStay inside between si sb) stack is = record {
+      base = e.base;
+      inside_kept = ap (λ (x : Around). are_kept x.inside) (sym stack) ∙ si;
+      between_kept = ap (λ (x : Around). are_kept x.between) (sym stack) ∙ sb;
+      waits = e.waits;
+      is =
+          is
+          ∙ ap (λ ps. at (record e.base { pending = ps }) (conditionals inside) (conditionals between) None last.declared) e.holds.0
+          ∙ ap (λ cs. at (record e.base { pending = p ∷ others; conditions = cs }) (conditionals inside) (conditionals between) None last.declared) e.holds.1
+          ∙ ap (λ (x : Around). at (record e.base { pending = p ∷ others; conditions = ks }) (conditionals x.inside) (conditionals x.between) None last.declared) stack;
+    }
+    go (InnerLeft deep x inside between left si sb) stack is =
+        absurd (let never : true ≡ false = sym all ∙ ap all_kept (sym stack) ∙ inner_not_kept deep x inside between left in cc)
+    go (OuterLeft deep x between left sb) stack is =
+        absurd (let never : true ≡ false = sym all ∙ ap all_kept (sym stack) ∙ not_kept deep x between left in cc)
+
+-- Parts between the tokens of a directive
+
+abbrev last_behind : Answers → Parts → Around → ℕ → ℕ → List (List Conditional) → Last
+last_behind d parts s declared n w = last_at (behind_parts d s parts) (declared_tokens (all_tokens parts) declared) (n + length (all_tokens parts)) w
+
+abbrev Leads : Answers → Parts → Type 0
+Leads d parts = (r : Reader) (s : Around) (declared n : ℕ) (w : List (List Conditional)) (c : Conditions) → StandsAt r (last_at s declared n w) c → AreParts d (within r) s declared parts → TakesAll r (kept_sides d s parts)
+    → n + length (all_tokens parts) ≤ most_levels
+    → Led r (all_tokens parts) c (kept_sides d s parts) (lone_parts d s parts) (last_behind d parts s declared n w)
+
+-- of one that is kept
+within_led : (d : Answers) (parts : Parts) → Leads d parts → (r : Reader) (rest : List At) (is_inner : Bool) (place : Place) (a : Awaits) (c : Conditions) (ks after : List Condition) (s : Around) (declared n : ℕ) (w : List (List Conditional)) (start : Conditions) (places : List Place) (last : Last)
+    → let p = directive is_inner place a in let l = last_behind d parts s declared n w in
+    StandsAt (Reads p c.pending ks) (last_at s declared n w) start → all_kept s ≡ true → AreParts d true s declared parts → StayAs d s parts → TakesAll (Reads p c.pending ks) (kept_sides d s parts)
+    → read_on (kept_sides d s parts) (Reads p c.pending ks) ≡ Reads p c.pending after → n + length (all_tokens parts) ≤ most_levels
+    → ((base : Conditions) → base.waiting ≡ w → are_kept l.around.inside ≡ true → are_kept l.around.between ≡ true
+    → Led r rest (reading is_inner place a (record base { pending = c.pending; conditions = after }) (conditionals l.around.inside) (conditionals l.around.between) l.declared) [] places last)
+    → Led r (all_tokens parts ++ rest) start [] (lone_parts d s parts ++ places) last
+within_led d parts leads r rest is_inner place a c ks after s declared n w start places last e all are stay taken_so read few further =
+    let p = directive is_inner place a in
+    let l = last_behind d parts s declared n w in
+    let first = leads (Reads p c.pending ks) s declared n w start e are taken_so few in
+    let there = all_behind (all_tokens parts) start in
+    let stands : StandsAt (Reads p c.pending after) l there = subst (λ (q : Reader). StandsAt q l there) read first.ends in
+    let k = kept_at p c.pending after l there stands (stay ∙ all) in
+    let more = further k.base k.waits k.inside_kept k.between_kept in
+    let second : Led r rest there [] places last = subst (λ (x : Conditions). Led r rest x [] places last) (sym k.is) more in
+    record {
+      hands =
+          hands_both (all_tokens parts) rest start
+          ∙ ap (λ hs. hs ++ all_handed_on rest there) (first.hands ∙ nothing_handed (kept_sides d s parts) p c.pending ks)
+          ∙ second.hands;
+      tells = tells_both (all_tokens parts) rest start ∙ ap (λ ps. ps ++ all_lone_places rest there) first.tells ∙ ap (λ ps. lone_parts d s parts ++ ps) second.tells;
+      ends = subst (λ (x : Conditions). StandsAt r last x) (sym (behind_both (all_tokens parts) rest start)) second.ends;
+    }
+
+-- of which nothing is kept
+takes_none : (tokens : List Spelled) (r : Reader) → tokens ≡ [] → TakesAll r tokens
+takes_none tokens r e = subst (TakesAll r) (sym e) tt
+
+reads_none : (tokens : List Spelled) (r : Reader) → tokens ≡ [] → read_on tokens r ≡ r
+reads_none tokens r e = ap (λ ts. read_on ts r) e
+
+-- of one that stands in a side that is left out
+left_led : (d : Answers) (parts : Parts) → Leads d parts → (r : Reader) (rest : List At) (s : Around) (declared n : ℕ) (w : List (List Conditional)) (start : Conditions) (places : List Place) (last : Last)
+    → StandsAt r (last_at s declared n w) start → AreParts d (within r) s declared parts → kept_sides d s parts ≡ [] → n + length (all_tokens parts) ≤ most_levels
+    → ((c : Conditions) → StandsAt r (last_behind d parts s declared n w) c → Led r rest c [] places last)
+    → Led r (all_tokens parts ++ rest) start [] (lone_parts d s parts ++ places) last
+left_led d parts leads r rest s declared n w start places last e are none few further =
+    let l = last_behind d parts s declared n w in
+    let there = all_behind (all_tokens parts) start in
+    let first = leads r s declared n w start e are (takes_none (kept_sides d s parts) r none) few in
+    let stands : StandsAt r l there = subst (λ (q : Reader). StandsAt q l there) (reads_none (kept_sides d s parts) r none) first.ends in
+    let second = further there stands in
+    record {
+      hands =
+          hands_both (all_tokens parts) rest start
+          ∙ ap (λ hs. hs ++ all_handed_on rest there) (first.hands ∙ ap (handed_to r) none)
+          ∙ second.hands;
+      tells = tells_both (all_tokens parts) rest start ∙ ap (λ ps. ps ++ all_lone_places rest there) first.tells ∙ ap (λ ps. lone_parts d s parts ++ ps) second.tells;
+      ends = subst (λ (x : Conditions). StandsAt r last x) (sym (behind_both (all_tokens parts) rest start)) second.ends;
+    }
+
+-- a plain token of a side that is left out
+left_token : (r : Reader) (t : At) (all : List At) (s : Around) (declared n : ℕ) (w : List (List Conditional)) (start : Conditions) (tokens : List Spelled) (places : List Place) (last : Last)
+    → StandsAt r (last_at s declared n w) start → all_kept s ≡ false → IsPlain t → n + 1 ≤ most_levels
+    → ((c : Conditions) → StandsAt r (last_at (ended_in t.ended s) (declared_behind t declared) n w) c → Led r all c tokens places last)
+    → Led r (t ∷ all) start tokens places last
+left_token r t all s declared n w start tokens places last e left plain few further =
+    subst (λ (x : Conditions). Led r (t ∷ all) x tokens places last) (sym e.is) (go e.stand e.stack e.few)
+  where
+    goes : (st : Stands) (b : Bool) (m : ℕ) → stack_of st ≡ s → left_of st ≡ left_at b m → m ≤ n → levels_of st ≤ n → Led r (t ∷ all) (stands_at e.base st declared) tokens places last
+    goes st b m stack is_left few_m few_st =
+        let here = stands_at e.base st declared in
+        let there = at e.base (inner_of st) (among_of st) (left_at b m) declared in
+        let same : there ≡ here = ap (λ x. at e.base (inner_of st) (among_of st) x declared) (sym is_left) in
+        let behind : StandsAt r (last_at (ended_in t.ended s) (declared_behind t declared) n w) (ended_behind t.ended there) =
+        subst (λ (x : Conditions). StandsAt r (last_at (ended_in t.ended s) (declared_behind t declared) n w) (ended_behind t.ended x)) (sym same)
+        (subst (λ (x : Around). StandsAt r (last_at (ended_in t.ended x) (declared_behind t declared) n w) (ended_behind t.ended here)) stack
+        (ended_stands r t.ended st declared n w e.base e.holds e.waits few_st)) in
+        subst (λ (x : Conditions). Led r (t ∷ all) x tokens places last) same
+        (passes r t all there there (ended_behind t.ended there) tokens places last (plain_left t e.base (inner_of st) (among_of st) b m declared plain (omega (arith, few, few_m))) refl
+        (further (ended_behind t.ended there) behind))
+
+    go : (st : Stands) → stack_of st ≡ s → levels_of st ≤ n → Led r (t ∷ all) (stands_at e.base st declared) tokens places last
+    go (AllStay inside between si sb) stack few_st = absurd (let never : true ≡ false = sym (both_kept inside between si sb) ∙ ap all_kept stack ∙ left in cc)
+    go (InnerLeft deep x inside between gone si sb) stack few_st = goes (InnerLeft deep x inside between gone si sb) true (length deep) stack refl few_st few_st
+    go (OuterLeft deep x between gone sb) stack few_st = goes (OuterLeft deep x between gone sb) false (length deep) stack refl few_st few_st
+
+-- The last token of a directive
+
+abbrev opened_at : Bool → Bool → Place → Conditions → List Conditional → List Conditional → ℕ → Conditions
+opened_at is_inner b place c inner among declared =
+    let new : Conditional = record { place = place; is_second = false } in
+    at c (cond is_inner (new ∷ inner) inner) (cond is_inner among (new ∷ among)) (cond b None (left_at is_inner 0)) declared
+
+abbrev new_open : Place → Bool → Open
+new_open place b = record { place = place; is_second = false; stays = b }
+
+-- one is opened more
+opened_stands : (r : Reader) (is_inner b : Bool) (place : Place) (t : At) (inside between : List Open) (declared n : ℕ) (w : List (List Conditional)) (c : Conditions) → Holds r c → c.waiting ≡ w
+    → are_kept inside ≡ true → are_kept between ≡ true → NoneInsideBehind true is_inner t (record { inside = inside; between = between })
+    → StandsAt r (last_at (ended_in t.ended (opened_more is_inner (new_open place b) (record { inside = inside; between = between }))) (declared_behind t declared) n w)
+    (ended_behind t.ended (opened_at is_inner b place c (conditionals inside) (conditionals between) declared))
+opened_stands r true b place t inside between declared n w c holds waits si sb none =
+    subst (λ k. StandsAt r (last_at (ended_in t.ended (cond k (record { inside = new_open place b ∷ inside; between = between }) (record { inside = inside; between = new_open place b ∷ between }))) (declared_behind t declared) n w)
+    (ended_behind t.ended (opened_at true b place c (conditionals inside) (conditionals between) declared))) (sym sb) (go b)
+  where
+    go : (b : Bool) → StandsAt r (last_at (ended_in t.ended (record { inside = new_open place b ∷ inside; between = between })) (declared_behind t declared) n w)
+        (ended_behind t.ended (opened_at true b place c (conditionals inside) (conditionals between) declared))
+    go true = ended_stands r t.ended (AllStay (new_open place true ∷ inside) between si sb) declared n w c holds waits (omega arith)
+    go false = ended_stands r t.ended (InnerLeft [] (new_open place false) inside between refl si sb) declared n w c holds waits (omega arith)
+opened_stands r false true place t inside between declared n w c holds waits si sb none =
+    ended_stands r t.ended (AllStay inside (new_open place true ∷ between) si sb) declared n w c holds waits (omega arith)
+opened_stands r false false place t inside between declared n w c holds waits si sb none = go t.ended none
+  where
+    x : Open
+    x = new_open place false
+
+    go : (e : Option ℕ) → (e ≡ None → inside ≡ []) → StandsAt r (last_at (ended_in e (record { inside = inside; between = x ∷ between })) (unwrap_or e declared) n w)
+        (ended_behind e (opened_at false false place c (conditionals inside) (conditionals between) declared))
+    go (Some now) none = record { base = c; stand = OuterLeft [] x between refl sb; holds = holds; waits = waits; is = refl; stack = refl; few = omega arith }
+    go None none =
+        subst (λ i. StandsAt r (last_at (record { inside = i; between = x ∷ between }) declared n w) (opened_at false false place c (conditionals i) (conditionals between) declared)) (sym (none refl))
+        (record { base = c; stand = OuterLeft [] x between refl sb; holds = holds; waits = waits; is = refl; stack = refl; few = omega arith })
+
+-- the semicolon of an `Ifnot`
+abbrev LastLed : ConditionalWord → (Around → Around) → Effect → Type 0
+LastLed w act e = (r : Reader) (is_inner : Bool) (first : First) (t : At) (inside between : List Open) (declared n : ℕ) (v : List (List Conditional)) (c : Conditions) → Holds r c → c.waiting ≡ v
+    → are_kept inside ≡ true → are_kept between ≡ true → IsSemicolon t
+    → Led r (t ∷ []) (reading is_inner (begins first) (awaits.End e) c (conditionals inside) (conditionals between) declared) [] (lone_at w first t (record { inside = inside; between = between }))
+    (last_at (ended_in t.ended (act (record { inside = inside; between = between }))) (declared_behind t declared) n v)
+
+abbrev unless_quiet : At → Place → Option Place
+unless_quiet t place = cond t.site.is_quiet None (Some place)
+
+turns_among : (is_inner : Bool) (place : Place) (t : At) (c : Conditions) (z : Conditional) (among : List Conditional) (declared : ℕ) → IsSemicolon t
+    → judged_at t (reading is_inner place (awaits.End effect.Turns) c [] (z ∷ among) declared)
+    ≡ ended_so (cond z.is_second (at c [] (z ∷ among) None declared) (at c [] (record z { is_second = true } ∷ among) (left_at false 0) declared)) (cond z.is_second (unless_quiet t place) None) (unless_quiet t place)
+turns_among is_inner place t c z among declared is = end_kept effect.Turns is_inner place t c [] (z ∷ among) declared is ∙ go z.is_second
+  where
+    here : Conditions
+    here = at c [] (z ∷ among) None declared
+
+    there : Conditions
+    there = at c [] (record z { is_second = true } ∷ among) (left_at false 0) declared
+
+    go : (b : Bool) → (let x = cond b (lone t.site.is_quiet place here) (passed there) in record { now = x.now; judged = record x.judged { ended = unless_quiet t place } }) ≡ ended_so (cond b here there) (cond b (unless_quiet t place) None) (unless_quiet t place)
+    go true = refl
+    go false = refl
+
+turns_inner : (is_inner : Bool) (place : Place) (t : At) (c : Conditions) (z : Conditional) (inner among : List Conditional) (declared : ℕ) → IsSemicolon t
+    → judged_at t (reading is_inner place (awaits.End effect.Turns) c (z ∷ inner) among declared)
+    ≡ ended_so (cond z.is_second (at c (z ∷ inner) among None declared) (at c (record z { is_second = true } ∷ inner) among (left_at true 0) declared)) (cond z.is_second (unless_quiet t place) None) (unless_quiet t place)
+turns_inner is_inner place t c z inner among declared is = end_kept effect.Turns is_inner place t c (z ∷ inner) among declared is ∙ go z.is_second
+  where
+    here : Conditions
+    here = at c (z ∷ inner) among None declared
+
+    there : Conditions
+    there = at c (record z { is_second = true } ∷ inner) among (left_at true 0) declared
+
+    go : (b : Bool) → (let x = cond b (lone t.site.is_quiet place here) (passed there) in record { now = x.now; judged = record x.judged { ended = unless_quiet t place } }) ≡ ended_so (cond b here there) (cond b (unless_quiet t place) None) (unless_quiet t place)
+    go true = refl
+    go false = refl
+
+-- the conditionals of what was turned, or of what stays as it is
+still_is : (x : Open) (around : List Open) → x.is_second ≡ true → conditionals (other_side x ∷ around) ≡ conditionals (x ∷ around)
+still_is x around e = ap (λ (o : Open). conditionals (o ∷ around)) (other_same x e)
+
+turned_is : (x : Open) (around : List Open) → x.is_second ≡ false → conditionals (other_side x ∷ around) ≡ record { place = x.place; is_second = true } ∷ conditionals around
+turned_is x around e = ap (λ (o : Open). conditionals (o ∷ around)) (other_is x e)
+
+told_as : (r : Reader) (t : At) (c : Conditions) (places told : List Place) (last : Last) → places ≡ told → Led r (t ∷ []) c [] places last → Led r (t ∷ []) c [] told last
+told_as r t c places told last e is = subst (λ ps. Led r (t ∷ []) c [] ps last) e is
+
+turns_last : LastLed word.Ifnot turned effect.Turns
+turns_last r is_inner first t [] [] declared n v c holds waits si sb is =
+    let place = begins first in
+    let m = reading is_inner place (awaits.End effect.Turns) c [] [] declared in
+    let last = last_at (ended_in t.ended none_around) (declared_behind t declared) n v in
+    told_as r t m (lone_places (unless_quiet t place)) (lone_at word.Ifnot first t none_around) last (lone_is word.Ifnot first t none_around true refl refl)
+    (acts r t m (at c [] [] None declared) (unless_quiet t place) (unless_quiet t place) last (end_kept effect.Turns is_inner place t c [] [] declared is)
+    (ended_stands r t.ended (AllStay [] [] si sb) declared n v c holds waits (omega arith)))
+turns_last r is_inner first t [] (y ∷ between) declared n v c holds waits si sb is =
+    let place = begins first in
+    let s : Around = record { inside = []; between = y ∷ between } in
+    let m = reading is_inner place (awaits.End effect.Turns) c [] (conditionals (y ∷ between)) declared in
+    let last = last_at (ended_in t.ended (turned s)) (declared_behind t declared) n v in
+    let here = at c [] (conditionals (y ∷ between)) None declared in
+    let there = at c [] (record { place = y.place; is_second = true } ∷ conditionals between) (left_at false 0) declared in
+    told_as r t m (lone_places (cond y.is_second (unless_quiet t place) None)) (lone_at word.Ifnot first t s) last (lone_is word.Ifnot first t s y.is_second sb refl)
+    (acts r t m (cond y.is_second here there) (cond y.is_second (unless_quiet t place) None) (unless_quiet t place) last (turns_among is_inner place t c (conditional_of y) (conditionals between) declared is)
+    (of_both (λ (x : Conditions). StandsAt r last (ended_behind t.ended (silent x))) y.is_second here there
+    (λ e. subst (λ cs. StandsAt r last (ended_behind t.ended (at c [] cs None declared))) (still_is y between e)
+    (ended_stands r t.ended (AllStay [] (other_side y ∷ between) si (kept_still y between e sb)) declared n v c holds waits (omega arith)))
+    (λ e. subst (λ cs. StandsAt r last (ended_behind t.ended (at c [] cs (left_at false 0) declared))) (turned_is y between e)
+    (ended_stands r t.ended (OuterLeft [] (other_side y) between (left_turned y e (kept_head y between sb).0) (kept_head y between sb).1) declared n v c holds waits (omega arith)))))
+turns_last r is_inner first t (y ∷ inside) between declared n v c holds waits si sb is =
+    let place = begins first in
+    let s : Around = record { inside = y ∷ inside; between = between } in
+    let among = conditionals between in
+    let m = reading is_inner place (awaits.End effect.Turns) c (conditionals (y ∷ inside)) among declared in
+    let last = last_at (ended_in t.ended (turned s)) (declared_behind t declared) n v in
+    let here = at c (conditionals (y ∷ inside)) among None declared in
+    let there = at c (record { place = y.place; is_second = true } ∷ conditionals inside) among (left_at true 0) declared in
+    told_as r t m (lone_places (cond y.is_second (unless_quiet t place) None)) (lone_at word.Ifnot first t s) last (lone_is word.Ifnot first t s y.is_second (both_kept (y ∷ inside) between si sb) refl)
+    (acts r t m (cond y.is_second here there) (cond y.is_second (unless_quiet t place) None) (unless_quiet t place) last (turns_inner is_inner place t c (conditional_of y) (conditionals inside) among declared is)
+    (of_both (λ (x : Conditions). StandsAt r last (ended_behind t.ended (silent x))) y.is_second here there
+    (λ e. subst (λ cs. StandsAt r last (ended_behind t.ended (at c cs among None declared))) (still_is y inside e)
+    (ended_stands r t.ended (AllStay (other_side y ∷ inside) between (kept_still y inside e si) sb) declared n v c holds waits (omega arith)))
+    (λ e. subst (λ cs. StandsAt r last (ended_behind t.ended (at c cs among (left_at true 0) declared))) (turned_is y inside e)
+    (ended_stands r t.ended (InnerLeft [] (other_side y) inside between (left_turned y e (kept_head y inside si).0) (kept_head y inside si).1 sb) declared n v c holds waits (omega arith)))))
+
+-- and that of an `Endif`
+closes_last : LastLed word.Endif closed effect.Closes
+closes_last r is_inner first t [] [] declared n v c holds waits si sb is =
+    let place = begins first in
+    let m = reading is_inner place (awaits.End effect.Closes) c [] [] declared in
+    let last = last_at (ended_in t.ended none_around) (declared_behind t declared) n v in
+    told_as r t m (lone_places (unless_quiet t place)) (lone_at word.Endif first t none_around) last (lone_is word.Endif first t none_around true refl refl)
+    (acts r t m (at c [] [] None declared) (unless_quiet t place) (unless_quiet t place) last (end_kept effect.Closes is_inner place t c [] [] declared is)
+    (ended_stands r t.ended (AllStay [] [] si sb) declared n v c holds waits (omega arith)))
+closes_last r is_inner first t [] (y ∷ between) declared n v c holds waits si sb is =
+    let place = begins first in
+    let s : Around = record { inside = []; between = y ∷ between } in
+    let m = reading is_inner place (awaits.End effect.Closes) c [] (conditionals (y ∷ between)) declared in
+    let last = last_at (ended_in t.ended (closed s)) (declared_behind t declared) n v in
+    told_as r t m [] (lone_at word.Endif first t s) last (lone_is word.Endif first t s false sb refl)
+    (acts r t m (at c [] (conditionals between) None declared) None (unless_quiet t place) last (end_kept effect.Closes is_inner place t c [] (conditionals (y ∷ between)) declared is)
+    (ended_stands r t.ended (AllStay [] between si (kept_head y between sb).1) declared n v c holds waits (omega arith)))
+closes_last r is_inner first t (y ∷ inside) between declared n v c holds waits si sb is =
+    let place = begins first in
+    let s : Around = record { inside = y ∷ inside; between = between } in
+    let m = reading is_inner place (awaits.End effect.Closes) c (conditionals (y ∷ inside)) (conditionals between) declared in
+    let last = last_at (ended_in t.ended (closed s)) (declared_behind t declared) n v in
+    told_as r t m [] (lone_at word.Endif first t s) last (lone_is word.Endif first t s false (both_kept (y ∷ inside) between si sb) refl)
+    (acts r t m (at c (conditionals inside) (conditionals between) None declared) None (unless_quiet t place) last (end_kept effect.Closes is_inner place t c (conditionals (y ∷ inside)) (conditionals between) declared is)
+    (ended_stands r t.ended (AllStay inside between (kept_head y inside si).1 sb) declared n v c holds waits (omega arith)))
+
+-- The word of a directive in a side that is left out
+
+abbrev Further : Reader → List At → List Place → Last → Last → Type 0
+Further r all places there last = (c : Conditions) → StandsAt r there c → Led r all c [] places last
+
+opens_left : (r : Reader) (is_inner is_within : Bool) (w : ConditionalWord) (first : First) (all : List At) (more : Open) (st : Stands) (declared n : ℕ) (v : List (List Conditional)) (c : Conditions) (places : List Place) (last : Last)
+    → Holds r c → c.waiting ≡ v → levels_of st ≤ n → n + 1 ≤ most_levels → all_kept (stack_of st) ≡ false → NoneInside is_inner (stack_of st) → IsFirst false is_inner is_within w first
+    → ((m : ℕ) (b : Bool) → ends_side b m (Some w) ≡ false) → ((m : ℕ) → level_behind (Some w) m ≡ suc m)
+    → Further r all places (last_at (opened_more is_inner more (stack_of st)) (declared_first first declared) (n + 1) v) last
+    → Led r (first_tokens first all) (stands_at c st declared) [] places last
+opens_left r is_inner is_within w first all more (AllStay inside between si sb) declared n v c places last holds waits few_st few left none is stays level further =
+    absurd (let never : true ≡ false = sym (both_kept inside between si sb) ∙ left in cc)
+opens_left r false is_within w first all more (InnerLeft deep x inside between gone si sb) declared n v c places last holds waits few_st few left none is stays level further = absurd (some_open deep x inside none)
+opens_left r true is_within w first all more (InnerLeft deep x inside between gone si sb) declared n v c places last holds waits few_st few left none is stays level further =
+    let m = length deep in
+    let inner = conditionals (x ∷ inside) in
+    let now = declared_first first declared in
+    begins_left r true is_within w (suc m) first.sign first.word all c inner (conditionals between) true m declared places last is.begins is.is is.goes_on (λ e. absurd (no_false e)) (omega (arith, few_st, few))
+    (stays m (second inner (conditionals between))) (level m)
+    (further (at c inner (conditionals between) (left_at true (suc m)) now)
+    (record {
+      base = c;
+      stand = InnerLeft (more ∷ deep) x inside between gone si sb;
+      holds = holds;
+      waits = waits;
+      is = refl;
+      stack = sym (ap (λ k. cond k (record { inside = more ∷ deep ++ x ∷ inside; between = between }) (record { inside = deep ++ x ∷ inside; between = more ∷ between })) sb);
+      few = omega (arith, few_st);
+    }))
+opens_left r is_inner is_within w first all more (OuterLeft deep x between gone sb) declared n v c places last holds waits few_st few left none is stays level further =
+    let m = length deep in
+    let among = conditionals (x ∷ between) in
+    let now = declared_first first declared in
+    begins_left r is_inner is_within w (suc m) first.sign first.word all c [] among false m declared places last is.begins is.is is.goes_on (λ _. (refl, refl)) (omega (arith, few_st, few))
+    (stays m (second [] among)) (level m)
+    (further (at c [] among (left_at false (suc m)) now)
+    (record {
+      base = c;
+      stand = OuterLeft (more ∷ deep) x between gone sb;
+      holds = holds;
+      waits = waits;
+      is = refl;
+      stack = sym (ap (λ k. cond k (record { inside = more ∷ []; between = deep ++ x ∷ between }) (record { inside = []; between = more ∷ deep ++ x ∷ between })) (ap (λ k. is_inner && k) (not_kept deep x between gone) ∙ and-false is_inner));
+      few = omega (arith, few_st);
+    }))
+
+-- a word that may end the side
+abbrev LeftLed : ConditionalWord → (Around → Around) → Type 0
+LeftLed w act = (r : Reader) (is_inner is_within : Bool) (first : First) (all : List At) (st : Stands) (declared n : ℕ) (v : List (List Conditional)) (c : Conditions) (places : List Place) (last : Last)
+    → Holds r c → c.waiting ≡ v → levels_of st ≤ n → n + 1 ≤ most_levels → all_kept (stack_of st) ≡ false → NoneInside is_inner (stack_of st) → IsFirst false is_inner is_within w first
+    → (all_kept (act (stack_of st)) ≡ false → Further r all places (last_at (act (stack_of st)) (declared_first first declared) n v) last)
+    → ((inside between : List Open) → are_kept inside ≡ true → are_kept between ≡ true → record { inside = inside; between = between } ≡ act (stack_of st)
+    → Led r all (reading false (begins first) (awaits.End effect.Nothing) c (conditionals inside) (conditionals between) (declared_first first declared)) [] places last)
+    → Led r (first_tokens first all) (stands_at c st declared) [] places last
+
+turns_left : LeftLed word.Ifnot turned
+turns_left r is_inner is_within first all (AllStay inside between si sb) declared n v c places last holds waits few_st few left none is still ended = absurd (let never : true ≡ false = sym (both_kept inside between si sb) ∙ left in cc)
+turns_left r false is_within first all (InnerLeft deep x inside between gone si sb) declared n v c places last holds waits few_st few left none is still ended = absurd (some_open deep x inside none)
+turns_left r true is_within first all (InnerLeft [] x inside between gone si sb) declared n v c places last holds waits few_st few left none is still ended =
+    let inner = conditionals (x ∷ inside) in
+    let among = conditionals between in
+    let now = declared_first first declared in
+    bool_cases_of x.is_second (Led r (first_tokens first all) (at c inner among (left_at true 0) declared) [] places last)
+    (λ e.
+    begins_left r true is_within word.Ifnot 0 first.sign first.word all c inner among true 0 declared places last is.begins is.is is.goes_on (λ e. absurd (no_false e)) (omega (arith, few)) (ap not e) refl
+    (still (inner_not_kept [] (other_side x) inside between (left_still x e gone)) (at c inner among (left_at true 0) now)
+    (record {
+      base = c;
+      stand = InnerLeft [] (other_side x) inside between (left_still x e gone) si sb;
+      holds = holds;
+      waits = waits;
+      is = ap (λ cs. at c cs among (left_at true 0) now) (sym (still_is x inside e));
+      stack = refl;
+      few = omega arith;
+    })))
+    (λ e.
+    let next : List Conditional = record { place = x.place; is_second = true } ∷ conditionals inside in
+    begins_end r true is_within word.Ifnot first.sign first.word all c inner among next among true declared places last is.begins is.is is.goes_on (λ e. absurd (no_false e)) (λ e. absurd (no_false e)) (omega (arith, few)) (ap not e) (λ sign m. refl)
+    (subst (λ cs. Led r all (reading false (begins first) (awaits.End effect.Nothing) c cs among now) [] places last) (turned_is x inside e)
+    (ended (other_side x ∷ inside) between (kept_turned x inside e gone si) sb refl)))
+turns_left r true is_within first all (InnerLeft (y ∷ deep) x inside between gone si sb) declared n v c places last holds waits few_st few left none is still ended =
+    let inner = conditionals (x ∷ inside) in
+    let among = conditionals between in
+    let m = length deep in
+    let now = declared_first first declared in
+    begins_left r true is_within word.Ifnot (suc m) first.sign first.word all c inner among true (suc m) declared places last is.begins is.is is.goes_on (λ e. absurd (no_false e)) (omega (arith, few, few_st))
+    (ap (λ b. b && not (second inner among)) (eqb-suc-zero m)) refl
+    (still (inner_not_kept (other_side y ∷ deep) x inside between gone) (at c inner among (left_at true (suc m)) now)
+    (record { base = c; stand = InnerLeft (other_side y ∷ deep) x inside between gone si sb; holds = holds; waits = waits; is = refl; stack = refl; few = few_st }))
+turns_left r is_inner is_within first all (OuterLeft [] x between gone sb) declared n v c places last holds waits few_st few left none is still ended =
+    let among = conditionals (x ∷ between) in
+    let now = declared_first first declared in
+    bool_cases_of x.is_second (Led r (first_tokens first all) (at c [] among (left_at false 0) declared) [] places last)
+    (λ e.
+    begins_left r is_inner is_within word.Ifnot 0 first.sign first.word all c [] among false 0 declared places last is.begins is.is is.goes_on (λ _. (refl, refl)) (omega (arith, few)) (ap not e) refl
+    (still (not_kept [] (other_side x) between (left_still x e gone)) (at c [] among (left_at false 0) now)
+    (record {
+      base = c;
+      stand = OuterLeft [] (other_side x) between (left_still x e gone) sb;
+      holds = holds;
+      waits = waits;
+      is = ap (λ cs. at c [] cs (left_at false 0) now) (sym (still_is x between e));
+      stack = refl;
+      few = omega arith;
+    })))
+    (λ e.
+    let next : List Conditional = record { place = x.place; is_second = true } ∷ conditionals between in
+    begins_end r is_inner is_within word.Ifnot first.sign first.word all c [] among [] next false declared places last is.begins is.is is.goes_on (λ _. (refl, refl)) (λ _. (refl, refl)) (omega (arith, few)) (ap not e) (λ sign m. refl)
+    (subst (λ cs. Led r all (reading false (begins first) (awaits.End effect.Nothing) c [] cs now) [] places last) (turned_is x between e)
+    (ended [] (other_side x ∷ between) refl (kept_turned x between e gone sb) refl)))
+turns_left r is_inner is_within first all (OuterLeft (y ∷ deep) x between gone sb) declared n v c places last holds waits few_st few left none is still ended =
+    let among = conditionals (x ∷ between) in
+    let m = length deep in
+    let now = declared_first first declared in
+    begins_left r is_inner is_within word.Ifnot (suc m) first.sign first.word all c [] among false (suc m) declared places last is.begins is.is is.goes_on (λ _. (refl, refl)) (omega (arith, few, few_st))
+    (ap (λ b. b && not (second [] among)) (eqb-suc-zero m)) refl
+    (still (not_kept (other_side y ∷ deep) x between gone) (at c [] among (left_at false (suc m)) now)
+    (record { base = c; stand = OuterLeft (other_side y ∷ deep) x between gone sb; holds = holds; waits = waits; is = refl; stack = refl; few = few_st }))
+
+closes_left : LeftLed word.Endif closed
+closes_left r is_inner is_within first all (AllStay inside between si sb) declared n v c places last holds waits few_st few left none is still ended = absurd (let never : true ≡ false = sym (both_kept inside between si sb) ∙ left in cc)
+closes_left r false is_within first all (InnerLeft deep x inside between gone si sb) declared n v c places last holds waits few_st few left none is still ended = absurd (some_open deep x inside none)
+closes_left r true is_within first all (InnerLeft [] x inside between gone si sb) declared n v c places last holds waits few_st few left none is still ended =
+    let among = conditionals between in
+    begins_end r true is_within word.Endif first.sign first.word all c (conditionals (x ∷ inside)) among (conditionals inside) among true declared places last is.begins is.is is.goes_on (λ e. absurd (no_false e)) (λ e. absurd (no_false e)) (omega (arith, few)) refl (λ sign m. refl)
+    (ended inside between si sb refl)
+closes_left r true is_within first all (InnerLeft (y ∷ deep) x inside between gone si sb) declared n v c places last holds waits few_st few left none is still ended =
+    let inner = conditionals (x ∷ inside) in
+    let among = conditionals between in
+    let m = length deep in
+    let now = declared_first first declared in
+    begins_left r true is_within word.Endif m first.sign first.word all c inner among true (suc m) declared places last is.begins is.is is.goes_on (λ e. absurd (no_false e)) (omega (arith, few, few_st))
+    (ap (λ b. b && true) (eqb-suc-zero m)) (omega arith)
+    (still (inner_not_kept deep x inside between gone) (at c inner among (left_at true m) now)
+    (record { base = c; stand = InnerLeft deep x inside between gone si sb; holds = holds; waits = waits; is = refl; stack = refl; few = omega (arith, few_st) }))
+closes_left r is_inner is_within first all (OuterLeft [] x between gone sb) declared n v c places last holds waits few_st few left none is still ended =
+    let among = conditionals (x ∷ between) in
+    begins_end r is_inner is_within word.Endif first.sign first.word all c [] among [] (conditionals between) false declared places last is.begins is.is is.goes_on (λ _. (refl, refl)) (λ _. (refl, refl)) (omega (arith, few)) refl (λ sign m. refl)
+    (ended [] between refl sb refl)
+closes_left r is_inner is_within first all (OuterLeft (y ∷ deep) x between gone sb) declared n v c places last holds waits few_st few left none is still ended =
+    let among = conditionals (x ∷ between) in
+    let m = length deep in
+    let now = declared_first first declared in
+    begins_left r is_inner is_within word.Endif m first.sign first.word all c [] among false (suc m) declared places last is.begins is.is is.goes_on (λ _. (refl, refl)) (omega (arith, few, few_st))
+    (ap (λ b. b && true) (eqb-suc-zero m)) (omega arith)
+    (still (not_kept deep x between gone) (at c [] among (left_at false m) now)
+    (record { base = c; stand = OuterLeft deep x between gone sb; holds = holds; waits = waits; is = refl; stack = refl; few = omega (arith, few_st) }))
+
+-- Parts
+
+abbrev last_part : Answers → Part → Around → ℕ → ℕ → List (List Conditional) → Last
+last_part d part s declared n v = last_at (behind_part d part s) (declared_tokens (part_tokens part) declared) (n + length (part_tokens part)) v
+
+abbrev StandLeads : Answers → Part → Type 0
+StandLeads d part = (r : Reader) (st : Stands) (declared n : ℕ) (v : List (List Conditional)) (c : Conditions) → Holds r c → c.waiting ≡ v → levels_of st ≤ n → IsPart d (within r) (stack_of st) declared part
+    → TakesAll r (kept_of part (stack_of st)) → n + length (part_tokens part) ≤ most_levels
+    → Led r (part_tokens part) (stands_at c st declared) (kept_of part (stack_of st)) (lone_of d part (stack_of st)) (last_part d part (stack_of st) declared n v)
+
+-- where all is kept
+kept_only : (P : Stands → Type 0) → ((inside between : List Open) (si : are_kept inside ≡ true) (sb : are_kept between ≡ true) → P (AllStay inside between si sb)) → (st : Stands) → all_kept (stack_of st) ≡ true → P st
+kept_only P so (AllStay inside between si sb) e = so inside between si sb
+kept_only P so (InnerLeft deep x inside between left si sb) e = absurd (let never : true ≡ false = sym e ∙ inner_not_kept deep x inside between left in cc)
+kept_only P so (OuterLeft deep x between left sb) e = absurd (let never : true ≡ false = sym e ∙ not_kept deep x between left in cc)
+
+abbrev stands_so : Reader → Stands → ℕ → ℕ → List (List Conditional) → Conditions → Type 0
+stands_so r st declared n v c = StandsAt r (last_at (stack_of st) declared n v) (stands_at c st declared)
+
+stands : (r : Reader) (st : Stands) (declared n : ℕ) (v : List (List Conditional)) (c : Conditions) → Holds r c → c.waiting ≡ v → levels_of st ≤ n → stands_so r st declared n v c
+stands r st declared n v c holds waits few = record { base = c; stand = st; holds = holds; waits = waits; is = refl; stack = refl; few = few }
+
+told_so : (r : Reader) (all : List At) (c : Conditions) (tokens : List Spelled) (places told : List Place) (last : Last) → places ≡ told → Led r all c tokens places last → Led r all c tokens told last
+told_so r all c tokens places told last e is = subst (λ ps. Led r all c tokens ps last) e is
+
+-- Plain tokens
+
+-- a condition takes one
+reads_one : (a : Awaits) (ks : List Condition) (is_inner : Bool) (place : Place) (others : List Pending) (t : At) (inside between : List Open) (declared n : ℕ) (v : List (List Conditional)) (c : Conditions)
+    → c.pending ≡ directive is_inner place a ∷ others → c.conditions ≡ ks → c.waiting ≡ v → are_kept inside ≡ true → are_kept between ≡ true → TakenBy a t.token ks → IsPlain t
+    → Led (Reads (directive is_inner place a) others ks) (t ∷ []) (at c (conditionals inside) (conditionals between) None declared) (t.token ∷ []) []
+    (last_at (ended_in t.ended (record { inside = inside; between = between })) (declared_behind t declared) n v)
+reads_one (awaits.Condition wanted) (k ∷ ks) is_inner place others t inside between declared n v c hp hk waits si sb is plain =
+    let base = record c { pending = others; conditions = ks } in
+    let inner = conditionals inside in
+    let among = conditionals between in
+    let next = condition_took t.token k in
+    let quiet = t.site.is_quiet in
+    let a = awaits.Condition wanted in
+    let r = Reads (directive is_inner place a) others (k ∷ ks) in
+    let last = last_at (ended_in t.ended (record { inside = inside; between = between })) (declared_behind t declared) n v in
+    let here = reading is_inner place a (with_condition k base) inner among declared in
+    let now = asking_on place is_inner wanted next (saying quiet (too_much base.longest t.token next) (tokens_counted quiet next (at base inner among None declared))) in
+    let same : here ≡ at c inner among None declared =
+    ap (λ cs. at (record c { pending = directive is_inner place a ∷ others; conditions = cs }) inner among None declared) (sym hk)
+    ∙ ap (λ ps. at (record c { pending = ps }) inner among None declared) (sym hp) in
+    subst (λ (x : Conditions). Led r (t ∷ []) x (t.token ∷ []) [] last) same
+    (takes r t here now last refl (next_goes is_inner wanted place t k base inner among declared plain is.0 is.1)
+    (ended_stands (Reads (directive is_inner place a) others (next ∷ ks)) t.ended (AllStay inside between si sb) declared n v (awaits_it is_inner place a (with_condition next (counted quiet next base))) (refl, refl) waits (omega arith)))
+reads_one (awaits.Condition wanted) [] is_inner place others t inside between declared n v c hp hk waits si sb is plain = absurd is
+reads_one awaits.Word ks is_inner place others t inside between declared n v c hp hk waits si sb is plain = absurd is
+reads_one (awaits.Name if_declared) ks is_inner place others t inside between declared n v c hp hk waits si sb is plain = absurd is
+reads_one (awaits.End e) ks is_inner place others t inside between declared n v c hp hk waits si sb is plain = absurd is
+
+one_kept : (r : Reader) (t : At) (inside between : List Open) (declared n : ℕ) (v : List (List Conditional)) (c : Conditions) → Holds r c → c.waiting ≡ v → are_kept inside ≡ true → are_kept between ≡ true
+    → TakesAll r (t.token ∷ []) → IsPlain t
+    → Led r (t ∷ []) (at c (conditionals inside) (conditionals between) None declared) (t.token ∷ []) []
+    (last_at (ended_in t.ended (record { inside = inside; between = between })) (declared_behind t declared) n v)
+one_kept Hands t inside between declared n v c holds waits si sb takes plain =
+    keeps t (at c (conditionals inside) (conditionals between) None declared) (last_at (ended_in t.ended (record { inside = inside; between = between })) (declared_behind t declared) n v)
+    (plain_kept t c (conditionals inside) (conditionals between) declared holds plain) (ended_stands Hands t.ended (AllStay inside between si sb) declared n v c holds waits (omega arith))
+one_kept (Reads p others ks) t inside between declared n v c holds waits si sb takes plain =
+    reads_one p.awaits ks p.is_inner p.place others t inside between declared n v c holds.0 holds.1 waits si sb takes.0 plain
+
+abbrev plain_last : At → Around → ℕ → ℕ → List (List Conditional) → Last
+plain_last t s declared n v = last_at (ended_in t.ended s) (declared_behind t declared) n v
+
+plain_gone : (d : Answers) (t : At) (r : Reader) (st : Stands) (declared n : ℕ) (v : List (List Conditional)) (c : Conditions) → all_kept (stack_of st) ≡ false → Holds r c → c.waiting ≡ v → levels_of st ≤ n → IsPlain t
+    → n + length (t ∷ []) ≤ most_levels → Led r (t ∷ []) (stands_at c st declared) (kept_of (Plain t) (stack_of st)) [] (last_part d (Plain t) (stack_of st) declared n v)
+plain_gone d t r st declared n v c left holds waits few_st plain few =
+    subst (λ k. Led r (t ∷ []) (stands_at c st declared) (cond k (t.token ∷ []) []) [] (last_part d (Plain t) (stack_of st) declared n v)) (sym left)
+    (relaxed r (t ∷ []) (stands_at c st declared) [] [] (ended_in t.ended (stack_of st)) (declared_behind t declared) (declared_behind t declared) n (n + length (t ∷ [])) v refl (omega arith)
+    (left_token r t [] (stack_of st) declared n v (stands_at c st declared) [] [] (plain_last t (stack_of st) declared n v) (stands r st declared n v c holds waits few_st) left plain (omega (arith, few))
+    (λ x e. rests r x (plain_last t (stack_of st) declared n v) e)))
+
+plain_leads : (d : Answers) (t : At) → StandLeads d (Plain t)
+plain_leads d t r (AllStay inside between si sb) declared n v c holds waits few_st are takes few =
+    let s : Around = record { inside = inside; between = between } in
+    let here = at c (conditionals inside) (conditionals between) None declared in
+    let all = both_kept inside between si sb in
+    subst (λ k. TakesAll r (cond k (t.token ∷ []) []) → Led r (t ∷ []) here (cond k (t.token ∷ []) []) [] (last_part d (Plain t) s declared n v)) (sym all)
+    (λ taken_so. relaxed r (t ∷ []) here (t.token ∷ []) [] (ended_in t.ended s) (declared_behind t declared) (declared_behind t declared) n (n + length (t ∷ [])) v refl (omega arith)
+    (one_kept r t inside between declared n v c holds waits si sb taken_so are)) takes
+plain_leads d t r (InnerLeft deep x inside between left si sb) declared n v c holds waits few_st are takes few =
+    plain_gone d t r (InnerLeft deep x inside between left si sb) declared n v c (inner_not_kept deep x inside between left) holds waits few_st are few
+plain_leads d t r (OuterLeft deep x between left sb) declared n v c holds waits few_st are takes few =
+    plain_gone d t r (OuterLeft deep x between left sb) declared n v c (not_kept deep x between left) holds waits few_st are few
+
+-- and those behind a `#`
+
+abbrev signed_last : At → At → Around → ℕ → ℕ → List (List Conditional) → Last
+signed_last sign t s declared n v = last_at (ended_in t.ended s) (declared_behind t (declared_behind sign declared)) (n + length (sign ∷ t ∷ [])) v
+
+signed_left_led : (d : Answers) (is_inner : Bool) (sign t : At) (r : Reader) (st : Stands) (b : Bool) (m declared n : ℕ) (v : List (List Conditional)) (c : Conditions) → left_of st ≡ left_at b m → m ≤ n → all_kept (stack_of st) ≡ false → CalmLeft is_inner (inner_of st) b
+    → Holds r c → c.waiting ≡ v → levels_of st ≤ n → IsSign is_inner sign → IsPlain t → n + length (sign ∷ t ∷ []) ≤ most_levels
+    → Led r (sign ∷ t ∷ []) (stands_at c st declared) (kept_of (Signed is_inner sign t) (stack_of st)) [] (last_part d (Signed is_inner sign t) (stack_of st) declared n v)
+signed_left_led d is_inner sign t r st b m declared n v c is_left_at few_m left calm holds waits few_st is plain few =
+    let inner = inner_of st in
+    let among = among_of st in
+    let place = sign.token.place in
+    let now = declared_behind sign declared in
+    let here : ℕ → Conditions = at c inner among (left_at b m) in
+    let held_back : ℕ → Conditions = state c (Some place) inner among (left_at b m) in
+    let last = last_part d (Signed is_inner sign t) (stack_of st) declared n v in
+    let same : here declared ≡ stands_at c st declared = ap (λ x. at c inner among x declared) (sym is_left_at) in
+    let behind : StandsAt r last (ended_behind t.ended (here now)) =
+    subst (λ x. StandsAt r last (ended_behind t.ended (at c inner among x now))) is_left_at
+    (ended_stands r t.ended st now (n + length (sign ∷ t ∷ [])) v c holds waits (omega (arith, few_st))) in
+    subst (λ k. Led r (sign ∷ t ∷ []) (stands_at c st declared) (cond k (hash place ∷ t.token ∷ []) []) [] last) (sym left)
+    (subst (λ (x : Conditions). Led r (sign ∷ t ∷ []) x [] [] last) same
+    (passes r sign (t ∷ []) (here declared) (held_back declared) (held_back now) [] [] last
+    (sign_left sign c inner among b m declared is.is (omega (arith, few, few_m)))
+    (mid is_inner sign c (Some place) inner among (left_at b m) declared is.goes_on (calm_at is_inner inner b m calm))
+    (passes r t [] (held_back now) (here now) (ended_behind t.ended (here now)) [] [] last
+    (signed_left t place c inner among b m now plain (omega (arith, few, few_m))) refl (rests r (ended_behind t.ended (here now)) last behind))))
+
+signed_leads : (d : Answers) (is_inner : Bool) (sign t : At) → StandLeads d (Signed is_inner sign t)
+signed_leads d is_inner sign t (Reads p others ks) (AllStay inside between si sb) declared n v c holds waits few_st are takes few =
+    absurd (let never : true ≡ false = sym (both_kept inside between si sb) ∙ are.1.1.1 refl in cc)
+signed_leads d true sign t Hands (AllStay inside between si sb) declared n v c holds waits few_st are takes few =
+    let s : Around = record { inside = inside; between = between } in
+    let inner = conditionals inside in
+    let among = conditionals between in
+    let here = at c inner among None declared in
+    let place = sign.token.place in
+    let now = declared_behind sign declared in
+    let all = both_kept inside between si sb in
+    let is = subst (λ k. Begins k true false (Some sign) t) all are.0 in
+    let last = last_part d (Signed true sign t) s declared n v in
+    let both = hash place ∷ t.token ∷ [] in
+    subst (λ k. Led Hands (sign ∷ t ∷ []) here (cond k both []) [] last) (sym all)
+    (passes Hands sign (t ∷ []) here (state c (Some place) inner among None declared) (state c (Some place) inner among None now) both [] last
+    (sign_inner sign c inner among declared (inner_front Hands sign c holds is.0) is.1.is)
+    (mid true sign c (Some place) inner among None declared is.1.goes_on (λ e. absurd (no_false e)))
+    (keeps_both t place (state c (Some place) inner among None now) (at (given_up_so c) inner among None now) last
+    (inside_kept place t c inner among now holds are.1.1.0)
+    (ended_stands Hands t.ended (AllStay inside between si sb) now (n + length (sign ∷ t ∷ [])) v (given_up_so c) refl waits (omega arith))))
+signed_leads d false sign t Hands (AllStay [] between si sb) declared n v c holds waits few_st are takes few =
+    let s : Around = record { inside = []; between = between } in
+    let among = conditionals between in
+    let here = at c [] among None declared in
+    let place = sign.token.place in
+    let now = declared_behind sign declared in
+    let all = both_kept [] between si sb in
+    let is = subst (λ k. Begins k false false (Some sign) t) all are.0 in
+    let last = last_part d (Signed false sign t) s declared n v in
+    let both = hash place ∷ t.token ∷ [] in
+    subst (λ k. Led Hands (sign ∷ t ∷ []) here (cond k both []) [] last) (sym all)
+    (passes Hands sign (t ∷ []) here (reading false place awaits.Word c [] among declared) (reading false place awaits.Word c [] among now) both [] last
+    (sign_kept sign c [] among declared (outer_front sign c holds is.0) is.1.is)
+    (mid false sign (awaits_it false place awaits.Word c) None [] among None declared tt (λ _. (refl, refl)))
+    (keeps_both t place (reading false place awaits.Word c [] among now) (at c [] among None now) last
+    (front_kept place t c [] among now are.1.1.0)
+    (ended_stands Hands t.ended (AllStay [] between si sb) now (n + length (sign ∷ t ∷ [])) v c holds waits (omega arith))))
+signed_leads d false sign t Hands (AllStay (y ∷ inside) between si sb) declared n v c holds waits few_st are takes few = absurd (some_open [] y inside are.1.0)
+signed_leads d false sign t r (InnerLeft deep x inside between left si sb) declared n v c holds waits few_st are takes few = absurd (some_open deep x inside are.1.0)
+signed_leads d true sign t r (InnerLeft deep x inside between left si sb) declared n v c holds waits few_st are takes few =
+    let gone = inner_not_kept deep x inside between left in
+    let is = subst (λ k. Begins k true (within r) (Some sign) t) gone are.0 in
+    signed_left_led d true sign t r (InnerLeft deep x inside between left si sb) true (length deep) declared n v c refl few_st gone (λ e. absurd (no_false e)) holds waits few_st is are.1.1.0 few
+signed_leads d is_inner sign t r (OuterLeft deep x between left sb) declared n v c holds waits few_st are takes few =
+    let gone = not_kept deep x between left in
+    let is = subst (λ k. Begins k is_inner (within r) (Some sign) t) gone are.0 in
+    signed_left_led d is_inner sign t r (OuterLeft deep x between left sb) false (length deep) declared n v c refl few_st gone (λ _. (refl, refl)) holds waits few_st is are.1.1.0 few
+
+-- Directives
+
+abbrev directive_tokens : First → List At → At → List At
+directive_tokens first tokens end = first_tokens first (tokens ++ end ∷ [])
+
+last_declared : (first : First) (tokens : List At) (end : At) (declared : ℕ) → declared_behind end (declared_tokens tokens (declared_first first declared)) ≡ declared_tokens (directive_tokens first tokens end) declared
+last_declared first tokens end declared =
+    sym (declared_both tokens (end ∷ []) (declared_first first declared)) ∙ declared_behind_first first (tokens ++ end ∷ []) declared
+
+calm_open : (is_inner : Bool) (inside between : List Open) → NoneInside is_inner (record { inside = inside; between = between }) → Calm is_inner (conditionals inside) None
+calm_open is_inner inside between none e = (ap conditionals (none_open is_inner (record { inside = inside; between = between }) none e), refl)
+
+-- with the parts that are read
+among_kept : (d : Answers) (is_within : Bool) (s : Around) (declared : ℕ) (parts : Parts) → all_kept s ≡ true → AreParts d (among is_within s) s declared parts → AreParts d true s declared parts
+among_kept d is_within s declared parts e are = subst (λ b. AreParts d (b || is_within) s declared parts) e are
+
+among_left : (d : Answers) (is_within : Bool) (s : Around) (declared : ℕ) (parts : Parts) → all_kept s ≡ false → AreParts d (among is_within s) s declared parts → AreParts d is_within s declared parts
+among_left d is_within s declared parts e are = subst (λ b. AreParts d (b || is_within) s declared parts) e are
+
+-- An `Ifnot`, and an `Endif`
+
+abbrev EndingIs : ConditionalWord → (Around → Around) → Answers → Bool → Bool → First → Parts → At → ℕ → Around → Bool → Type 0
+EndingIs w act d is_within is_inner first parts end declared s k =
+    IsFirst k is_inner is_within w first
+    × (NoneInside is_inner s × ((AreParts d (among is_within (cond k s (act s))) (cond k s (act s)) (declared_first first declared) parts × AddsNone d (cond k s (act s)) parts) × IsSemicolon end))
+
+abbrev ending_places : ConditionalWord → (Around → Around) → Answers → First → Parts → At → Around → Bool → List Place
+ending_places w act d first parts end s k = lone_parts d (cond k s (act s)) parts ++ lone_at w first end (cond k (behind_parts d s parts) s)
+
+abbrev ending_last : (Around → Around) → Answers → First → Parts → At → ℕ → ℕ → List (List Conditional) → Around → Bool → Last
+ending_last act d first parts end declared n v s k =
+    last_at (ended_in end.ended (cond k (act (behind_parts d s parts)) (behind_parts d (act s) parts))) (declared_tokens (directive_tokens first (all_tokens parts) end) declared)
+    (n + length (directive_tokens first (all_tokens parts) end)) v
+
+abbrev EndingLed : ConditionalWord → (Around → Around) → Answers → Bool → First → Parts → At → Reader → Stands → ℕ → ℕ → List (List Conditional) → Conditions → Bool → Type 0
+EndingLed w act d is_inner first parts end r st declared n v c k =
+    EndingIs w act d (within r) is_inner first parts end declared (stack_of st) k
+    → Led r (directive_tokens first (all_tokens parts) end) (stands_at c st declared) [] (ending_places w act d first parts end (stack_of st) k) (ending_last act d first parts end declared n v (stack_of st) k)
+
+ending_kept : (w : ConditionalWord) (act : Around → Around) (e : Effect) → ((t : Spelled) (place : Place) (is_inner : Bool) (c : Conditions) → begun w t place is_inner c ≡ passed (awaiting place is_inner (awaits.End e) c)) → LastLed w act e
+    → (d : Answers) (is_inner : Bool) (first : First) (parts : Parts) (end : At) → Leads d parts → (r : Reader) (declared n : ℕ) (v : List (List Conditional)) (c : Conditions) → Holds r c → c.waiting ≡ v
+    → n + length (directive_tokens first (all_tokens parts) end) ≤ most_levels
+    → (inside between : List Open) (si : are_kept inside ≡ true) (sb : are_kept between ≡ true) → EndingLed w act d is_inner first parts end r (AllStay inside between si sb) declared n v c true
+ending_kept w act e begins_so last_led d is_inner first parts end leads r declared n v c holds waits few inside between si sb are =
+    let s : Around = record { inside = inside; between = between } in
+    let tokens = all_tokens parts in
+    let all = both_kept inside between si sb in
+    let place = begins first in
+    let a = awaits.End e in
+    let now = declared_first first declared in
+    let inner = conditionals inside in
+    let among_now = conditionals between in
+    let start = reading is_inner place a c inner among_now now in
+    let l = last_behind d parts s now n v in
+    let m = n + length (directive_tokens first tokens end) in
+    let last = last_at (ended_in end.ended (act l.around)) (declared_behind end l.declared) m v in
+    let kept_so = kept_sides d s parts in
+    let p = directive is_inner place a in
+    let less = fewer first (tokens ++ end ∷ []) in
+    let sum = length_both tokens (end ∷ []) in
+    let places = lone_parts d s parts ++ lone_at w first end l.around in
+    let rest : Led r (tokens ++ end ∷ []) start [] places last =
+    within_led d parts leads r (end ∷ []) is_inner place a c c.conditions c.conditions s now n v start (lone_at w first end l.around) last
+    (record { base = awaits_it is_inner place a c; stand = AllStay inside between si sb; holds = (refl, refl); waits = waits; is = refl; stack = refl; few = omega arith })
+    all (among_kept d (within r) s now parts all are.1.1.0.0) are.1.1.0.1.0 (takes_none kept_so (Reads p c.pending c.conditions) are.1.1.0.1.1) (reads_none kept_so (Reads p c.pending c.conditions) are.1.1.0.1.1) (omega (arith, few, less, sum))
+    (λ base bw bi bb. last_led r is_inner first end l.around.inside l.around.between l.declared m v (record base { pending = c.pending; conditions = c.conditions }) (holds_on r c base holds) bw bi bb are.1.1.1) in
+    relaxed r (directive_tokens first tokens end) (at c inner among_now None declared) [] places (ended_in end.ended (act l.around)) (declared_behind end l.declared) (declared_tokens (directive_tokens first tokens end) declared) m m v
+    (last_declared first tokens end declared) (omega arith)
+    (begins_kept r is_inner w a first.sign first.word (tokens ++ end ∷ []) c c inner among_now declared places last holds are.0.begins are.0.is are.0.goes_on
+    (λ x. begins_so first.word.token place is_inner (at c inner among_now None x)) (calm_open is_inner inside between are.1.0) rest)
+
+ending_left : (w : ConditionalWord) (act : Around → Around) → LeftLed w act
+    → (d : Answers) (is_inner : Bool) (first : First) (parts : Parts) (end : At) → Leads d parts → (r : Reader) (st : Stands) (declared n : ℕ) (v : List (List Conditional)) (c : Conditions) → Holds r c → c.waiting ≡ v → levels_of st ≤ n
+    → n + length (directive_tokens first (all_tokens parts) end) ≤ most_levels → all_kept (stack_of st) ≡ false → EndingLed w act d is_inner first parts end r st declared n v c false
+ending_left w act left_word d is_inner first parts end leads r st declared n v c holds waits few_st few left are =
+    let s = stack_of st in
+    let x = act s in
+    let tokens = all_tokens parts in
+    let place = begins first in
+    let now = declared_first first declared in
+    let l = last_behind d parts x now n v in
+    let last = last_at (ended_in end.ended l.around) (declared_behind end l.declared) l.levels v in
+    let kept_so = kept_sides d x parts in
+    let less = fewer first (tokens ++ end ∷ []) in
+    let sum = length_both tokens (end ∷ []) in
+    let alone = lone_at w first end s in
+    let none_lone : [] ≡ alone = sym (no_lone w first end s left) in
+    let places = lone_parts d x parts ++ alone in
+    let adds = are.1.1.0.1 in
+    let still : all_kept x ≡ false → Further r (tokens ++ end ∷ []) places (last_at x now n v) last = λ gone m e.
+    left_led d parts leads r (end ∷ []) x now n v m alone last e (among_left d (within r) x now parts gone are.1.1.0.0) adds.1 (omega (arith, few, less, sum))
+    (λ m2 e2. left_token r end [] l.around l.declared l.levels v m2 [] alone last e2 (adds.0 ∙ gone) (semicolon_plain end are.1.1.1) (omega (arith, few, less, sum))
+    (λ m3 e3. told_so r [] m3 [] [] alone last none_lone (rests r m3 last e3))) in
+    let a = awaits.End effect.Nothing in
+    let p = directive false place a in
+    let ended : (inside between : List Open) → are_kept inside ≡ true → are_kept between ≡ true → record { inside = inside; between = between } ≡ x
+    → Led r (tokens ++ end ∷ []) (reading false place a c (conditionals inside) (conditionals between) now) [] places last = λ inside between si sb is.
+    let all : all_kept x ≡ true = sym (ap all_kept is) ∙ both_kept inside between si sb in
+    within_led d parts leads r (end ∷ []) false place a c c.conditions c.conditions x now n v (reading false place a c (conditionals inside) (conditionals between) now) alone last
+    (record { base = awaits_it false place a c; stand = AllStay inside between si sb; holds = (refl, refl); waits = waits; is = refl; stack = is; few = omega arith })
+    all (among_kept d (within r) x now parts all are.1.1.0.0) adds.0 (takes_none kept_so (Reads p c.pending c.conditions) adds.1) (reads_none kept_so (Reads p c.pending c.conditions) adds.1) (omega (arith, few, less, sum))
+    (λ base bw bi bb.
+    let after = record base { pending = c.pending; conditions = c.conditions } in
+    let i = conditionals l.around.inside in
+    let b = conditionals l.around.between in
+    told_so r (end ∷ []) (reading false place a after i b l.declared) [] [] alone last none_lone
+    (acts r end (reading false place a after i b l.declared) (at after i b None l.declared) None (unless_quiet end place) last (end_kept effect.Nothing false place end after i b l.declared are.1.1.1)
+    (ended_stands r end.ended (AllStay l.around.inside l.around.between bi bb) l.declared l.levels v after (holds_on r c base holds) bw (omega arith)))) in
+    relaxed r (directive_tokens first tokens end) (stands_at c st declared) [] places (ended_in end.ended l.around) (declared_behind end l.declared) (declared_tokens (directive_tokens first tokens end) declared) l.levels (n + length (directive_tokens first tokens end)) v
+    (last_declared first tokens end declared) (omega (arith, less, sum))
+    (left_word r is_inner (within r) first (tokens ++ end ∷ []) st declared n v c places last holds waits few_st (omega (arith, few, less, sum)) left are.1.0 are.0 still ended)
+
+turning_leads : (d : Answers) (is_inner : Bool) (first : First) (parts : Parts) (end : At) → Leads d parts → StandLeads d (Turning is_inner first parts end)
+turning_leads d is_inner first parts end leads r st declared n v c holds waits few_st are takes few = go (all_kept (stack_of st)) refl are
+  where
+    go : (k : Bool) → all_kept (stack_of st) ≡ k → EndingLed word.Ifnot turned d is_inner first parts end r st declared n v c k
+    go true e =
+        kept_only (λ x. EndingLed word.Ifnot turned d is_inner first parts end r x declared n v c true)
+        (ending_kept word.Ifnot turned effect.Turns (λ t place inner x. refl) turns_last d is_inner first parts end leads r declared n v c holds waits few) st e
+    go false e = ending_left word.Ifnot turned turns_left d is_inner first parts end leads r st declared n v c holds waits few_st few e
+
+closing_leads : (d : Answers) (is_inner : Bool) (first : First) (parts : Parts) (end : At) → Leads d parts → StandLeads d (Closing is_inner first parts end)
+closing_leads d is_inner first parts end leads r st declared n v c holds waits few_st are takes few = go (all_kept (stack_of st)) refl are
+  where
+    go : (k : Bool) → all_kept (stack_of st) ≡ k → EndingLed word.Endif closed d is_inner first parts end r st declared n v c k
+    go true e =
+        kept_only (λ x. EndingLed word.Endif closed d is_inner first parts end r x declared n v c true)
+        (ending_kept word.Endif closed effect.Closes (λ t place inner x. refl) closes_last d is_inner first parts end leads r declared n v c holds waits few) st e
+    go false e = ending_left word.Endif closed closes_left d is_inner first parts end leads r st declared n v c holds waits few_st few e
+
+-- what is opened more in a side that is left out is left out
+more_left : (is_inner : Bool) (x : Open) (s : Around) → all_kept s ≡ false → all_kept (opened_more is_inner x s) ≡ false
+more_left is_inner x s left = of_both (λ (y : Around). all_kept y ≡ false) (is_inner && are_kept s.between) (record s { inside = x ∷ s.inside }) (record s { between = x ∷ s.between }) (λ _. inside_so x.stays) (λ _. between_so x.stays)
+  where
+    inside_so : (b : Bool) → (b && are_kept s.inside) && are_kept s.between ≡ false
+    inside_so true = left
+    inside_so false = refl
+
+    between_so : (b : Bool) → are_kept s.inside && (b && are_kept s.between) ≡ false
+    between_so true = left
+    between_so false = and-false (are_kept s.inside)
+
+-- A directive with a condition
+
+abbrev asked_open : Answers → Bool → First → Parts → At → Around → Open
+asked_open d wanted first parts end s = first_side first wanted (d.is_true (whole_condition first (kept_sides d s parts) end) end)
+
+abbrev AskingIs : Answers → Bool → Bool → Bool → First → Parts → At → ℕ → Around → Bool → Type 0
+AskingIs d is_within is_inner wanted first parts end declared s k =
+    let x = cond k s (opened_more is_inner (asked_open d wanted first parts end s) s) in
+    let now = declared_first first declared in
+    IsFirst k is_inner is_within (asking wanted) first
+    × (NoneInside is_inner s
+    × ((AreParts d (among is_within x) x now parts × StayAs d x parts)
+    × (IsPlain end × (IsAsked k d first (kept_sides d x parts) end (declared_tokens (all_tokens parts) now) × NoneInsideBehind k is_inner end (behind_parts d x parts)))))
+
+abbrev AskingLed : Answers → Bool → Bool → First → Parts → At → Reader → Stands → ℕ → ℕ → List (List Conditional) → Conditions → Bool → Type 0
+AskingLed d is_inner wanted first parts end r st declared n v c k =
+    let s = stack_of st in
+    let act : Around → Around = opened_more is_inner (asked_open d wanted first parts end s) in
+    let toks = directive_tokens first (all_tokens parts) end in
+    AskingIs d (within r) is_inner wanted first parts end declared s k
+    → Led r toks (stands_at c st declared) [] (lone_parts d (cond k s (act s)) parts)
+    (last_at (ended_in end.ended (cond k (act (behind_parts d s parts)) (behind_parts d (act s) parts))) (declared_tokens toks declared) (n + length toks) v)
+
+asking_kept : (d : Answers) (is_inner wanted : Bool) (first : First) (parts : Parts) (end : At) → Leads d parts → (r : Reader) (declared n : ℕ) (v : List (List Conditional)) (c : Conditions) → Holds r c → c.waiting ≡ v
+    → n + length (directive_tokens first (all_tokens parts) end) ≤ most_levels
+    → (inside between : List Open) (si : are_kept inside ≡ true) (sb : are_kept between ≡ true) → AskingLed d is_inner wanted first parts end r (AllStay inside between si sb) declared n v c true
+asking_kept d is_inner wanted first parts end leads r declared n v c holds waits few inside between si sb are =
+    let s : Around = record { inside = inside; between = between } in
+    let tokens = all_tokens parts in
+    let all = both_kept inside between si sb in
+    let place = begins first in
+    let a = awaits.Condition wanted in
+    let now = declared_first first declared in
+    let inner = conditionals inside in
+    let among_now = conditionals between in
+    let begun_so = condition_took (placed_word first) condition_begun in
+    let start = reading is_inner place a (with_condition begun_so c) inner among_now now in
+    let l = last_behind d parts s now n v in
+    let m = n + length (directive_tokens first tokens end) in
+    let kept_so = kept_sides d s parts in
+    let condition = are.1.1.1.1.0 in
+    let read = condition_behind kept_so begun_so in
+    let whole = whole_condition first kept_so end in
+    let verdict : Verdict = verdict_of l.declared end.out whole in
+    let is_so = cond wanted verdict.is_true (not verdict.is_true) in
+    let stays = cond wanted (d.is_true whole end) (not (d.is_true whole end)) in
+    let agrees : is_so ≡ stays = ap (λ b. cond wanted b (not b)) condition.agrees in
+    let last = last_at (ended_in end.ended (opened_more is_inner (new_open place stays) l.around)) (declared_behind end l.declared) m v in
+    let p = directive is_inner place a in
+    let less = fewer first (tokens ++ end ∷ []) in
+    let sum = length_both tokens (end ∷ []) in
+    let places = lone_parts d s parts ++ [] in
+    let taken_last = last_taken kept_so end begun_so condition.are_taken in
+    let rest : Led r (tokens ++ end ∷ []) start [] places last =
+    within_led d parts leads r (end ∷ []) is_inner place a c (begun_so ∷ c.conditions) (read ∷ c.conditions) s now n v start [] last
+    (record { base = awaits_it is_inner place a (with_condition begun_so c); stand = AllStay inside between si sb; holds = (refl, refl); waits = waits; is = refl; stack = refl; few = omega arith })
+    all (among_kept d (within r) s now parts all are.1.1.0.0) are.1.1.0.1 (takes_condition kept_so end begun_so is_inner wanted place c.pending c.conditions condition.are_taken)
+    (read_condition kept_so p c.pending begun_so c.conditions) (omega (arith, few, less, sum))
+    (λ base bw bi bb.
+    let after = record base { pending = c.pending; conditions = c.conditions } in
+    let i = conditionals l.around.inside in
+    let b = conditionals l.around.between in
+    let said = cond end.site.is_quiet None (told_by place whole verdict.finding) in
+    let opened_now : Bool → Conditions = λ x. record (opened_at is_inner x place after i b l.declared) { said = said } in
+    acts r end (reading is_inner place a (with_condition read after) i b l.declared) (opened_now stays) None (unless_quiet end place) last
+    (next_ends is_inner wanted place end read after i b l.declared are.1.1.1.0 taken_last.0 taken_last.1
+    ∙ ap (λ x. ended_so (opened_now x) None (unless_quiet end place)) agrees)
+    (opened_stands r is_inner stays place end l.around.inside l.around.between l.declared m v after (holds_on r c base holds) bw bi bb are.1.1.1.1.1)) in
+    relaxed r (directive_tokens first tokens end) (at c inner among_now None declared) [] (lone_parts d s parts) last.around (declared_behind end l.declared) (declared_tokens (directive_tokens first tokens end) declared) m m v
+    (last_declared first tokens end declared) (omega arith)
+    (told_so r (directive_tokens first tokens end) (at c inner among_now None declared) [] places (lone_parts d s parts) last (append-nil (lone_parts d s parts))
+    (begins_kept r is_inner (asking wanted) a first.sign first.word (tokens ++ end ∷ []) c (with_condition begun_so c) inner among_now declared places last holds are.0.begins are.0.is are.0.goes_on
+    (λ x. begun_asking is_inner wanted first.word.token place c inner among_now x condition.begins) (calm_open is_inner inside between are.1.0) rest))
+
+asking_left : (d : Answers) (is_inner wanted : Bool) (first : First) (parts : Parts) (end : At) → Leads d parts → (r : Reader) (st : Stands) (declared n : ℕ) (v : List (List Conditional)) (c : Conditions) → Holds r c → c.waiting ≡ v → levels_of st ≤ n
+    → n + length (directive_tokens first (all_tokens parts) end) ≤ most_levels → all_kept (stack_of st) ≡ false → AskingLed d is_inner wanted first parts end r st declared n v c false
+asking_left d is_inner wanted first parts end leads r st declared n v c holds waits few_st few left are =
+    let s = stack_of st in
+    let more = asked_open d wanted first parts end s in
+    let x = opened_more is_inner more s in
+    let gone = more_left is_inner more s left in
+    let tokens = all_tokens parts in
+    let now = declared_first first declared in
+    let l = last_behind d parts x now (n + 1) v in
+    let last = last_at (ended_in end.ended l.around) (declared_behind end l.declared) l.levels v in
+    let less = fewer first (tokens ++ end ∷ []) in
+    let sum = length_both tokens (end ∷ []) in
+    let places = lone_parts d x parts ++ [] in
+    let toks = directive_tokens first tokens end in
+    relaxed r toks (stands_at c st declared) [] (lone_parts d x parts) (ended_in end.ended l.around) (declared_behind end l.declared) (declared_tokens toks declared) l.levels (n + length toks) v
+    (last_declared first tokens end declared) (omega (arith, less, sum))
+    (told_so r toks (stands_at c st declared) [] places (lone_parts d x parts) last (append-nil (lone_parts d x parts))
+    (opens_left r is_inner (within r) (asking wanted) first (tokens ++ end ∷ []) more st declared n v c places last holds waits few_st (omega (arith, few, less, sum)) left are.1.0 are.0 (λ m b. asking_stays wanted m b) (asking_level wanted)
+    (λ m e.
+    left_led d parts leads r (end ∷ []) x now (n + 1) v m [] last e (among_left d (within r) x now parts gone are.1.1.0.0) are.1.1.1.1.0 (omega (arith, few, less, sum))
+    (λ m2 e2. left_token r end [] l.around l.declared l.levels v m2 [] [] last e2 (are.1.1.0.1 ∙ gone) are.1.1.1.0 (omega (arith, few, less, sum))
+    (λ m3 e3. rests r m3 last e3)))))
+
+asking_leads : (d : Answers) (is_inner wanted : Bool) (first : First) (parts : Parts) (end : At) → Leads d parts → StandLeads d (Asking is_inner wanted first parts end)
+asking_leads d is_inner wanted first parts end leads r st declared n v c holds waits few_st are takes few = go (all_kept (stack_of st)) refl are
+  where
+    go : (k : Bool) → all_kept (stack_of st) ≡ k → AskingLed d is_inner wanted first parts end r st declared n v c k
+    go true e =
+        kept_only (λ x. AskingLed d is_inner wanted first parts end r x declared n v c true) (asking_kept d is_inner wanted first parts end leads r declared n v c holds waits few) st e
+    go false e = asking_left d is_inner wanted first parts end leads r st declared n v c holds waits few_st few e
+
+-- One with a name
+
+abbrev named_open : Answers → Bool → First → At → Open
+named_open d if_declared first name = first_side first if_declared (d.is_declared name)
+
+abbrev OpeningIs : Answers → Bool → Bool → Bool → First → Parts → At → Parts → At → ℕ → Around → Bool → Type 0
+OpeningIs d is_within is_inner if_declared first before name behind end declared s k =
+    let x = cond k s (opened_more is_inner (named_open d if_declared first name) s) in
+    let y = behind_name d before name x in
+    let now = declared_first first declared in
+    let later = declared_tokens (all_tokens before) now in
+    IsFirst k is_inner is_within (opening if_declared) first
+    × (NoneInside is_inner s
+    × ((AreParts d (among is_within x) x now before × AddsNone d x before)
+    × ((IsName name × ((declared_before name.token.bytes later name.out.names ≡ d.is_declared name) × (all_kept y ≡ all_kept x)))
+    × ((AreParts d (among is_within y) y (declared_behind name later) behind × AddsNone d y behind) × (IsSemicolon end × NoneInsideBehind k is_inner end (behind_parts d y behind))))))
+
+abbrev opening_tokens : First → Parts → At → Parts → At → List At
+opening_tokens first before name behind end = first_tokens first (all_tokens before ++ name ∷ (all_tokens behind ++ end ∷ []))
+
+abbrev OpeningLed : Answers → Bool → Bool → First → Parts → At → Parts → At → Reader → Stands → ℕ → ℕ → List (List Conditional) → Conditions → Bool → Type 0
+OpeningLed d is_inner if_declared first before name behind end r st declared n v c k =
+    let s = stack_of st in
+    let act : Around → Around = opened_more is_inner (named_open d if_declared first name) in
+    let x = cond k s (act s) in
+    let toks = opening_tokens first before name behind end in
+    OpeningIs d (within r) is_inner if_declared first before name behind end declared s k
+    → Led r toks (stands_at c st declared) [] (lone_parts d x before ++ lone_parts d (behind_name d before name x) behind)
+    (last_at (ended_in end.ended (cond k (act (behind_parts d (behind_name d before name s) behind)) (behind_parts d (behind_name d before name (act s)) behind))) (declared_tokens toks declared) (n + length toks) v)
+
+opening_declared : (first : First) (before : Parts) (name : At) (behind : Parts) (end : At) (declared : ℕ)
+    → declared_behind end (declared_tokens (all_tokens behind) (declared_behind name (declared_tokens (all_tokens before) (declared_first first declared)))) ≡ declared_tokens (opening_tokens first before name behind end) declared
+opening_declared first before name behind end declared =
+    let now = declared_first first declared in
+    let rest = all_tokens behind ++ end ∷ [] in
+    sym (declared_both (all_tokens behind) (end ∷ []) (declared_behind name (declared_tokens (all_tokens before) now)))
+    ∙ sym (declared_both (all_tokens before) (name ∷ rest) now)
+    ∙ declared_behind_first first (all_tokens before ++ name ∷ rest) declared
+
+opening_kept : (d : Answers) (is_inner if_declared : Bool) (first : First) (before : Parts) (name : At) (behind : Parts) (end : At) → Leads d before → Leads d behind → (r : Reader) (declared n : ℕ) (v : List (List Conditional)) (c : Conditions) → Holds r c → c.waiting ≡ v
+    → n + length (opening_tokens first before name behind end) ≤ most_levels
+    → (inside between : List Open) (si : are_kept inside ≡ true) (sb : are_kept between ≡ true) → OpeningLed d is_inner if_declared first before name behind end r (AllStay inside between si sb) declared n v c true
+opening_kept d is_inner if_declared first before name behind end leads_before leads_behind r declared n v c holds waits few inside between si sb are =
+    let s : Around = record { inside = inside; between = between } in
+    let all = both_kept inside between si sb in
+    let place = begins first in
+    let now = declared_first first declared in
+    let inner = conditionals inside in
+    let among_now = conditionals between in
+    let waits_name = awaits.Name if_declared in
+    let start = reading is_inner place waits_name c inner among_now now in
+    let l = last_behind d before s now n v in
+    let y = behind_name d before name s in
+    let later = declared_behind name l.declared in
+    let l2 = last_behind d behind y later l.levels v in
+    let toks = opening_tokens first before name behind end in
+    let rest_behind = all_tokens behind ++ end ∷ [] in
+    let m = n + length toks in
+    let is_so = is_kept if_declared name.out l.declared name.token.bytes in
+    let stays = cond if_declared (d.is_declared name) (not (d.is_declared name)) in
+    let agrees : is_so ≡ stays = ap (λ b. cond if_declared b (not b)) are.1.1.1.0.1.0 in
+    let waits_end = awaits.End (effect.Opens is_so) in
+    let last = last_at (ended_in end.ended (opened_more is_inner (new_open place stays) l2.around)) (declared_behind end l2.declared) m v in
+    let less = fewer first (all_tokens before ++ name ∷ rest_behind) in
+    let sum = length_both (all_tokens before) (name ∷ rest_behind) in
+    let sum_behind = length_both (all_tokens behind) (end ∷ []) in
+    let places_behind = lone_parts d y behind in
+    let places = lone_parts d s before ++ places_behind in
+    let adds = are.1.1.0.1 in
+    let adds_behind = are.1.1.1.1.0.1 in
+    let all_behind_name : all_kept y ≡ true = are.1.1.1.0.1.1 ∙ all in
+    let further : (base : Conditions) → base.waiting ≡ v → are_kept l.around.inside ≡ true → are_kept l.around.between ≡ true
+    → Led r (name ∷ rest_behind) (reading is_inner place waits_name (record base { pending = c.pending; conditions = c.conditions }) (conditionals l.around.inside) (conditionals l.around.between) l.declared) [] places_behind last = λ base bw bi bb.
+    let after = record base { pending = c.pending; conditions = c.conditions } in
+    let i = conditionals l.around.inside in
+    let b = conditionals l.around.between in
+    let named_so = reading is_inner place waits_end after i b l.declared in
+    let p = directive is_inner place waits_end in
+    let there = ended_behind name.ended named_so in
+    passes r name rest_behind (reading is_inner place waits_name after i b l.declared) named_so there [] places_behind last (name_kept is_inner if_declared place name after i b l.declared are.1.1.1.0.0.is) refl
+    (told_so r rest_behind there [] (places_behind ++ []) places_behind last (append-nil places_behind)
+    (within_led d behind leads_behind r (end ∷ []) is_inner place waits_end after after.conditions after.conditions y later l.levels v there [] last
+    (ended_stands (Reads p after.pending after.conditions) name.ended (AllStay l.around.inside l.around.between bi bb) l.declared l.levels v (awaits_it is_inner place waits_end after) (refl, refl) bw (omega arith))
+    all_behind_name (among_kept d (within r) y later behind all_behind_name are.1.1.1.1.0.0) adds_behind.0
+    (takes_none (kept_sides d y behind) (Reads p after.pending after.conditions) adds_behind.1) (reads_none (kept_sides d y behind) (Reads p after.pending after.conditions) adds_behind.1) (omega (arith, few, less, sum, sum_behind))
+    (λ base2 bw2 bi2 bb2.
+    let last_base = record base2 { pending = after.pending; conditions = after.conditions } in
+    let i2 = conditionals l2.around.inside in
+    let b2 = conditionals l2.around.between in
+    acts r end (reading is_inner place waits_end last_base i2 b2 l2.declared) (opened_at is_inner stays place last_base i2 b2 l2.declared) None (unless_quiet end place) last
+    (end_kept (effect.Opens is_so) is_inner place end last_base i2 b2 l2.declared are.1.1.1.1.1.0
+    ∙ ap (λ x. ended_so (opened_at is_inner x place last_base i2 b2 l2.declared) None (unless_quiet end place)) agrees)
+    (opened_stands r is_inner stays place end l2.around.inside l2.around.between l2.declared m v last_base (holds_on r c base2 holds) bw2 bi2 bb2 are.1.1.1.1.1.1)))) in
+    let p_name = directive is_inner place waits_name in
+    let rest : Led r (all_tokens before ++ name ∷ rest_behind) start [] places last =
+    within_led d before leads_before r (name ∷ rest_behind) is_inner place waits_name c c.conditions c.conditions s now n v start places_behind last
+    (record { base = awaits_it is_inner place waits_name c; stand = AllStay inside between si sb; holds = (refl, refl); waits = waits; is = refl; stack = refl; few = omega arith })
+    all (among_kept d (within r) s now before all are.1.1.0.0) adds.0
+    (takes_none (kept_sides d s before) (Reads p_name c.pending c.conditions) adds.1) (reads_none (kept_sides d s before) (Reads p_name c.pending c.conditions) adds.1) (omega (arith, few, less, sum)) further in
+    relaxed r toks (at c inner among_now None declared) [] places last.around (declared_behind end l2.declared) (declared_tokens toks declared) m m v
+    (opening_declared first before name behind end declared) (omega arith)
+    (begins_kept r is_inner (opening if_declared) waits_name first.sign first.word (all_tokens before ++ name ∷ rest_behind) c c inner among_now declared places last holds are.0.begins are.0.is are.0.goes_on
+    (λ x. begun_opening is_inner if_declared first.word.token place (at c inner among_now None x)) (calm_open is_inner inside between are.1.0) rest)
+
+opening_left : (d : Answers) (is_inner if_declared : Bool) (first : First) (before : Parts) (name : At) (behind : Parts) (end : At) → Leads d before → Leads d behind → (r : Reader) (st : Stands) (declared n : ℕ) (v : List (List Conditional)) (c : Conditions)
+    → Holds r c → c.waiting ≡ v → levels_of st ≤ n → n + length (opening_tokens first before name behind end) ≤ most_levels → all_kept (stack_of st) ≡ false → OpeningLed d is_inner if_declared first before name behind end r st declared n v c false
+opening_left d is_inner if_declared first before name behind end leads_before leads_behind r st declared n v c holds waits few_st few left are =
+    let s = stack_of st in
+    let more = named_open d if_declared first name in
+    let x = opened_more is_inner more s in
+    let gone = more_left is_inner more s left in
+    let now = declared_first first declared in
+    let l = last_behind d before x now (n + 1) v in
+    let y = behind_name d before name x in
+    let later = declared_behind name l.declared in
+    let l2 = last_behind d behind y later l.levels v in
+    let last = last_at (ended_in end.ended l2.around) (declared_behind end l2.declared) l2.levels v in
+    let toks = opening_tokens first before name behind end in
+    let rest_behind = all_tokens behind ++ end ∷ [] in
+    let less = fewer first (all_tokens before ++ name ∷ rest_behind) in
+    let sum = length_both (all_tokens before) (name ∷ rest_behind) in
+    let sum_behind = length_both (all_tokens behind) (end ∷ []) in
+    let places_behind = lone_parts d y behind in
+    let places = lone_parts d x before ++ places_behind in
+    let adds = are.1.1.0.1 in
+    let adds_behind = are.1.1.1.1.0.1 in
+    let gone_behind : all_kept y ≡ false = are.1.1.1.0.1.1 ∙ gone in
+    let name_is = are.1.1.1.0.0 in
+    let from_name : Further r (name ∷ rest_behind) places_behind l last = λ m e.
+    left_token r name rest_behind l.around l.declared l.levels v m [] places_behind last e (adds.0 ∙ gone) (name_plain name name_is.is name_is.no_word) (omega (arith, few, less, sum))
+    (λ m2 e2.
+    told_so r rest_behind m2 [] (places_behind ++ []) places_behind last (append-nil places_behind)
+    (left_led d behind leads_behind r (end ∷ []) y later l.levels v m2 [] last e2 (among_left d (within r) y later behind gone_behind are.1.1.1.1.0.0) adds_behind.1 (omega (arith, few, less, sum, sum_behind))
+    (λ m3 e3. left_token r end [] l2.around l2.declared l2.levels v m3 [] [] last e3 (adds_behind.0 ∙ gone_behind) (semicolon_plain end are.1.1.1.1.1.0) (omega (arith, few, less, sum, sum_behind))
+    (λ m4 e4. rests r m4 last e4)))) in
+    relaxed r toks (stands_at c st declared) [] places (ended_in end.ended l2.around) (declared_behind end l2.declared) (declared_tokens toks declared) l2.levels (n + length toks) v
+    (opening_declared first before name behind end declared) (omega (arith, less, sum, sum_behind))
+    (opens_left r is_inner (within r) (opening if_declared) first (all_tokens before ++ name ∷ rest_behind) more st declared n v c places last holds waits few_st (omega (arith, few, less, sum)) left are.1.0 are.0 (λ m b. opening_stays if_declared m b) (opening_level if_declared)
+    (λ m e. left_led d before leads_before r (name ∷ rest_behind) x now (n + 1) v m places_behind last e (among_left d (within r) x now before gone are.1.1.0.0) adds.1 (omega (arith, few, less, sum)) from_name))
+
+opening_leads : (d : Answers) (is_inner if_declared : Bool) (first : First) (before : Parts) (name : At) (behind : Parts) (end : At) → Leads d before → Leads d behind → StandLeads d (Opening is_inner if_declared first before name behind end)
+opening_leads d is_inner if_declared first before name behind end leads_before leads_behind r st declared n v c holds waits few_st are takes few = go (all_kept (stack_of st)) refl are
+  where
+    go : (k : Bool) → all_kept (stack_of st) ≡ k → OpeningLed d is_inner if_declared first before name behind end r st declared n v c k
+    go true e =
+        kept_only (λ x. OpeningLed d is_inner if_declared first before name behind end r x declared n v c true)
+        (opening_kept d is_inner if_declared first before name behind end leads_before leads_behind r declared n v c holds waits few) st e
+    go false e = opening_left d is_inner if_declared first before name behind end leads_before leads_behind r st declared n v c holds waits few_st few e
+
+-- All parts
+
+abbrev PartLeads : Answers → Part → Type 0
+PartLeads d part = (r : Reader) (s : Around) (declared n : ℕ) (v : List (List Conditional)) (c : Conditions) → StandsAt r (last_at s declared n v) c → IsPart d (within r) s declared part → TakesAll r (kept_of part s)
+    → n + length (part_tokens part) ≤ most_levels
+    → Led r (part_tokens part) c (kept_of part s) (lone_of d part s) (last_part d part s declared n v)
+
+part_from : (d : Answers) (part : Part) → StandLeads d part → PartLeads d part
+part_from d part leads r s declared n v c e are takes few =
+    let P : Around → Type 0 = λ x. IsPart d (within r) x declared part → TakesAll r (kept_of part x)
+    → Led r (part_tokens part) (stands_at e.base e.stand declared) (kept_of part x) (lone_of d part x) (last_part d part x declared n v) in
+    let led : P s = subst P e.stack (λ are_so takes_so. leads r e.stand declared n v e.base e.holds e.waits e.few are_so takes_so few) in
+    subst (λ (x : Conditions). Led r (part_tokens part) x (kept_of part s) (lone_of d part s) (last_part d part s declared n v)) (sym e.is) (led are takes)
+
+none_leads : (d : Answers) → Leads d NoParts
+none_leads d r s declared n v c e are takes few =
+    relaxed r [] c [] [] s declared declared n (n + length (all_tokens NoParts)) v refl (omega arith) (rests r c (last_at s declared n v) e)
+
+then_leads : (d : Answers) (part : Part) (parts : Parts) → PartLeads d part → Leads d parts → Leads d (Then part parts)
+then_leads d part parts leads_part leads r s declared n v c e are takes few =
+    let toks = part_tokens part in
+    let kept_so = kept_of part s in
+    let sum = length_both toks (all_tokens parts) in
+    let l = last_part d part s declared n v in
+    let both = takes_both kept_so (kept_sides d l.around parts) r takes in
+    let first = leads_part r s declared n v c e are.0 both.0 (omega (arith, few, sum)) in
+    let there = all_behind toks c in
+    let q = read_on kept_so r in
+    let l2 = last_behind d parts l.around l.declared l.levels v in
+    let second = leads q l.around l.declared l.levels v there first.ends (subst (λ b. AreParts d b l.around l.declared parts) (sym (within_same kept_so r)) are.1) both.1 (omega (arith, few, sum)) in
+    relaxed r (toks ++ all_tokens parts) c (kept_so ++ kept_sides d l.around parts) (lone_of d part s ++ lone_parts d l.around parts) l2.around l2.declared (declared_tokens (toks ++ all_tokens parts) declared) l2.levels (n + length (toks ++ all_tokens parts)) v
+    (sym (declared_both toks (all_tokens parts) declared)) (omega (arith, sum))
+    (joined r toks (all_tokens parts) c kept_so (kept_sides d l.around parts) (lone_of d part s) (lone_parts d l.around parts) l l2 first second)
+
+mutual
+  part_led : (d : Answers) (part : Part) → PartLeads d part
+  part_led d (Plain t) = part_from d (Plain t) (plain_leads d t)
+  part_led d (Signed is_inner sign t) = part_from d (Signed is_inner sign t) (signed_leads d is_inner sign t)
+  part_led d (Opening is_inner if_declared first before name behind end) =
+      part_from d (Opening is_inner if_declared first before name behind end) (opening_leads d is_inner if_declared first before name behind end (led d before) (led d behind))
+  part_led d (Asking is_inner wanted first parts end) = part_from d (Asking is_inner wanted first parts end) (asking_leads d is_inner wanted first parts end (led d parts))
+  part_led d (Turning is_inner first parts end) = part_from d (Turning is_inner first parts end) (turning_leads d is_inner first parts end (led d parts))
+  part_led d (Closing is_inner first parts end) = part_from d (Closing is_inner first parts end) (closing_leads d is_inner first parts end (led d parts))
+
+  pub led : (d : Answers) (parts : Parts) → Leads d parts
+  led d NoParts = none_leads d
+  led d (Then part parts) = then_leads d part parts (part_led d part) (led d parts)
+
+-- What is open at last
+
 outer_kept : (around : List Open) → are_kept around ≡ true → outer around ≡ around
 outer_kept [] stay = refl
 outer_kept (x ∷ around) stay =
@@ -813,23 +1955,18 @@ outer_left [] x around left stay = ap (λ b. cond b (x ∷ outer around) (outer 
 outer_left (y ∷ deep) x around left stay =
     ap (λ b. cond b (y ∷ outer (deep ++ x ∷ around)) (outer (deep ++ x ∷ around))) (not_kept deep x around left) ∙ outer_left deep x around left stay
 
-are_open : (inner among : List Conditional) (s : Stands inner among) → AreOpen (stack_of inner among s) inner among
-are_open inner among (AllStay inside between si sb mi mb) = record {
-  inside = sym (ap conditionals (outer_kept inside si) ∙ mi);
-  between = sym (ap conditionals (outer_kept between sb) ∙ mb);
-}
-are_open inner among (InnerLeft deep x inside between left si sb mi mb) = record {
-  inside = sym (ap conditionals (outer_left deep x inside left si) ∙ mi);
-  between = sym (ap conditionals (outer_kept between sb) ∙ mb);
-}
-are_open inner among (OuterLeft deep x between none left sb mb) = record {
-  inside = none;
-  between = sym (ap conditionals (outer_left deep x between left sb) ∙ mb);
-}
+pub record AreOpen (last : Around) (inner among : List Conditional) : Type 0 where
+  pub inside : inner ≡ conditionals (outer last.inside)
+  pub between : among ≡ conditionals (outer last.between)
 
-pub open_of : (last : Last) (c : Conditions) → EndsAs last c → AreOpen last.around c.inner c.among
-open_of last c e =
-    let all = are_open e.inner e.among e.stand in
+are_open : (st : Stands) → AreOpen (stack_of st) (inner_of st) (among_of st)
+are_open (AllStay inside between si sb) = record { inside = sym (ap conditionals (outer_kept inside si)); between = sym (ap conditionals (outer_kept between sb)) }
+are_open (InnerLeft deep x inside between left si sb) = record { inside = sym (ap conditionals (outer_left deep x inside left si)); between = sym (ap conditionals (outer_kept between sb)) }
+are_open (OuterLeft deep x between left sb) = record { inside = refl; between = sym (ap conditionals (outer_left deep x between left sb)) }
+
+pub open_of : (r : Reader) (last : Last) (c : Conditions) → StandsAt r last c → AreOpen last.around c.inner c.among
+open_of r last c e =
+    let all = are_open e.stand in
     record {
       inside = ap (λ (x : Conditions). x.inner) e.is ∙ all.inside ∙ ap (λ (s : Around). conditionals (outer s.inside)) e.stack;
       between = ap (λ (x : Conditions). x.among) e.is ∙ all.between ∙ ap (λ (s : Around). conditionals (outer s.between)) e.stack;
@@ -857,748 +1994,33 @@ pub told_both : (files : FileNames) (first second : List Place) (r : Reported) �
 told_both files [] second r = refl
 told_both files (p ∷ first) second r = told_both files first second (with_lone files p r)
 
-none_inner : (inner : List Conditional) → [] ≡ inner → inner ≡ []
-none_inner inner e = sym e
-
-some_open : (deep : List Open) (x : Open) (around : List Open) → deep ++ x ∷ around ≡ [] → ⊥
-some_open [] x around e = cc
-some_open (y ∷ deep) x around e = cc
-
-no_false : true ≡ false → ⊥
-no_false e = cc
-
--- between directives none is open that was opened inside one
-turning_right : (is_inner : Bool) (first : First) (end : At) (s : Around) → StandsRight (Turning is_inner first end) s → is_inner ≡ false → s.inside ≡ []
-turning_right false first end s right e = right
-turning_right true first end s right e = cc
-
-closing_right : (is_inner : Bool) (first : First) (end : At) (s : Around) → StandsRight (Closing is_inner first end) s → is_inner ≡ false → s.inside ≡ []
-closing_right false first end s right e = right
-closing_right true first end s right e = cc
-
--- All parts
-
-abbrev Onward : Answers → List Part → Conditions → List (List Conditional) → Type 0
-Onward d parts c w = (inner among : List Conditional) (s : Stands inner among) (declared : ℕ) → Agree d declared parts → AllStandRight d (stack_of inner among s) parts
-    → levels_of inner among s + length (all_tokens parts) ≤ most_levels
-    → Led (all_tokens parts) (at c inner among (left_of inner among s) declared) (kept_sides d (stack_of inner among s) parts) (lone_parts d (stack_of inner among s) parts) (record { around = behind_parts d (stack_of inner among s) parts; waiting = w })
-
--- behind the end of a directive, or where none ends
-behind_end : (d : Answers) (parts : List Part) (c : Conditions) (w : List (List Conditional)) → Onward d parts c w → (e : Option ℕ) (inner among : List Conditional) (s : Stands inner among) (declared : ℕ)
-    → Agree d (unwrap_or e declared) parts → AllStandRight d (ended_in e (stack_of inner among s)) parts → levels_of inner among s + length (all_tokens parts) ≤ most_levels
-    → Led (all_tokens parts) (ended_behind e (at c inner among (left_of inner among s) declared)) (kept_sides d (ended_in e (stack_of inner among s)) parts) (lone_parts d (ended_in e (stack_of inner among s)) parts) (record { around = behind_parts d (ended_in e (stack_of inner among s)) parts; waiting = w })
-behind_end d parts c w on None inner among s declared agree right few = on inner among s declared agree right few
-behind_end d parts c w on (Some now) inner among (AllStay inside between si sb mi mb) declared agree right few = on [] among (AllStay [] between refl sb refl mb) now agree right few
-behind_end d parts c w on (Some now) inner among (InnerLeft deep x inside between left si sb mi mb) declared agree right few =
-    on [] among (AllStay [] between refl sb refl mb) now agree right (omega (arith, few))
-behind_end d parts c w on (Some now) inner among (OuterLeft deep x between none left sb mb) declared agree right few = on [] among (OuterLeft deep x between refl left sb mb) now agree right few
-
-pub led : (d : Answers) (parts : List Part) (inner among : List Conditional) (s : Stands inner among) (declared : ℕ) (c : Conditions) (w : List (List Conditional)) → c.waiting ≡ w → AreParts parts → Agree d declared parts
-    → AllStandRight d (stack_of inner among s) parts → levels_of inner among s + length (all_tokens parts) ≤ most_levels
-    → Led (all_tokens parts) (at c inner among (left_of inner among s) declared) (kept_sides d (stack_of inner among s) parts) (lone_parts d (stack_of inner among s) parts) (record { around = behind_parts d (stack_of inner among s) parts; waiting = w })
-led d [] inner among s declared c w cw are agree right few = record { hands = refl; tells = refl; ends = record { base = c; inner = inner; among = among; stand = s; declared = declared; is = refl; stack = refl; waits = cw } }
-led d (Plain t ∷ parts) inner among (AllStay inside between si sb mi mb) declared c w cw are agree right few =
-    let on : Onward d parts c w = λ i a s m agreed rightly enough. led d parts i a s m c w cw are.1 agreed rightly enough in
-    let s : Around = record { inside = inside; between = between } in
-    let here = at c inner among (None) declared in
-    let tokens = kept_sides d (ended_in t.ended s) parts in
-    let places = lone_parts d (ended_in t.ended s) parts in
-    let last : Last = record { around = behind_parts d (ended_in t.ended s) parts; waiting = w } in
-    let rest = behind_end d parts c w on t.ended inner among (AllStay inside between si sb mi mb) declared agree right.1 (omega (arith, few)) in
-    subst (λ k. Led (t ∷ all_tokens parts) here (cond k (t.token ∷ []) [] ++ tokens) places last) (sym (both_kept inside between si sb))
-    (keeps t (all_tokens parts) here tokens places last (plain_kept t c inner among declared are.0) rest)
-led d (Plain t ∷ parts) inner among (InnerLeft deep x inside between left si sb mi mb) declared c w cw are agree right few =
-    let on : Onward d parts c w = λ i a s m agreed rightly enough. led d parts i a s m c w cw are.1 agreed rightly enough in
-    let s : Around = record { inside = deep ++ x ∷ inside; between = between } in
-    let here = at c inner among (left_at true (length deep)) declared in
-    let tokens = kept_sides d (ended_in t.ended s) parts in
-    let places = lone_parts d (ended_in t.ended s) parts in
-    let last : Last = record { around = behind_parts d (ended_in t.ended s) parts; waiting = w } in
-    let rest = behind_end d parts c w on t.ended inner among (InnerLeft deep x inside between left si sb mi mb) declared agree right.1 (omega (arith, few)) in
-    subst (λ k. Led (t ∷ all_tokens parts) here (cond k (t.token ∷ []) [] ++ tokens) places last) (sym (inner_not_kept deep x inside between left))
-    (passes t (all_tokens parts) here here (ended_behind t.ended here) tokens places last (plain_left t c inner among true (length deep) declared are.0 (omega (arith, few))) refl rest)
-led d (Plain t ∷ parts) inner among (OuterLeft deep x between none left sb mb) declared c w cw are agree right few =
-    let on : Onward d parts c w = λ i a s m agreed rightly enough. led d parts i a s m c w cw are.1 agreed rightly enough in
-    let s : Around = record { inside = []; between = deep ++ x ∷ between } in
-    let here = at c inner among (left_at false (length deep)) declared in
-    let tokens = kept_sides d (ended_in t.ended s) parts in
-    let places = lone_parts d (ended_in t.ended s) parts in
-    let last : Last = record { around = behind_parts d (ended_in t.ended s) parts; waiting = w } in
-    let rest = behind_end d parts c w on t.ended inner among (OuterLeft deep x between none left sb mb) declared agree right.1 (omega (arith, few)) in
-    subst (λ k. Led (t ∷ all_tokens parts) here (cond k (t.token ∷ []) [] ++ tokens) places last) (sym (not_kept deep x between left))
-    (passes t (all_tokens parts) here here (ended_behind t.ended here) tokens places last (plain_left t c inner among false (length deep) declared are.0 (omega (arith, few))) refl rest)
-led d (Signed true sign t ∷ parts) inner among (AllStay inside between si sb mi mb) declared c w cw are agree right few =
-    let on : Onward d parts (given_up_so c) w = λ i a s m agreed rightly enough. led d parts i a s m (given_up_so c) w cw are.1 agreed rightly enough in
-    let s : Around = record { inside = inside; between = between } in
-    let here = at c inner among None declared in
-    let place = sign.token.place in
-    let now = declared_behind sign declared in
-    let calm : Calm true inner None = λ e. absurd (no_false e) in
-    let tokens = kept_sides d (ended_in t.ended s) parts in
-    let places = lone_parts d (ended_in t.ended s) parts in
-    let last : Last = record { around = behind_parts d (ended_in t.ended s) parts; waiting = w } in
-    let rest = behind_end d parts (given_up_so c) w on t.ended inner among (AllStay inside between si sb mi mb) now agree right.1 (omega (arith, few)) in
-    subst (λ k. Led (sign ∷ t ∷ all_tokens parts) here (cond k (hash place ∷ t.token ∷ []) [] ++ tokens) places last) (sym (both_kept inside between si sb))
-    (passes sign (t ∷ all_tokens parts) here (state c [] (Some place) inner among None declared) (state c [] (Some place) inner among None now) (hash place ∷ t.token ∷ tokens) places last
-    (sign_inner sign c inner among declared are.0.0.0 are.0.0.1.0)
-    (mid true sign c [] (Some place) inner among None declared are.0.0.1.1 calm)
-    (keeps_both t (all_tokens parts) place (state c [] (Some place) inner among None now) (at (given_up_so c) inner among None now) tokens places last
-    (inside_kept place t c inner among now are.0.1) rest))
-led d (Signed false sign t ∷ parts) inner among (AllStay [] between si sb mi mb) declared c w cw are agree right few =
-    let on : Onward d parts c w = λ i a s m agreed rightly enough. led d parts i a s m c w cw are.1 agreed rightly enough in
-    let s : Around = record { inside = []; between = between } in
-    let here = at c inner among None declared in
-    let place = sign.token.place in
-    let now = declared_behind sign declared in
-    let none : inner ≡ [] = none_inner inner mi in
-    let calm : Calm false inner None = λ _. (none, refl) in
-    let tokens = kept_sides d (ended_in t.ended s) parts in
-    let places = lone_parts d (ended_in t.ended s) parts in
-    let last : Last = record { around = behind_parts d (ended_in t.ended s) parts; waiting = w } in
-    let rest = behind_end d parts c w on t.ended inner among (AllStay [] between si sb mi mb) now agree right.1 (omega (arith, few)) in
-    subst (λ k. Led (sign ∷ t ∷ all_tokens parts) here (cond k (hash place ∷ t.token ∷ []) [] ++ tokens) places last) (sym (both_kept [] between si sb))
-    (passes sign (t ∷ all_tokens parts) here (reading false place awaits.Word c inner among declared) (reading false place awaits.Word c inner among now) (hash place ∷ t.token ∷ tokens) places last
-    (sign_kept sign c inner among declared are.0.0.0 are.0.0.1)
-    (mid false sign c (directive false place awaits.Word ∷ []) None inner among None declared tt calm)
-    (keeps_both t (all_tokens parts) place (reading false place awaits.Word c inner among now) (at c inner among None now) tokens places last
-    (front_kept place t c inner among now are.0.1) rest))
-led d (Signed false sign t ∷ parts) inner among (AllStay (y ∷ inside) between si sb mi mb) declared c w cw are agree right few = absurd (some_open [] y inside right.0)
-led d (Signed false sign t ∷ parts) inner among (InnerLeft deep x inside between left si sb mi mb) declared c w cw are agree right few = absurd (some_open deep x inside right.0)
-led d (Signed true sign t ∷ parts) inner among (InnerLeft deep x inside between left si sb mi mb) declared c w cw are agree right few =
-    let on : Onward d parts c w = λ i a s m agreed rightly enough. led d parts i a s m c w cw are.1 agreed rightly enough in
-    let s : Around = record { inside = deep ++ x ∷ inside; between = between } in
-    let n = length deep in
-    let here : ℕ → Conditions = at c inner among (left_at true n) in
-    let place = sign.token.place in
-    let now = declared_behind sign declared in
-    let calm : CalmLeft true inner true = λ e. absurd (no_false e) in
-    let held_back : ℕ → Conditions = state c [] (Some place) inner among (left_at true n) in
-    let tokens = kept_sides d (ended_in t.ended s) parts in
-    let places = lone_parts d (ended_in t.ended s) parts in
-    let last : Last = record { around = behind_parts d (ended_in t.ended s) parts; waiting = w } in
-    let rest = behind_end d parts c w on t.ended inner among (InnerLeft deep x inside between left si sb mi mb) now agree right.1 (omega (arith, few)) in
-    subst (λ k. Led (sign ∷ t ∷ all_tokens parts) (here declared) (cond k (hash place ∷ t.token ∷ []) [] ++ tokens) places last) (sym (inner_not_kept deep x inside between left))
-    (passes sign (t ∷ all_tokens parts) (here declared) (held_back declared) (held_back now) tokens places last
-    (sign_left sign c inner among true n declared are.0.0.1.0 (omega (arith, few)))
-    (mid true sign c [] (Some place) inner among (left_at true n) declared are.0.0.1.1 (calm_at true inner true n calm))
-    (passes t (all_tokens parts) (held_back now) (here now) (ended_behind t.ended (here now)) tokens places last
-    (signed_left t place c inner among true n now are.0.1 (omega (arith, few))) refl rest))
-led d (Signed is_inner sign t ∷ parts) inner among (OuterLeft deep x between none left sb mb) declared c w cw are agree right few =
-    let on : Onward d parts c w = λ i a s m agreed rightly enough. led d parts i a s m c w cw are.1 agreed rightly enough in
-    let s : Around = record { inside = []; between = deep ++ x ∷ between } in
-    let n = length deep in
-    let here : ℕ → Conditions = at c inner among (left_at false n) in
-    let place = sign.token.place in
-    let now = declared_behind sign declared in
-    let calm : CalmLeft is_inner inner false = λ _. (none, refl) in
-    let held_back : ℕ → Conditions = state c [] (Some place) inner among (left_at false n) in
-    let tokens = kept_sides d (ended_in t.ended s) parts in
-    let places = lone_parts d (ended_in t.ended s) parts in
-    let last : Last = record { around = behind_parts d (ended_in t.ended s) parts; waiting = w } in
-    let rest = behind_end d parts c w on t.ended inner among (OuterLeft deep x between none left sb mb) now agree right.1 (omega (arith, few)) in
-    subst (λ k. Led (sign ∷ t ∷ all_tokens parts) (here declared) (cond k (hash place ∷ t.token ∷ []) [] ++ tokens) places last) (sym (not_kept deep x between left))
-    (passes sign (t ∷ all_tokens parts) (here declared) (held_back declared) (held_back now) tokens places last
-    (sign_left sign c inner among false n declared (sign_hash is_inner sign t are.0.0) (omega (arith, few)))
-    (mid is_inner sign c [] (Some place) inner among (left_at false n) declared (sign_goes is_inner sign t are.0.0) (calm_at is_inner inner false n calm))
-    (passes t (all_tokens parts) (held_back now) (here now) (ended_behind t.ended (here now)) tokens places last
-    (signed_left t place c inner among false n now are.0.1 (omega (arith, few))) refl rest))
-led d (Opening true if_declared first name end ∷ parts) inner among (AllStay inside between si sb mi mb) declared c w cw are agree right few =
-    let on : Onward d parts c w = λ i a s m agreed rightly enough. led d parts i a s m c w cw are.1 agreed rightly enough in
-    let less = fewer first (name ∷ end ∷ all_tokens parts) in
-    let now = declared_first first declared in
-    let later = declared_behind name now in
-    let place = begins first in
-    let new : Conditional = record { place = place; is_second = false } in
-    let kept_so = is_kept if_declared name.out now name.token.bytes in
-    let stays = cond if_declared (d.is_declared name) (not (d.is_declared name)) in
-    let agrees : kept_so ≡ stays = ap (λ b. cond if_declared b (not b)) agree.0 in
-    let calm : Calm true inner None = λ e. absurd (no_false e) in
-    let stack : Bool → Bool → Around = λ k b.
-    cond k (record { inside = record { place = place; is_second = false; stays = b } ∷ inside; between = between }) (record { inside = inside; between = record { place = place; is_second = false; stays = b } ∷ between }) in
-    let after : Bool → Bool → Type 0 = λ k b. AllStandRight d (ended_in end.ended (stack k b)) parts
-    → Led (all_tokens parts) (ended_behind end.ended (at c (new ∷ inner) among (cond b None (left_at true 0)) later)) (kept_sides d (ended_in end.ended (stack k b)) parts) (lone_parts d (ended_in end.ended (stack k b)) parts) (record { around = behind_parts d (ended_in end.ended (stack k b)) parts; waiting = w }) in
-    let first_stays : Open = record { place = place; is_second = false; stays = true } in
-    let first_left : Open = record { place = place; is_second = false; stays = false } in
-    let rest : after (are_kept between) stays =
-    subst (λ k. after k stays) (sym sb)
-    (bool_cases (after true) stays
-    (λ rightly. behind_end d parts c w on end.ended (new ∷ inner) among (AllStay (first_stays ∷ inside) between si sb (ap (λ cs. new ∷ cs) mi) mb) later agree.1 rightly (omega (arith, few, less)))
-    (λ rightly. behind_end d parts c w on end.ended (new ∷ inner) among (InnerLeft [] first_left inside between refl si sb (ap (λ cs. new ∷ cs) mi) mb) later agree.1 rightly (omega (arith, few, less)))) in
-    let key = are_kept between in
-    let tokens = kept_sides d (ended_in end.ended (stack key stays)) parts in
-    let places = lone_parts d (ended_in end.ended (stack key stays)) parts in
-    let last : Last = record { around = behind_parts d (ended_in end.ended (stack key stays)) parts; waiting = w } in
-    let waits_name = awaits.Name if_declared in
-    let waits_end = awaits.End (effect.Opens kept_so) in
-    begins_kept true (opening if_declared) waits_name first.sign first.word (name ∷ end ∷ all_tokens parts) c c inner among declared tokens places last are.0.0.begins are.0.0.is are.0.0.goes_on
-    (λ m. begun_opening true if_declared first.word.token place (at c inner among None m)) calm
-    (passes name (end ∷ all_tokens parts) (reading true place waits_name c inner among now) (reading true place waits_end c inner among now) (reading true place waits_end c inner among later) tokens places last
-    (name_kept true if_declared place name c inner among now are.0.1.0.is)
-    (mid true name c (directive true place waits_end ∷ []) None inner among None now are.0.1.0.goes_on calm)
-    (acts end (all_tokens parts) (reading true place waits_end c inner among later) (at c (new ∷ inner) among (cond stays None (left_at true 0)) later) None (cond end.site.is_quiet None (Some place)) tokens places last
-    (end_kept (effect.Opens kept_so) true place end c inner among later are.0.1.1
-    ∙ ap (λ b. ended_so (at c (new ∷ inner) among (cond b None (left_at true 0)) later) None (cond end.site.is_quiet None (Some place))) agrees)
-    (rest right.1)))
-led d (Opening false if_declared first name end ∷ parts) inner among (AllStay [] between si sb mi mb) declared c w cw are agree right few =
-    let on : Onward d parts c w = λ i a s m agreed rightly enough. led d parts i a s m c w cw are.1 agreed rightly enough in
-    let less = fewer first (name ∷ end ∷ all_tokens parts) in
-    let now = declared_first first declared in
-    let later = declared_behind name now in
-    let place = begins first in
-    let new : Conditional = record { place = place; is_second = false } in
-    let kept_so = is_kept if_declared name.out now name.token.bytes in
-    let stays = cond if_declared (d.is_declared name) (not (d.is_declared name)) in
-    let agrees : kept_so ≡ stays = ap (λ b. cond if_declared b (not b)) agree.0 in
-    let none : inner ≡ [] = none_inner inner mi in
-    let calm : Calm false inner None = λ _. (none, refl) in
-    let stack : Bool → Bool → Around = λ k b. record { inside = []; between = record { place = place; is_second = false; stays = b } ∷ between } in
-    let after : Bool → Bool → Type 0 = λ k b. AllStandRight d (ended_in end.ended (stack k b)) parts
-    → Led (all_tokens parts) (ended_behind end.ended (at c inner (new ∷ among) (cond b None (left_at false 0)) later)) (kept_sides d (ended_in end.ended (stack k b)) parts) (lone_parts d (ended_in end.ended (stack k b)) parts) (record { around = behind_parts d (ended_in end.ended (stack k b)) parts; waiting = w }) in
-    let first_stays : Open = record { place = place; is_second = false; stays = true } in
-    let first_left : Open = record { place = place; is_second = false; stays = false } in
-    let rest : after false stays =
-    bool_cases (after false) stays
-    (λ rightly. behind_end d parts c w on end.ended inner (new ∷ among) (AllStay [] (first_stays ∷ between) si sb mi (ap (λ cs. new ∷ cs) mb)) later agree.1 rightly (omega (arith, few, less)))
-    (λ rightly. behind_end d parts c w on end.ended inner (new ∷ among) (OuterLeft [] first_left between none refl sb (ap (λ cs. new ∷ cs) mb)) later agree.1 rightly (omega (arith, few, less))) in
-    let key = false in
-    let tokens = kept_sides d (ended_in end.ended (stack key stays)) parts in
-    let places = lone_parts d (ended_in end.ended (stack key stays)) parts in
-    let last : Last = record { around = behind_parts d (ended_in end.ended (stack key stays)) parts; waiting = w } in
-    let waits_name = awaits.Name if_declared in
-    let waits_end = awaits.End (effect.Opens kept_so) in
-    begins_kept false (opening if_declared) waits_name first.sign first.word (name ∷ end ∷ all_tokens parts) c c inner among declared tokens places last are.0.0.begins are.0.0.is are.0.0.goes_on
-    (λ m. begun_opening false if_declared first.word.token place (at c inner among None m)) calm
-    (passes name (end ∷ all_tokens parts) (reading false place waits_name c inner among now) (reading false place waits_end c inner among now) (reading false place waits_end c inner among later) tokens places last
-    (name_kept false if_declared place name c inner among now are.0.1.0.is)
-    (mid false name c (directive false place waits_end ∷ []) None inner among None now are.0.1.0.goes_on calm)
-    (acts end (all_tokens parts) (reading false place waits_end c inner among later) (at c inner (new ∷ among) (cond stays None (left_at false 0)) later) None (cond end.site.is_quiet None (Some place)) tokens places last
-    (end_kept (effect.Opens kept_so) false place end c inner among later are.0.1.1
-    ∙ ap (λ b. ended_so (at c inner (new ∷ among) (cond b None (left_at false 0)) later) None (cond end.site.is_quiet None (Some place))) agrees)
-    (rest right.1)))
-led d (Opening false if_declared first name end ∷ parts) inner among (AllStay (y ∷ inside) between si sb mi mb) declared c w cw are agree right few = absurd (some_open [] y inside right.0)
-led d (Opening false if_declared first name end ∷ parts) inner among (InnerLeft deep x inside between left si sb mi mb) declared c w cw are agree right few = absurd (some_open deep x inside right.0)
-led d (Opening true if_declared first name end ∷ parts) inner among (InnerLeft deep x inside between left si sb mi mb) declared c w cw are agree right few =
-    let on : Onward d parts c w = λ i a s m agreed rightly enough. led d parts i a s m c w cw are.1 agreed rightly enough in
-    let less = fewer first (name ∷ end ∷ all_tokens parts) in
-    let now = declared_first first declared in
-    let later = declared_behind name now in
-    let n = length deep in
-    let deeper : ℕ → Conditions = at c inner among (left_at true (suc n)) in
-    let more : Open = first_side first if_declared (d.is_declared name) in
-    let calm : CalmLeft true inner true = λ e. absurd (no_false e) in
-    let stack : Bool → Around = λ k. cond k (record { inside = more ∷ deep ++ x ∷ inside; between = between }) (record { inside = deep ++ x ∷ inside; between = more ∷ between }) in
-    let key = are_kept between in
-    let here : key ≡ true = sb in
-    let after : Bool → Type 0 = λ k. AllStandRight d (ended_in end.ended (stack k)) parts
-    → Led (all_tokens parts) (ended_behind end.ended (deeper later)) (kept_sides d (ended_in end.ended (stack k)) parts) (lone_parts d (ended_in end.ended (stack k)) parts) (record { around = behind_parts d (ended_in end.ended (stack k)) parts; waiting = w }) in
-    let rest : after key =
-    subst after (sym here)
-    (λ rightly. behind_end d parts c w on end.ended inner among (InnerLeft (more ∷ deep) x inside between left si sb mi mb) later agree.1 rightly (omega (arith, few, less))) in
-    let tokens = kept_sides d (ended_in end.ended (stack key)) parts in
-    let places = lone_parts d (ended_in end.ended (stack key)) parts in
-    let last : Last = record { around = behind_parts d (ended_in end.ended (stack key)) parts; waiting = w } in
-    begins_left true (opening if_declared) (suc n) first.sign first.word (name ∷ end ∷ all_tokens parts) c inner among true n declared tokens places last are.0.0.begins are.0.0.is are.0.0.goes_on calm
-    (omega (arith, few, less)) (opening_stays if_declared n (second inner among)) (opening_level if_declared n)
-    (passes name (end ∷ all_tokens parts) (deeper now) (deeper now) (deeper later) tokens places last
-    (plain_left name c inner among true (suc n) now (name_plain name are.0.1.0.is are.0.1.0.no_word) (omega (arith, few, less)))
-    (mid true name c [] None inner among (left_at true (suc n)) now are.0.1.0.goes_on (calm_at true inner true (suc n) calm))
-    (passes end (all_tokens parts) (deeper later) (deeper later) (ended_behind end.ended (deeper later)) tokens places last
-    (plain_left end c inner among true (suc n) later (semicolon_plain end are.0.1.1) (omega (arith, few, less)))
-    refl
-    (rest right.1)))
-led d (Opening is_inner if_declared first name end ∷ parts) inner among (OuterLeft deep x between none left sb mb) declared c w cw are agree right few =
-    let on : Onward d parts c w = λ i a s m agreed rightly enough. led d parts i a s m c w cw are.1 agreed rightly enough in
-    let less = fewer first (name ∷ end ∷ all_tokens parts) in
-    let now = declared_first first declared in
-    let later = declared_behind name now in
-    let n = length deep in
-    let deeper : ℕ → Conditions = at c inner among (left_at false (suc n)) in
-    let more : Open = first_side first if_declared (d.is_declared name) in
-    let calm : CalmLeft is_inner inner false = λ _. (none, refl) in
-    let stack : Bool → Around = λ k. cond k (record { inside = more ∷ []; between = deep ++ x ∷ between }) (record { inside = []; between = more ∷ deep ++ x ∷ between }) in
-    let key = is_inner && are_kept (deep ++ x ∷ between) in
-    let here : key ≡ false = ap (λ k. is_inner && k) (not_kept deep x between left) ∙ and-false is_inner in
-    let after : Bool → Type 0 = λ k. AllStandRight d (ended_in end.ended (stack k)) parts
-    → Led (all_tokens parts) (ended_behind end.ended (deeper later)) (kept_sides d (ended_in end.ended (stack k)) parts) (lone_parts d (ended_in end.ended (stack k)) parts) (record { around = behind_parts d (ended_in end.ended (stack k)) parts; waiting = w }) in
-    let rest : after key =
-    subst after (sym here)
-    (λ rightly. behind_end d parts c w on end.ended inner among (OuterLeft (more ∷ deep) x between none left sb mb) later agree.1 rightly (omega (arith, few, less))) in
-    let tokens = kept_sides d (ended_in end.ended (stack key)) parts in
-    let places = lone_parts d (ended_in end.ended (stack key)) parts in
-    let last : Last = record { around = behind_parts d (ended_in end.ended (stack key)) parts; waiting = w } in
-    begins_left is_inner (opening if_declared) (suc n) first.sign first.word (name ∷ end ∷ all_tokens parts) c inner among false n declared tokens places last are.0.0.begins are.0.0.is are.0.0.goes_on calm
-    (omega (arith, few, less)) (opening_stays if_declared n (second inner among)) (opening_level if_declared n)
-    (passes name (end ∷ all_tokens parts) (deeper now) (deeper now) (deeper later) tokens places last
-    (plain_left name c inner among false (suc n) now (name_plain name are.0.1.0.is are.0.1.0.no_word) (omega (arith, few, less)))
-    (mid is_inner name c [] None inner among (left_at false (suc n)) now are.0.1.0.goes_on (calm_at is_inner inner false (suc n) calm))
-    (passes end (all_tokens parts) (deeper later) (deeper later) (ended_behind end.ended (deeper later)) tokens places last
-    (plain_left end c inner among false (suc n) later (semicolon_plain end are.0.1.1) (omega (arith, few, less)))
-    refl
-    (rest right.1)))
-led d (Asking true wanted first read end ∷ parts) inner among (AllStay inside between si sb mi mb) declared c w cw are agree right few =
-    let less = fewer first (read ++ end ∷ all_tokens parts) in
-    let long = longer read (end ∷ all_tokens parts) in
-    let now = declared_first first declared in
-    let later = declared_tokens read now in
-    let place = begins first in
-    let new : Conditional = record { place = place; is_second = false } in
-    let begun_so = condition_took (placed_word first) condition_begun in
-    let whole = whole_condition first read end in
-    let v : Verdict = verdict_of later end.out whole in
-    let kept_so = cond wanted v.is_true (not v.is_true) in
-    let stays = cond wanted (d.is_true whole end) (not (d.is_true whole end)) in
-    let agrees : kept_so ≡ stays = ap (λ b. cond wanted b (not b)) agree.0 in
-    let calm : Calm true inner None = λ e. absurd (no_false e) in
-    let stack : Bool → Bool → Around = λ k b.
-    cond k (record { inside = record { place = place; is_second = false; stays = b } ∷ inside; between = between }) (record { inside = inside; between = record { place = place; is_second = false; stays = b } ∷ between }) in
-    let opened_now : Option Said → Conditions → Bool → Conditions = λ said after b. record (at after (new ∷ inner) among (cond b None (left_at true 0)) later) { said = said } in
-    let after_all : Conditions → Bool → Bool → Type 0 = λ after k b. AllStandRight d (ended_in end.ended (stack k b)) parts
-    → Led (all_tokens parts) (ended_behind end.ended (opened_now None after b)) (kept_sides d (ended_in end.ended (stack k b)) parts) (lone_parts d (ended_in end.ended (stack k b)) parts) (record { around = behind_parts d (ended_in end.ended (stack k b)) parts; waiting = w }) in
-    let first_stays : Open = record { place = place; is_second = false; stays = true } in
-    let first_left : Open = record { place = place; is_second = false; stays = false } in
-    let on : (after : Conditions) → after.waiting ≡ w → Onward d parts after w = λ after aw i a s m agreed rightly enough. led d parts i a s m after w aw are.1 agreed rightly enough in
-    let key = are_kept between in
-    let rest : (after : Conditions) → after.waiting ≡ w → after_all after key stays = λ after aw.
-    subst (λ k. after_all after k stays) (sym sb)
-    (bool_cases (after_all after true) stays
-    (λ rightly. behind_end d parts after w (on after aw) end.ended (new ∷ inner) among (AllStay (first_stays ∷ inside) between si sb (ap (λ cs. new ∷ cs) mi) mb) later agree.1 rightly (omega (arith, few, less, long)))
-    (λ rightly. behind_end d parts after w (on after aw) end.ended (new ∷ inner) among (InnerLeft [] first_left inside between refl si sb (ap (λ cs. new ∷ cs) mi) mb) later agree.1 rightly (omega (arith, few, less, long)))) in
-    let tokens = kept_sides d (ended_in end.ended (stack key stays)) parts in
-    let places = lone_parts d (ended_in end.ended (stack key stays)) parts in
-    let last : Last = record { around = behind_parts d (ended_in end.ended (stack key stays)) parts; waiting = w } in
-    let a = awaits.Condition wanted in
-    let ending = last_next true read end begun_so are.0.1.1 in
-    let said = cond end.site.is_quiet None (told_by place whole v.finding) in
-    begins_kept true (asking wanted) a first.sign first.word (read ++ end ∷ all_tokens parts) c (with_condition begun_so c) inner among declared tokens places last are.0.0.begins are.0.0.is are.0.0.goes_on
-    (λ m. begun_asking true wanted first.word.token place c inner among m are.0.1.0) calm
-    (asks read end (all_tokens parts) begun_so true wanted place c inner among now tokens places last are.0.1.1 calm
-    (λ after aw. acts end (all_tokens parts) (reading true place a (with_condition (condition_behind read begun_so) after) inner among later) (opened_now said after stays) None (cond end.site.is_quiet None (Some place)) tokens places last
-    (next_ends true wanted place end (condition_behind read begun_so) after inner among later ending
-    ∙ ap (λ b. ended_so (opened_now said after b) None (cond end.site.is_quiet None (Some place))) agrees)
-    (rest after (aw ∙ cw) right.1)))
-led d (Asking false wanted first read end ∷ parts) inner among (AllStay [] between si sb mi mb) declared c w cw are agree right few =
-    let less = fewer first (read ++ end ∷ all_tokens parts) in
-    let long = longer read (end ∷ all_tokens parts) in
-    let now = declared_first first declared in
-    let later = declared_tokens read now in
-    let place = begins first in
-    let new : Conditional = record { place = place; is_second = false } in
-    let begun_so = condition_took (placed_word first) condition_begun in
-    let whole = whole_condition first read end in
-    let v : Verdict = verdict_of later end.out whole in
-    let kept_so = cond wanted v.is_true (not v.is_true) in
-    let stays = cond wanted (d.is_true whole end) (not (d.is_true whole end)) in
-    let agrees : kept_so ≡ stays = ap (λ b. cond wanted b (not b)) agree.0 in
-    let none : inner ≡ [] = none_inner inner mi in
-    let calm : Calm false inner None = λ _. (none, refl) in
-    let stack : Bool → Bool → Around = λ k b. record { inside = []; between = record { place = place; is_second = false; stays = b } ∷ between } in
-    let opened_now : Option Said → Conditions → Bool → Conditions = λ said after b. record (at after inner (new ∷ among) (cond b None (left_at false 0)) later) { said = said } in
-    let after_all : Conditions → Bool → Bool → Type 0 = λ after k b. AllStandRight d (ended_in end.ended (stack k b)) parts
-    → Led (all_tokens parts) (ended_behind end.ended (opened_now None after b)) (kept_sides d (ended_in end.ended (stack k b)) parts) (lone_parts d (ended_in end.ended (stack k b)) parts) (record { around = behind_parts d (ended_in end.ended (stack k b)) parts; waiting = w }) in
-    let first_stays : Open = record { place = place; is_second = false; stays = true } in
-    let first_left : Open = record { place = place; is_second = false; stays = false } in
-    let on : (after : Conditions) → after.waiting ≡ w → Onward d parts after w = λ after aw i a s m agreed rightly enough. led d parts i a s m after w aw are.1 agreed rightly enough in
-    let key = false in
-    let rest : (after : Conditions) → after.waiting ≡ w → after_all after key stays = λ after aw.
-    bool_cases (after_all after false) stays
-    (λ rightly. behind_end d parts after w (on after aw) end.ended inner (new ∷ among) (AllStay [] (first_stays ∷ between) si sb mi (ap (λ cs. new ∷ cs) mb)) later agree.1 rightly (omega (arith, few, less, long)))
-    (λ rightly. behind_end d parts after w (on after aw) end.ended inner (new ∷ among) (OuterLeft [] first_left between none refl sb (ap (λ cs. new ∷ cs) mb)) later agree.1 rightly (omega (arith, few, less, long))) in
-    let tokens = kept_sides d (ended_in end.ended (stack key stays)) parts in
-    let places = lone_parts d (ended_in end.ended (stack key stays)) parts in
-    let last : Last = record { around = behind_parts d (ended_in end.ended (stack key stays)) parts; waiting = w } in
-    let a = awaits.Condition wanted in
-    let ending = last_next false read end begun_so are.0.1.1 in
-    let said = cond end.site.is_quiet None (told_by place whole v.finding) in
-    begins_kept false (asking wanted) a first.sign first.word (read ++ end ∷ all_tokens parts) c (with_condition begun_so c) inner among declared tokens places last are.0.0.begins are.0.0.is are.0.0.goes_on
-    (λ m. begun_asking false wanted first.word.token place c inner among m are.0.1.0) calm
-    (asks read end (all_tokens parts) begun_so false wanted place c inner among now tokens places last are.0.1.1 calm
-    (λ after aw. acts end (all_tokens parts) (reading false place a (with_condition (condition_behind read begun_so) after) inner among later) (opened_now said after stays) None (cond end.site.is_quiet None (Some place)) tokens places last
-    (next_ends false wanted place end (condition_behind read begun_so) after inner among later ending
-    ∙ ap (λ b. ended_so (opened_now said after b) None (cond end.site.is_quiet None (Some place))) agrees)
-    (rest after (aw ∙ cw) right.1)))
-led d (Asking false wanted first read end ∷ parts) inner among (AllStay (y ∷ inside) between si sb mi mb) declared c w cw are agree right few = absurd (some_open [] y inside right.0)
-led d (Asking false wanted first read end ∷ parts) inner among (InnerLeft deep x inside between left si sb mi mb) declared c w cw are agree right few = absurd (some_open deep x inside right.0)
-led d (Asking true wanted first read end ∷ parts) inner among (InnerLeft deep x inside between left si sb mi mb) declared c w cw are agree right few =
-    let on : Onward d parts c w = λ i a s m agreed rightly enough. led d parts i a s m c w cw are.1 agreed rightly enough in
-    let less = fewer first (read ++ end ∷ all_tokens parts) in
-    let long = longer read (end ∷ all_tokens parts) in
-    let now = declared_first first declared in
-    let later = declared_tokens read now in
-    let n = length deep in
-    let deeper : ℕ → Conditions = at c inner among (left_at true (suc n)) in
-    let begun_so = condition_took (placed_word first) condition_begun in
-    let whole = whole_condition first read end in
-    let more : Open = first_side first wanted (d.is_true whole end) in
-    let ending = last_next true read end begun_so are.0.1.1 in
-    let calm : CalmLeft true inner true = λ e. absurd (no_false e) in
-    let stack : Bool → Around = λ k. cond k (record { inside = more ∷ deep ++ x ∷ inside; between = between }) (record { inside = deep ++ x ∷ inside; between = more ∷ between }) in
-    let key = are_kept between in
-    let here : key ≡ true = sb in
-    let after : Bool → Type 0 = λ k. AllStandRight d (ended_in end.ended (stack k)) parts
-    → Led (all_tokens parts) (ended_behind end.ended (deeper later)) (kept_sides d (ended_in end.ended (stack k)) parts) (lone_parts d (ended_in end.ended (stack k)) parts) (record { around = behind_parts d (ended_in end.ended (stack k)) parts; waiting = w }) in
-    let rest : after key =
-    subst after (sym here)
-    (λ rightly. behind_end d parts c w on end.ended inner among (InnerLeft (more ∷ deep) x inside between left si sb mi mb) later agree.1 rightly (omega (arith, few, less, long))) in
-    let tokens = kept_sides d (ended_in end.ended (stack key)) parts in
-    let places = lone_parts d (ended_in end.ended (stack key)) parts in
-    let last : Last = record { around = behind_parts d (ended_in end.ended (stack key)) parts; waiting = w } in
-    begins_left true (asking wanted) (suc n) first.sign first.word (read ++ end ∷ all_tokens parts) c inner among true n declared tokens places last are.0.0.begins are.0.0.is are.0.0.goes_on calm
-    (omega (arith, few, less, long)) (asking_stays wanted n (second inner among)) (asking_level wanted n)
-    (skips read end (all_tokens parts) begun_so true c inner among true (suc n) now tokens places last are.0.1.1 calm (omega (arith, few, less, long))
-    (passes end (all_tokens parts) (deeper later) (deeper later) (ended_behind end.ended (deeper later)) tokens places last
-    (plain_left end c inner among true (suc n) later ending.plain (omega (arith, few, less, long)))
-    refl
-    (rest right.1)))
-led d (Asking is_inner wanted first read end ∷ parts) inner among (OuterLeft deep x between none left sb mb) declared c w cw are agree right few =
-    let on : Onward d parts c w = λ i a s m agreed rightly enough. led d parts i a s m c w cw are.1 agreed rightly enough in
-    let less = fewer first (read ++ end ∷ all_tokens parts) in
-    let long = longer read (end ∷ all_tokens parts) in
-    let now = declared_first first declared in
-    let later = declared_tokens read now in
-    let n = length deep in
-    let deeper : ℕ → Conditions = at c inner among (left_at false (suc n)) in
-    let begun_so = condition_took (placed_word first) condition_begun in
-    let whole = whole_condition first read end in
-    let more : Open = first_side first wanted (d.is_true whole end) in
-    let ending = last_next is_inner read end begun_so are.0.1.1 in
-    let calm : CalmLeft is_inner inner false = λ _. (none, refl) in
-    let stack : Bool → Around = λ k. cond k (record { inside = more ∷ []; between = deep ++ x ∷ between }) (record { inside = []; between = more ∷ deep ++ x ∷ between }) in
-    let key = is_inner && are_kept (deep ++ x ∷ between) in
-    let here : key ≡ false = ap (λ k. is_inner && k) (not_kept deep x between left) ∙ and-false is_inner in
-    let after : Bool → Type 0 = λ k. AllStandRight d (ended_in end.ended (stack k)) parts
-    → Led (all_tokens parts) (ended_behind end.ended (deeper later)) (kept_sides d (ended_in end.ended (stack k)) parts) (lone_parts d (ended_in end.ended (stack k)) parts) (record { around = behind_parts d (ended_in end.ended (stack k)) parts; waiting = w }) in
-    let rest : after key =
-    subst after (sym here)
-    (λ rightly. behind_end d parts c w on end.ended inner among (OuterLeft (more ∷ deep) x between none left sb mb) later agree.1 rightly (omega (arith, few, less, long))) in
-    let tokens = kept_sides d (ended_in end.ended (stack key)) parts in
-    let places = lone_parts d (ended_in end.ended (stack key)) parts in
-    let last : Last = record { around = behind_parts d (ended_in end.ended (stack key)) parts; waiting = w } in
-    begins_left is_inner (asking wanted) (suc n) first.sign first.word (read ++ end ∷ all_tokens parts) c inner among false n declared tokens places last are.0.0.begins are.0.0.is are.0.0.goes_on calm
-    (omega (arith, few, less, long)) (asking_stays wanted n (second inner among)) (asking_level wanted n)
-    (skips read end (all_tokens parts) begun_so is_inner c inner among false (suc n) now tokens places last are.0.1.1 calm (omega (arith, few, less, long))
-    (passes end (all_tokens parts) (deeper later) (deeper later) (ended_behind end.ended (deeper later)) tokens places last
-    (plain_left end c inner among false (suc n) later ending.plain (omega (arith, few, less, long)))
-    refl
-    (rest right.1)))
-led d (Turning is_inner first end ∷ parts) [] [] (AllStay [] [] si sb mi mb) declared c w cw are agree right few =
-    let on : Onward d parts c w = λ i a s m agreed rightly enough. led d parts i a s m c w cw are.1 agreed rightly enough in
-    let less = fewer first (end ∷ all_tokens parts) in
-    let now = declared_first first declared in
-    let place = begins first in
-    let stack : Around = record { inside = []; between = [] } in
-    let tokens = kept_sides d (ended_in end.ended stack) parts in
-    let places = lone_parts d (ended_in end.ended stack) parts in
-    let last : Last = record { around = behind_parts d (ended_in end.ended stack) parts; waiting = w } in
-    let waits = awaits.End effect.Turns in
-    begins_kept is_inner word.Ifnot waits first.sign first.word (end ∷ all_tokens parts) c c [] [] declared tokens (lone_at word.Ifnot first end stack ++ places) last are.0.0.begins are.0.0.is are.0.0.goes_on (λ m. refl) (λ _. (refl, refl))
-    (subst (λ ps. Led (end ∷ all_tokens parts) (reading is_inner place waits c [] [] now) tokens (ps ++ places) last) (lone_is word.Ifnot first end stack true refl refl)
-    (acts end (all_tokens parts) (reading is_inner place waits c [] [] now) (at c [] [] None now) (cond end.site.is_quiet None (Some place)) (cond end.site.is_quiet None (Some place)) tokens places last
-    (end_kept effect.Turns is_inner place end c [] [] now are.0.1)
-    (behind_end d parts c w on end.ended [] [] (AllStay [] [] si sb mi mb) now agree right.1 (omega (arith, few, less)))))
-led d (Turning is_inner first end ∷ parts) [] (z ∷ among) (AllStay [] [] si sb mi mb) declared c w cw are agree right few = cc
-led d (Turning is_inner first end ∷ parts) [] [] (AllStay [] (y ∷ between) si sb mi mb) declared c w cw are agree right few = cc
-led d (Turning is_inner first end ∷ parts) [] (z ∷ among) (AllStay [] (y ∷ between) si sb mi mb) declared c w cw are agree right few =
-    let on : Onward d parts c w = λ i a s m agreed rightly enough. led d parts i a s m c w cw are.1 agreed rightly enough in
-    let less = fewer first (end ∷ all_tokens parts) in
-    let now = declared_first first declared in
-    let place = begins first in
-    let stack : Around = record { inside = []; between = other_side y ∷ between } in
-    let tokens = kept_sides d (ended_in end.ended stack) parts in
-    let places = lone_parts d (ended_in end.ended stack) parts in
-    let last : Last = record { around = behind_parts d (ended_in end.ended stack) parts; waiting = w } in
-    let waits = awaits.End effect.Turns in
-    let here = at c [] (z ∷ among) None now in
-    let there = at c [] (record z { is_second = true } ∷ among) (left_at false 0) now in
-    let is = second_same y between z among mb in
-    let rest : Led (all_tokens parts) (ended_behind end.ended (silent (cond z.is_second here there))) tokens places last =
-    of_both (λ (x : Conditions). Led (all_tokens parts) (ended_behind end.ended (silent x)) tokens places last) z.is_second here there
-    (λ e. behind_end d parts c w on end.ended [] (z ∷ among) (AllStay [] (other_side y ∷ between) si (kept_still y between (sym is ∙ e) sb) mi (same_still y between (z ∷ among) (sym is ∙ e) mb)) now agree right.1
-    (omega (arith, few, less)))
-    (λ e. behind_end d parts c w on end.ended [] (record z { is_second = true } ∷ among)
-    (OuterLeft [] (other_side y) between refl (left_turned y (sym is ∙ e) (kept_head y between sb).0) (kept_head y between sb).1 (turned_same y between z among mb)) now agree right.1
-    (omega (arith, few, less))) in
-    let s : Around = record { inside = []; between = y ∷ between } in
-    begins_kept is_inner word.Ifnot waits first.sign first.word (end ∷ all_tokens parts) c c [] (z ∷ among) declared tokens (lone_at word.Ifnot first end s ++ places) last are.0.0.begins are.0.0.is are.0.0.goes_on (λ m. refl) (λ _. (refl, refl))
-    (subst (λ ps. Led (end ∷ all_tokens parts) (reading is_inner place waits c [] (z ∷ among) now) tokens (ps ++ places) last) (lone_is word.Ifnot first end s z.is_second sb is)
-    (acts end (all_tokens parts) (reading is_inner place waits c [] (z ∷ among) now) (cond z.is_second here there) (cond z.is_second (cond end.site.is_quiet None (Some place)) None) (cond end.site.is_quiet None (Some place)) tokens places last
-    (turns_among is_inner place end c z among now are.0.1) rest))
-led d (Turning is_inner first end ∷ parts) (z ∷ inner) among (AllStay [] between si sb mi mb) declared c w cw are agree right few = cc
-led d (Turning is_inner first end ∷ parts) [] among (AllStay (y ∷ inside) between si sb mi mb) declared c w cw are agree right few = cc
-led d (Turning is_inner first end ∷ parts) (z ∷ inner) among (AllStay (y ∷ inside) between si sb mi mb) declared c w cw are agree right few =
-    let on : Onward d parts c w = λ i a s m agreed rightly enough. led d parts i a s m c w cw are.1 agreed rightly enough in
-    let less = fewer first (end ∷ all_tokens parts) in
-    let now = declared_first first declared in
-    let place = begins first in
-    let stack : Around = record { inside = other_side y ∷ inside; between = between } in
-    let tokens = kept_sides d (ended_in end.ended stack) parts in
-    let places = lone_parts d (ended_in end.ended stack) parts in
-    let last : Last = record { around = behind_parts d (ended_in end.ended stack) parts; waiting = w } in
-    let waits = awaits.End effect.Turns in
-    let s : Around = record { inside = y ∷ inside; between = between } in
-    let calm : Calm is_inner (z ∷ inner) None = λ e. absurd (some_open [] y inside (turning_right is_inner first end s right.0 e)) in
-    let here = at c (z ∷ inner) among None now in
-    let there = at c (record z { is_second = true } ∷ inner) among (left_at true 0) now in
-    let is = second_same y inside z inner mi in
-    let rest : Led (all_tokens parts) (ended_behind end.ended (silent (cond z.is_second here there))) tokens places last =
-    of_both (λ (x : Conditions). Led (all_tokens parts) (ended_behind end.ended (silent x)) tokens places last) z.is_second here there
-    (λ e. behind_end d parts c w on end.ended (z ∷ inner) among (AllStay (other_side y ∷ inside) between (kept_still y inside (sym is ∙ e) si) sb (same_still y inside (z ∷ inner) (sym is ∙ e) mi) mb) now agree right.1
-    (omega (arith, few, less)))
-    (λ e. behind_end d parts c w on end.ended (record z { is_second = true } ∷ inner) among
-    (InnerLeft [] (other_side y) inside between (left_turned y (sym is ∙ e) (kept_head y inside si).0) (kept_head y inside si).1 sb (turned_same y inside z inner mi) mb) now agree right.1
-    (omega (arith, few, less))) in
-    begins_kept is_inner word.Ifnot waits first.sign first.word (end ∷ all_tokens parts) c c (z ∷ inner) among declared tokens (lone_at word.Ifnot first end s ++ places) last are.0.0.begins are.0.0.is are.0.0.goes_on (λ m. refl) calm
-    (subst (λ ps. Led (end ∷ all_tokens parts) (reading is_inner place waits c (z ∷ inner) among now) tokens (ps ++ places) last) (lone_is word.Ifnot first end s z.is_second (both_kept (y ∷ inside) between si sb) is)
-    (acts end (all_tokens parts) (reading is_inner place waits c (z ∷ inner) among now) (cond z.is_second here there) (cond z.is_second (cond end.site.is_quiet None (Some place)) None) (cond end.site.is_quiet None (Some place)) tokens places last
-    (turns_inner is_inner place end c z inner among now are.0.1) rest))
-led d (Turning is_inner first end ∷ parts) [] among (InnerLeft [] x inside between left si sb mi mb) declared c w cw are agree right few = cc
-led d (Turning is_inner first end ∷ parts) (z ∷ inner) among (InnerLeft [] x inside between left si sb mi mb) declared c w cw are agree right few =
-    let on : Onward d parts c w = λ i a s m agreed rightly enough. led d parts i a s m c w cw are.1 agreed rightly enough in
-    let less = fewer first (end ∷ all_tokens parts) in
-    let now = declared_first first declared in
-    let place = begins first in
-    let stack : Around = record { inside = other_side x ∷ inside; between = between } in
-    let tokens = kept_sides d (ended_in end.ended stack) parts in
-    let places = lone_parts d (ended_in end.ended stack) parts in
-    let last : Last = record { around = behind_parts d (ended_in end.ended stack) parts; waiting = w } in
-    let s : Around = record { inside = x ∷ inside; between = between } in
-    let calm : CalmLeft is_inner (z ∷ inner) true = λ e. absurd (some_open [] x inside (turning_right is_inner first end s right.0 e)) in
-    let calm_now : Calm is_inner (record z { is_second = true } ∷ inner) None = λ e. absurd (some_open [] x inside (turning_right is_inner first end s right.0 e)) in
-    let here : ℕ → Conditions = at c (z ∷ inner) among (left_at true 0) in
-    let is = second_same x inside z inner mi in
-    subst (λ ps. Led (first_tokens first (end ∷ all_tokens parts)) (here declared) tokens (ps ++ places) last) (sym (no_lone word.Ifnot first end s (inner_not_kept [] x inside between left)))
-    (bool_cases_of x.is_second (Led (first_tokens first (end ∷ all_tokens parts)) (here declared) tokens places last)
-    (λ e.
-    begins_left is_inner word.Ifnot 0 first.sign first.word (end ∷ all_tokens parts) c (z ∷ inner) among true 0 declared tokens places last are.0.0.begins are.0.0.is are.0.0.goes_on calm (omega (arith, few, less)) (ap not (is ∙ e)) refl
-    (passes end (all_tokens parts) (here now) (here now) (ended_behind end.ended (here now)) tokens places last
-    (plain_left end c (z ∷ inner) among true 0 now (semicolon_plain end are.0.1) (omega (arith, few, less))) refl
-    (behind_end d parts c w on end.ended (z ∷ inner) among (InnerLeft [] (other_side x) inside between (left_still x e left) si sb (same_still x inside (z ∷ inner) e mi) mb) now agree right.1
-    (omega (arith, few, less)))))
-    (λ e.
-    let next : List Conditional = record z { is_second = true } ∷ inner in
-    begins_end is_inner word.Ifnot first.sign first.word (end ∷ all_tokens parts) c (z ∷ inner) among next among true declared tokens places last are.0.0.begins are.0.0.is are.0.0.goes_on calm calm_now (omega (arith, few, less)) (ap not (is ∙ e)) (λ sign m. refl)
-    (acts end (all_tokens parts) (reading false place (awaits.End effect.Nothing) c next among now) (at c next among None now) None (cond end.site.is_quiet None (Some place)) tokens places last
-    (end_kept effect.Nothing false place end c next among now are.0.1)
-    (behind_end d parts c w on end.ended next among (AllStay (other_side x ∷ inside) between (kept_turned x inside e left si) sb (turned_same x inside z inner mi) mb) now agree right.1 (omega (arith, few, less))))))
-led d (Turning is_inner first end ∷ parts) inner among (InnerLeft (y ∷ deep) x inside between left si sb mi mb) declared c w cw are agree right few =
-    let on : Onward d parts c w = λ i a s m agreed rightly enough. led d parts i a s m c w cw are.1 agreed rightly enough in
-    let less = fewer first (end ∷ all_tokens parts) in
-    let now = declared_first first declared in
-    let place = begins first in
-    let stack : Around = record { inside = other_side y ∷ deep ++ x ∷ inside; between = between } in
-    let tokens = kept_sides d (ended_in end.ended stack) parts in
-    let places = lone_parts d (ended_in end.ended stack) parts in
-    let last : Last = record { around = behind_parts d (ended_in end.ended stack) parts; waiting = w } in
-    let n = length deep in
-    let s : Around = record { inside = y ∷ deep ++ x ∷ inside; between = between } in
-    let calm : CalmLeft is_inner inner true = λ e. absurd (some_open (y ∷ deep) x inside (turning_right is_inner first end s right.0 e)) in
-    let there : ℕ → Conditions = at c inner among (left_at true (suc n)) in
-    subst (λ ps. Led (first_tokens first (end ∷ all_tokens parts)) (at c inner among (left_at true (suc n)) declared) tokens (ps ++ places) last) (sym (no_lone word.Ifnot first end s (inner_not_kept (y ∷ deep) x inside between left)))
-    (begins_left is_inner word.Ifnot (suc n) first.sign first.word (end ∷ all_tokens parts) c inner among true (suc n) declared tokens places last are.0.0.begins are.0.0.is are.0.0.goes_on calm (omega (arith, few, less))
-    (ap (λ b. b && not (second inner among)) (eqb-suc-zero n)) refl
-    (passes end (all_tokens parts) (there now) (there now) (ended_behind end.ended (there now)) tokens places last
-    (plain_left end c inner among true (suc n) now (semicolon_plain end are.0.1) (omega (arith, few, less))) refl
-    (behind_end d parts c w on end.ended inner among (InnerLeft (other_side y ∷ deep) x inside between left si sb mi mb) now agree right.1 (omega (arith, few, less)))))
-led d (Turning is_inner first end ∷ parts) (z ∷ inner) among (OuterLeft [] x between none left sb mb) declared c w cw are agree right few = cc
-led d (Turning is_inner first end ∷ parts) [] [] (OuterLeft [] x between none left sb mb) declared c w cw are agree right few = cc
-led d (Turning is_inner first end ∷ parts) [] (z ∷ among) (OuterLeft [] x between none left sb mb) declared c w cw are agree right few =
-    let on : Onward d parts c w = λ i a s m agreed rightly enough. led d parts i a s m c w cw are.1 agreed rightly enough in
-    let less = fewer first (end ∷ all_tokens parts) in
-    let now = declared_first first declared in
-    let place = begins first in
-    let stack : Around = record { inside = []; between = other_side x ∷ between } in
-    let tokens = kept_sides d (ended_in end.ended stack) parts in
-    let places = lone_parts d (ended_in end.ended stack) parts in
-    let last : Last = record { around = behind_parts d (ended_in end.ended stack) parts; waiting = w } in
-    let s : Around = record { inside = []; between = x ∷ between } in
-    let calm : CalmLeft is_inner [] false = λ _. (refl, refl) in
-    let here : ℕ → Conditions = at c [] (z ∷ among) (left_at false 0) in
-    let is = second_same x between z among mb in
-    subst (λ ps. Led (first_tokens first (end ∷ all_tokens parts)) (here declared) tokens (ps ++ places) last) (sym (no_lone word.Ifnot first end s (not_kept [] x between left)))
-    (bool_cases_of x.is_second (Led (first_tokens first (end ∷ all_tokens parts)) (here declared) tokens places last)
-    (λ e.
-    begins_left is_inner word.Ifnot 0 first.sign first.word (end ∷ all_tokens parts) c [] (z ∷ among) false 0 declared tokens places last are.0.0.begins are.0.0.is are.0.0.goes_on calm (omega (arith, few, less)) (ap not (is ∙ e)) refl
-    (passes end (all_tokens parts) (here now) (here now) (ended_behind end.ended (here now)) tokens places last
-    (plain_left end c [] (z ∷ among) false 0 now (semicolon_plain end are.0.1) (omega (arith, few, less))) refl
-    (behind_end d parts c w on end.ended [] (z ∷ among) (OuterLeft [] (other_side x) between refl (left_still x e left) sb (same_still x between (z ∷ among) e mb)) now agree right.1
-    (omega (arith, few, less)))))
-    (λ e.
-    let next : List Conditional = record z { is_second = true } ∷ among in
-    begins_end is_inner word.Ifnot first.sign first.word (end ∷ all_tokens parts) c [] (z ∷ among) [] next false declared tokens places last are.0.0.begins are.0.0.is are.0.0.goes_on calm (λ _. (refl, refl)) (omega (arith, few, less)) (ap not (is ∙ e)) (λ sign m. refl)
-    (acts end (all_tokens parts) (reading false place (awaits.End effect.Nothing) c [] next now) (at c [] next None now) None (cond end.site.is_quiet None (Some place)) tokens places last
-    (end_kept effect.Nothing false place end c [] next now are.0.1)
-    (behind_end d parts c w on end.ended [] next (AllStay [] (other_side x ∷ between) refl (kept_turned x between e left sb) refl (turned_same x between z among mb)) now agree right.1 (omega (arith, few, less))))))
-led d (Turning is_inner first end ∷ parts) inner among (OuterLeft (y ∷ deep) x between none left sb mb) declared c w cw are agree right few =
-    let on : Onward d parts c w = λ i a s m agreed rightly enough. led d parts i a s m c w cw are.1 agreed rightly enough in
-    let less = fewer first (end ∷ all_tokens parts) in
-    let now = declared_first first declared in
-    let place = begins first in
-    let stack : Around = record { inside = []; between = other_side y ∷ deep ++ x ∷ between } in
-    let tokens = kept_sides d (ended_in end.ended stack) parts in
-    let places = lone_parts d (ended_in end.ended stack) parts in
-    let last : Last = record { around = behind_parts d (ended_in end.ended stack) parts; waiting = w } in
-    let n = length deep in
-    let s : Around = record { inside = []; between = y ∷ deep ++ x ∷ between } in
-    let calm : CalmLeft is_inner inner false = λ _. (none, refl) in
-    let there : ℕ → Conditions = at c inner among (left_at false (suc n)) in
-    subst (λ ps. Led (first_tokens first (end ∷ all_tokens parts)) (at c inner among (left_at false (suc n)) declared) tokens (ps ++ places) last) (sym (no_lone word.Ifnot first end s (not_kept (y ∷ deep) x between left)))
-    (begins_left is_inner word.Ifnot (suc n) first.sign first.word (end ∷ all_tokens parts) c inner among false (suc n) declared tokens places last are.0.0.begins are.0.0.is are.0.0.goes_on calm (omega (arith, few, less))
-    (ap (λ b. b && not (second inner among)) (eqb-suc-zero n)) refl
-    (passes end (all_tokens parts) (there now) (there now) (ended_behind end.ended (there now)) tokens places last
-    (plain_left end c inner among false (suc n) now (semicolon_plain end are.0.1) (omega (arith, few, less))) refl
-    (behind_end d parts c w on end.ended inner among (OuterLeft (other_side y ∷ deep) x between none left sb mb) now agree right.1 (omega (arith, few, less)))))
-led d (Closing is_inner first end ∷ parts) [] [] (AllStay [] [] si sb mi mb) declared c w cw are agree right few =
-    let on : Onward d parts c w = λ i a s m agreed rightly enough. led d parts i a s m c w cw are.1 agreed rightly enough in
-    let less = fewer first (end ∷ all_tokens parts) in
-    let now = declared_first first declared in
-    let place = begins first in
-    let stack : Around = record { inside = []; between = [] } in
-    let tokens = kept_sides d (ended_in end.ended stack) parts in
-    let places = lone_parts d (ended_in end.ended stack) parts in
-    let last : Last = record { around = behind_parts d (ended_in end.ended stack) parts; waiting = w } in
-    let waits = awaits.End effect.Closes in
-    begins_kept is_inner word.Endif waits first.sign first.word (end ∷ all_tokens parts) c c [] [] declared tokens (lone_at word.Endif first end stack ++ places) last are.0.0.begins are.0.0.is are.0.0.goes_on (λ m. refl) (λ _. (refl, refl))
-    (subst (λ ps. Led (end ∷ all_tokens parts) (reading is_inner place waits c [] [] now) tokens (ps ++ places) last) (lone_is word.Endif first end stack true refl refl)
-    (acts end (all_tokens parts) (reading is_inner place waits c [] [] now) (at c [] [] None now) (cond end.site.is_quiet None (Some place)) (cond end.site.is_quiet None (Some place)) tokens places last
-    (end_kept effect.Closes is_inner place end c [] [] now are.0.1)
-    (behind_end d parts c w on end.ended [] [] (AllStay [] [] si sb mi mb) now agree right.1 (omega (arith, few, less)))))
-led d (Closing is_inner first end ∷ parts) [] (z ∷ among) (AllStay [] [] si sb mi mb) declared c w cw are agree right few = cc
-led d (Closing is_inner first end ∷ parts) [] [] (AllStay [] (y ∷ between) si sb mi mb) declared c w cw are agree right few = cc
-led d (Closing is_inner first end ∷ parts) [] (z ∷ among) (AllStay [] (y ∷ between) si sb mi mb) declared c w cw are agree right few =
-    let on : Onward d parts c w = λ i a s m agreed rightly enough. led d parts i a s m c w cw are.1 agreed rightly enough in
-    let less = fewer first (end ∷ all_tokens parts) in
-    let now = declared_first first declared in
-    let place = begins first in
-    let stack : Around = record { inside = []; between = between } in
-    let tokens = kept_sides d (ended_in end.ended stack) parts in
-    let places = lone_parts d (ended_in end.ended stack) parts in
-    let last : Last = record { around = behind_parts d (ended_in end.ended stack) parts; waiting = w } in
-    let waits = awaits.End effect.Closes in
-    let s : Around = record { inside = []; between = y ∷ between } in
-    begins_kept is_inner word.Endif waits first.sign first.word (end ∷ all_tokens parts) c c [] (z ∷ among) declared tokens (lone_at word.Endif first end s ++ places) last are.0.0.begins are.0.0.is are.0.0.goes_on (λ m. refl) (λ _. (refl, refl))
-    (subst (λ ps. Led (end ∷ all_tokens parts) (reading is_inner place waits c [] (z ∷ among) now) tokens (ps ++ places) last) (lone_is word.Endif first end s false sb refl)
-    (acts end (all_tokens parts) (reading is_inner place waits c [] (z ∷ among) now) (at c [] among None now) None (cond end.site.is_quiet None (Some place)) tokens places last
-    (end_kept effect.Closes is_inner place end c [] (z ∷ among) now are.0.1)
-    (behind_end d parts c w on end.ended [] among (AllStay [] between si (kept_head y between sb).1 mi (ap (drop 1) mb)) now agree right.1 (omega (arith, few, less)))))
-led d (Closing is_inner first end ∷ parts) (z ∷ inner) among (AllStay [] between si sb mi mb) declared c w cw are agree right few = cc
-led d (Closing is_inner first end ∷ parts) [] among (AllStay (y ∷ inside) between si sb mi mb) declared c w cw are agree right few = cc
-led d (Closing is_inner first end ∷ parts) (z ∷ inner) among (AllStay (y ∷ inside) between si sb mi mb) declared c w cw are agree right few =
-    let on : Onward d parts c w = λ i a s m agreed rightly enough. led d parts i a s m c w cw are.1 agreed rightly enough in
-    let less = fewer first (end ∷ all_tokens parts) in
-    let now = declared_first first declared in
-    let place = begins first in
-    let stack : Around = record { inside = inside; between = between } in
-    let tokens = kept_sides d (ended_in end.ended stack) parts in
-    let places = lone_parts d (ended_in end.ended stack) parts in
-    let last : Last = record { around = behind_parts d (ended_in end.ended stack) parts; waiting = w } in
-    let waits = awaits.End effect.Closes in
-    let s : Around = record { inside = y ∷ inside; between = between } in
-    let calm : Calm is_inner (z ∷ inner) None = λ e. absurd (some_open [] y inside (closing_right is_inner first end s right.0 e)) in
-    begins_kept is_inner word.Endif waits first.sign first.word (end ∷ all_tokens parts) c c (z ∷ inner) among declared tokens (lone_at word.Endif first end s ++ places) last are.0.0.begins are.0.0.is are.0.0.goes_on (λ m. refl) calm
-    (subst (λ ps. Led (end ∷ all_tokens parts) (reading is_inner place waits c (z ∷ inner) among now) tokens (ps ++ places) last) (lone_is word.Endif first end s false (both_kept (y ∷ inside) between si sb) refl)
-    (acts end (all_tokens parts) (reading is_inner place waits c (z ∷ inner) among now) (at c inner among None now) None (cond end.site.is_quiet None (Some place)) tokens places last
-    (end_kept effect.Closes is_inner place end c (z ∷ inner) among now are.0.1)
-    (behind_end d parts c w on end.ended inner among (AllStay inside between (kept_head y inside si).1 sb (ap (drop 1) mi) mb) now agree right.1 (omega (arith, few, less)))))
-led d (Closing is_inner first end ∷ parts) [] among (InnerLeft [] x inside between left si sb mi mb) declared c w cw are agree right few = cc
-led d (Closing is_inner first end ∷ parts) (z ∷ inner) among (InnerLeft [] x inside between left si sb mi mb) declared c w cw are agree right few =
-    let on : Onward d parts c w = λ i a s m agreed rightly enough. led d parts i a s m c w cw are.1 agreed rightly enough in
-    let less = fewer first (end ∷ all_tokens parts) in
-    let now = declared_first first declared in
-    let place = begins first in
-    let stack : Around = record { inside = inside; between = between } in
-    let tokens = kept_sides d (ended_in end.ended stack) parts in
-    let places = lone_parts d (ended_in end.ended stack) parts in
-    let last : Last = record { around = behind_parts d (ended_in end.ended stack) parts; waiting = w } in
-    let s : Around = record { inside = x ∷ inside; between = between } in
-    let calm : CalmLeft is_inner (z ∷ inner) true = λ e. absurd (some_open [] x inside (closing_right is_inner first end s right.0 e)) in
-    let calm_now : Calm is_inner inner None = λ e. absurd (some_open [] x inside (closing_right is_inner first end s right.0 e)) in
-    subst (λ ps. Led (first_tokens first (end ∷ all_tokens parts)) (at c (z ∷ inner) among (left_at true 0) declared) tokens (ps ++ places) last) (sym (no_lone word.Endif first end s (inner_not_kept [] x inside between left)))
-    (begins_end is_inner word.Endif first.sign first.word (end ∷ all_tokens parts) c (z ∷ inner) among inner among true declared tokens places last are.0.0.begins are.0.0.is are.0.0.goes_on calm calm_now (omega (arith, few, less)) refl (λ sign m. refl)
-    (acts end (all_tokens parts) (reading false place (awaits.End effect.Nothing) c inner among now) (at c inner among None now) None (cond end.site.is_quiet None (Some place)) tokens places last
-    (end_kept effect.Nothing false place end c inner among now are.0.1)
-    (behind_end d parts c w on end.ended inner among (AllStay inside between si sb (ap (drop 1) mi) mb) now agree right.1 (omega (arith, few, less)))))
-led d (Closing is_inner first end ∷ parts) inner among (InnerLeft (y ∷ deep) x inside between left si sb mi mb) declared c w cw are agree right few =
-    let on : Onward d parts c w = λ i a s m agreed rightly enough. led d parts i a s m c w cw are.1 agreed rightly enough in
-    let less = fewer first (end ∷ all_tokens parts) in
-    let now = declared_first first declared in
-    let place = begins first in
-    let stack : Around = record { inside = deep ++ x ∷ inside; between = between } in
-    let tokens = kept_sides d (ended_in end.ended stack) parts in
-    let places = lone_parts d (ended_in end.ended stack) parts in
-    let last : Last = record { around = behind_parts d (ended_in end.ended stack) parts; waiting = w } in
-    let n = length deep in
-    let s : Around = record { inside = y ∷ deep ++ x ∷ inside; between = between } in
-    let calm : CalmLeft is_inner inner true = λ e. absurd (some_open (y ∷ deep) x inside (closing_right is_inner first end s right.0 e)) in
-    let there : ℕ → Conditions = at c inner among (left_at true (n)) in
-    subst (λ ps. Led (first_tokens first (end ∷ all_tokens parts)) (at c inner among (left_at true (suc n)) declared) tokens (ps ++ places) last) (sym (no_lone word.Endif first end s (inner_not_kept (y ∷ deep) x inside between left)))
-    (begins_left is_inner word.Endif (n) first.sign first.word (end ∷ all_tokens parts) c inner among true (suc n) declared tokens places last are.0.0.begins are.0.0.is are.0.0.goes_on calm (omega (arith, few, less))
-    (ap (λ b. b && true) (eqb-suc-zero n)) (omega arith)
-    (passes end (all_tokens parts) (there now) (there now) (ended_behind end.ended (there now)) tokens places last
-    (plain_left end c inner among true (n) now (semicolon_plain end are.0.1) (omega (arith, few, less))) refl
-    (behind_end d parts c w on end.ended inner among (InnerLeft deep x inside between left si sb mi mb) now agree right.1 (omega (arith, few, less)))))
-led d (Closing is_inner first end ∷ parts) (z ∷ inner) among (OuterLeft [] x between none left sb mb) declared c w cw are agree right few = cc
-led d (Closing is_inner first end ∷ parts) [] [] (OuterLeft [] x between none left sb mb) declared c w cw are agree right few = cc
-led d (Closing is_inner first end ∷ parts) [] (z ∷ among) (OuterLeft [] x between none left sb mb) declared c w cw are agree right few =
-    let on : Onward d parts c w = λ i a s m agreed rightly enough. led d parts i a s m c w cw are.1 agreed rightly enough in
-    let less = fewer first (end ∷ all_tokens parts) in
-    let now = declared_first first declared in
-    let place = begins first in
-    let stack : Around = record { inside = []; between = between } in
-    let tokens = kept_sides d (ended_in end.ended stack) parts in
-    let places = lone_parts d (ended_in end.ended stack) parts in
-    let last : Last = record { around = behind_parts d (ended_in end.ended stack) parts; waiting = w } in
-    let s : Around = record { inside = []; between = x ∷ between } in
-    let calm : CalmLeft is_inner [] false = λ _. (refl, refl) in
-    subst (λ ps. Led (first_tokens first (end ∷ all_tokens parts)) (at c [] (z ∷ among) (left_at false 0) declared) tokens (ps ++ places) last) (sym (no_lone word.Endif first end s (not_kept [] x between left)))
-    (begins_end is_inner word.Endif first.sign first.word (end ∷ all_tokens parts) c [] (z ∷ among) [] among false declared tokens places last are.0.0.begins are.0.0.is are.0.0.goes_on calm (λ _. (refl, refl)) (omega (arith, few, less)) refl (λ sign m. refl)
-    (acts end (all_tokens parts) (reading false place (awaits.End effect.Nothing) c [] among now) (at c [] among None now) None (cond end.site.is_quiet None (Some place)) tokens places last
-    (end_kept effect.Nothing false place end c [] among now are.0.1)
-    (behind_end d parts c w on end.ended [] among (AllStay [] between refl sb refl (ap (drop 1) mb)) now agree right.1 (omega (arith, few, less)))))
-led d (Closing is_inner first end ∷ parts) inner among (OuterLeft (y ∷ deep) x between none left sb mb) declared c w cw are agree right few =
-    let on : Onward d parts c w = λ i a s m agreed rightly enough. led d parts i a s m c w cw are.1 agreed rightly enough in
-    let less = fewer first (end ∷ all_tokens parts) in
-    let now = declared_first first declared in
-    let place = begins first in
-    let stack : Around = record { inside = []; between = deep ++ x ∷ between } in
-    let tokens = kept_sides d (ended_in end.ended stack) parts in
-    let places = lone_parts d (ended_in end.ended stack) parts in
-    let last : Last = record { around = behind_parts d (ended_in end.ended stack) parts; waiting = w } in
-    let n = length deep in
-    let s : Around = record { inside = []; between = y ∷ deep ++ x ∷ between } in
-    let calm : CalmLeft is_inner inner false = λ _. (none, refl) in
-    let there : ℕ → Conditions = at c inner among (left_at false (n)) in
-    subst (λ ps. Led (first_tokens first (end ∷ all_tokens parts)) (at c inner among (left_at false (suc n)) declared) tokens (ps ++ places) last) (sym (no_lone word.Endif first end s (not_kept (y ∷ deep) x between left)))
-    (begins_left is_inner word.Endif (n) first.sign first.word (end ∷ all_tokens parts) c inner among false (suc n) declared tokens places last are.0.0.begins are.0.0.is are.0.0.goes_on calm (omega (arith, few, less))
-    (ap (λ b. b && true) (eqb-suc-zero n)) (omega arith)
-    (passes end (all_tokens parts) (there now) (there now) (ended_behind end.ended (there now)) tokens places last
-    (plain_left end c inner among false (n) now (semicolon_plain end are.0.1) (omega (arith, few, less))) refl
-    (behind_end d parts c w on end.ended inner among (OuterLeft deep x between none left sb mb) now agree right.1 (omega (arith, few, less)))))
-
 pub one_side_is_kept : OneSideIsKept
 one_side_is_kept d parts c clear file =
     let here = at c [] [] None c.declared in
     let is : here ≡ c =
-    ap (λ a. record c { among = a; inner = []; pending = []; left_out = None; sign = None; said = None }) (sym clear.none_among)
-    ∙ ap (λ i. record c { inner = i; pending = []; left_out = None; sign = None; said = None }) (sym clear.none_inner)
-    ∙ ap (λ p. record c { pending = p; left_out = None; sign = None; said = None }) (sym clear.none_pending)
+    ap (λ a. record c { among = a; inner = []; left_out = None; sign = None; said = None }) (sym clear.none_among)
+    ∙ ap (λ i. record c { inner = i; left_out = None; sign = None; said = None }) (sym clear.none_inner)
     ∙ ap (λ l. record c { left_out = l; sign = None; said = None }) (sym clear.all_kept)
     ∙ ap (λ s. record c { sign = s; said = None }) (sym clear.no_sign)
     ∙ ap (λ s. record c { said = s }) (sym clear.none_said) in
     let few = file.few in
-    let all = led d parts [] [] (AllStay [] [] refl refl refl refl) c.declared c c.waiting refl file.are_parts file.names file.directives (omega (arith, few)) in
-    let last = behind_parts d none_around parts in
-    let open_so = open_of (record { around = last; waiting = c.waiting }) (all_behind (all_tokens parts) here) all.ends in
+    let kept_so = kept_sides d none_around parts in
+    let all = led d parts Hands none_around c.declared 0 c.waiting c
+    (record { base = c; stand = AllStay [] [] refl refl; holds = clear.none_pending; waits = refl; is = sym is; stack = refl; few = omega arith })
+    file.are_parts (all_taken kept_so) (omega (arith, few)) in
+    let l = last_behind d parts none_around c.declared 0 c.waiting in
+    let last = l.around in
+    let behind = all_behind (all_tokens parts) c in
+    let ends : StandsAt Hands l behind = subst (λ (q : Reader). StandsAt q l behind) (hands_on kept_so) all.ends in
+    let open_so = open_of Hands l behind ends in
     record {
-      handed_on = ap (all_handed_on (all_tokens parts)) (sym is) ∙ all.hands;
-      lone = ap (all_lone_places (all_tokens parts)) (sym is) ∙ all.tells;
+      handed_on = all.hands ∙ all_handed kept_so;
+      lone = all.tells;
       in_file = λ end files r is_last.
-          let behind = all_behind (all_tokens parts) here in
           let now = (judged_at end behind).now in
-          let same = end_stays end behind is_last (ap (λ (x : Conditions). x.pending) all.ends.is) (ap (λ (x : Conditions). x.sign) all.ends.is) in
-          ap (λ (x : Conditions). file_told files (judged_at end (all_behind (all_tokens parts) x)).now r) (sym is)
-          ∙ ap (λ r. with_all_lone files (reverse now.among) r) (told_all files now.inner last.inside r (same.1 ∙ open_so.inside))
+          let same = end_stays end behind is_last (ap (λ (x : Conditions). x.pending) ends.is ∙ ends.holds) (ap (λ (x : Conditions). x.sign) ends.is) in
+          ap (λ r. with_all_lone files (reverse now.among) r) (told_all files now.inner last.inside r (same.1 ∙ open_so.inside))
           ∙ told_all files now.among last.between (with_all_at files (unended last.inside) r) (same.0 ∙ open_so.between)
           ∙ sym (told_both files (unended last.inside) (unended last.between) r);
-      in_directive = λ files r.
-          ap (λ (x : Conditions). piece_told files (all_behind (all_tokens parts) x) r) (sym is)
-          ∙ told_all files (all_behind (all_tokens parts) here).inner last.inside r open_so.inside;
+      in_directive = λ files r. told_all files behind.inner last.inside r open_so.inside;
     }

@@ -12,7 +12,7 @@ use Rattle.inf_conditionals.specs.Open.{Conditions, most_levels, silent}
 use Rattle.inf_reader.specs.Reading.{is_mode_ended}
 use Rattle.inf_session.specs.Choices.{Choices}
 use Rattle.inf_session.specs.Session.{State, file_closed, stepped, token_of, turn}
-use Rattle.inf_laws.specs.KeptSides.{Agree, AllStandRight, Answers, AreParts, Around, At, Handing, IsClear, IsPlain, Part, all_behind, all_kept, all_tokens, as_kept, behind_parts, ended_behind, ended_in, handed_on, judged_at, kept_sides, lone_parts, lone_places, none_around, unended}
+use Rattle.inf_laws.specs.KeptSides.{Answers, AreParts, Around, At, Handing, IsClear, IsPlain, Parts, all_behind, all_kept, all_tokens, as_kept, behind_parts, ended_behind, ended_in, handed_on, judged_at, kept_sides, lone_parts, lone_places, none_around, unended}
 use Rattle.inf_laws.specs.KeptTurns.{given_in, turned}
 use Rattle.inf_laws.specs.MissingEnds.{with_all_at}
 use Rattle.inf_laws.specs.SideTurns.{at_turn, shown}
@@ -72,8 +72,8 @@ unended_by (x ∷ steps) c = told_behind x.passage (judged_at x.at c).now ++ une
 -- What is still to come of a file: no inclusion; or parts of it, the token with which an included file is entered, what that has, the token at
 -- its end, and what comes behind.
 pub data Files : Type 0 where
-  Alone : (parts : List Part) → Files
-  Including : (parts : List Part) (entering : At) (included : Files) (leaving : At) (behind : Files) → Files
+  Alone : (parts : Parts) → Files
+  Including : (parts : Parts) (entering : At) (included : Files) (leaving : At) (behind : Files) → Files
 
 abbrev pub steps : Files → List Step
 steps (Alone parts) = map staying (all_tokens parts)
@@ -118,10 +118,8 @@ unended_files answers s (Including parts entering included leaving behind) =
 -- The law
 
 -- parts of a file, by what is told of their names and conditions
-pub record AreOfAFile (answers : Answers) (s : Around) (declared : ℕ) (parts : List Part) : Type 0 where
-  pub are_parts : AreParts parts
-  pub names : Agree answers declared parts
-  pub directives : AllStandRight answers s parts
+pub record AreOfAFile (answers : Answers) (s : Around) (declared : ℕ) (parts : Parts) : Type 0 where
+  pub are_parts : AreParts answers false s declared parts
   pub few : length (all_tokens parts) ≤ most_levels
 
 -- a file is entered at a plain token that is kept, and left at its end

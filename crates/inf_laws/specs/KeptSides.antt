@@ -1,5 +1,5 @@
 -- Which tokens of a file are kept, with conditionals between its directives and inside them: of each conditional one side is.
-use Rattle.std.specs.Prelude.{◌≡◌, ◌≤◌, ◌&&◌, ℕ, List, [], ◌∷◌, ◌++◌, drop, length, map, Bool, true, false, not, if◌then◌else◌, Option, Some, None, unwrap_or}
+use Rattle.std.specs.Prelude.{◌≡◌, ◌≤◌, ◌&&◌, ◌||◌, ℕ, List, [], ◌∷◌, ◌++◌, drop, length, map, Bool, true, false, not, if◌then◌else◌, Option, Some, None, unwrap_or}
 use Rattle.inf_names.specs.Symbols.{declared_before}
 use Rattle.inf_output.specs.Output.{Out}
 use Rattle.inf_scanner.specs.declared.tokens.Mark.TheVariants as mark
@@ -112,97 +112,33 @@ first_tokens first tokens = signed_tokens first.sign (first.word ∷ tokens)
 
 -- A token that belongs to no conditional directive, alone or behind a `#`; a directive with a name, which opens a conditional, where the name is to be declared or not, and one
 -- with a condition, which is to be true or not; and an `Ifnot` and an `Endif`, each with its semicolon. A directive stands inside another one or
--- between the others.
-pub data Part : Type 0 where
-  Plain : (token : At) → Part
-  Signed : (is_inner : Bool) (sign token : At) → Part
-  Opening : (is_inner if_declared : Bool) (first : First) (name end : At) → Part
-  Asking : (is_inner wanted : Bool) (first : First) (tokens : List At) (end : At) → Part
-  Turning : (is_inner : Bool) (first : First) (end : At) → Part
-  Closing : (is_inner : Bool) (first : First) (end : At) → Part
+-- between the others, and parts stand between the tokens of a conditional one: before and behind its name, among those of its condition, and before its
+-- semicolon.
+mutual
+  pub data Part : Type 0 where
+    Plain : (token : At) → Part
+    Signed : (is_inner : Bool) (sign token : At) → Part
+    Opening : (is_inner if_declared : Bool) (first : First) (before : Parts) (name : At) (behind : Parts) (end : At) → Part
+    Asking : (is_inner wanted : Bool) (first : First) (within : Parts) (end : At) → Part
+    Turning : (is_inner : Bool) (first : First) (within : Parts) (end : At) → Part
+    Closing : (is_inner : Bool) (first : First) (within : Parts) (end : At) → Part
 
-abbrev pub all_tokens : List Part → List At
-all_tokens [] = []
-all_tokens (Plain t ∷ parts) = t ∷ all_tokens parts
-all_tokens (Signed is_inner sign t ∷ parts) = sign ∷ t ∷ all_tokens parts
-all_tokens (Opening is_inner if_declared first name end ∷ parts) = first_tokens first (name ∷ end ∷ all_tokens parts)
-all_tokens (Asking is_inner wanted first tokens end ∷ parts) = first_tokens first (tokens ++ end ∷ all_tokens parts)
-all_tokens (Turning is_inner first end ∷ parts) = first_tokens first (end ∷ all_tokens parts)
-all_tokens (Closing is_inner first end ∷ parts) = first_tokens first (end ∷ all_tokens parts)
+  pub data Parts : Type 0 where
+    NoParts : Parts
+    Then : (part : Part) (parts : Parts) → Parts
 
--- a token that is neither a word of a conditional, nor a `#`, nor the end of the file
-pub record IsPlain (t : At) : Type 0 where
-  pub no_word : word_of t.token ≡ None
-  pub no_hash : is_mark mark.Hash t.token.kind ≡ false
-  pub goes_on : is_end t.token.kind ≡ false
+abbrev mutual
+  pub part_tokens : Part → List At
+  part_tokens (Plain t) = t ∷ []
+  part_tokens (Signed is_inner sign t) = sign ∷ t ∷ []
+  part_tokens (Opening is_inner if_declared first before name behind end) = first_tokens first (all_tokens before ++ name ∷ (all_tokens behind ++ end ∷ []))
+  part_tokens (Asking is_inner wanted first within end) = first_tokens first (all_tokens within ++ end ∷ [])
+  part_tokens (Turning is_inner first within end) = first_tokens first (all_tokens within ++ end ∷ [])
+  part_tokens (Closing is_inner first within end) = first_tokens first (all_tokens within ++ end ∷ [])
 
--- no directive ends behind a token that is inside one
-abbrev pub GoesOn : Bool → At → Type 0
-GoesOn true t = t.ended ≡ None
-GoesOn false t = Unit {0}
-
--- between the others a directive begins with a `#` or without, and inside of one with it
-abbrev pub Begins : Bool → Option At → At → Type 0
-Begins false None w = w.site.is_between ≡ true
-Begins false (Some sign) w = (sign.site.is_between ≡ true) × (is_mark mark.Hash sign.token.kind ≡ true)
-Begins true None w = ⊥
-Begins true (Some sign) w = (sign.site.is_between ≡ false) × ((is_mark mark.Hash sign.token.kind ≡ true) × (sign.ended ≡ None))
-
-pub record IsFirst (is_inner : Bool) (w : ConditionalWord) (first : First) : Type 0 where
-  pub begins : Begins is_inner first.sign first.word
-  pub is : word_of first.word.token ≡ Some w
-  pub goes_on : GoesOn is_inner first.word
-
--- a name that is no such word
-pub record IsName (is_inner : Bool) (t : At) : Type 0 where
-  pub is : t.token.kind ≡ kind.Name
-  pub no_word : word_of t.token ≡ None
-  pub goes_on : GoesOn is_inner t
-
-pub record IsSemicolon (t : At) : Type 0 where
-  pub is : is_mark mark.Semicolon t.token.kind ≡ true
-  pub no_hash : is_mark mark.Hash t.token.kind ≡ false
-
-abbrev pub opening : Bool → ConditionalWord
-opening if_declared = if if_declared then word.Ifdef else word.Ifndef
-
--- A condition with what of its directive is still to be read: behind the word of the directive, behind further tokens, and behind all of them.
-abbrev pub asking : Bool → ConditionalWord
-asking wanted = if wanted then word.Iftrue else word.Iffalse
-
-abbrev pub placed_word : First → Spelled
-placed_word first = record first.word.token { place = begins first }
-
-abbrev pub condition_behind : List At → Condition → Condition
-condition_behind [] k = k
-condition_behind (t ∷ tokens) k = condition_behind tokens (condition_took t.token k)
-
-abbrev pub whole_condition : First → List At → At → Condition
-whole_condition first tokens end = condition_took end.token (condition_behind tokens (condition_took (placed_word first) condition_begun))
-
--- the next token of one, which the grammar takes, and which is its last or not
-pub record IsNext (is_last : Bool) (t : At) (k : Condition) : Type 0 where
-  pub plain : IsPlain t
-  pub is_taken : fits grammar known (atom_of t.token) k.stack ≡ true
-  pub whole : is_whole (condition_took t.token k) ≡ is_last
-
-abbrev pub AreNext : Bool → List At → At → Condition → Type 0
-AreNext is_inner [] end k = IsNext true end k
-AreNext is_inner (t ∷ tokens) end k = IsNext false t k × (GoesOn is_inner t × AreNext is_inner tokens end (condition_took t.token k))
-
-abbrev pub IsPart : Part → Type 0
-IsPart (Plain t) = IsPlain t
-IsPart (Signed is_inner sign t) = Begins is_inner (Some sign) t × IsPlain t
-IsPart (Opening is_inner if_declared first name end) = IsFirst is_inner (opening if_declared) first × (IsName is_inner name × IsSemicolon end)
-IsPart (Asking is_inner wanted first tokens end) =
-    IsFirst is_inner (asking wanted) first
-    × ((fits grammar known (atom_of (placed_word first)) condition_begun.stack ≡ true) × AreNext is_inner tokens end (condition_took (placed_word first) condition_begun))
-IsPart (Turning is_inner first end) = IsFirst is_inner word.Ifnot first × IsSemicolon end
-IsPart (Closing is_inner first end) = IsFirst is_inner word.Endif first × IsSemicolon end
-
-abbrev pub AreParts : List Part → Type 0
-AreParts [] = Unit {0}
-AreParts (part ∷ parts) = IsPart part × AreParts parts
+  pub all_tokens : Parts → List At
+  all_tokens NoParts = []
+  all_tokens (Then part parts) = part_tokens part ++ all_tokens parts
 
 -- how many names are declared behind a token
 abbrev pub declared_behind : At → ℕ → ℕ
@@ -219,25 +155,22 @@ abbrev pub declared_tokens : List At → ℕ → ℕ
 declared_tokens [] declared = declared
 declared_tokens (t ∷ tokens) declared = declared_tokens tokens (declared_behind t declared)
 
+-- A condition with what of its directive is still to be read: behind further tokens, and behind all of them.
+abbrev pub placed_word : First → Spelled
+placed_word first = record first.word.token { place = begins first }
+
+abbrev pub condition_behind : List Spelled → Condition → Condition
+condition_behind [] k = k
+condition_behind (t ∷ tokens) k = condition_behind tokens (condition_took t k)
+
+abbrev pub whole_condition : First → List Spelled → At → Condition
+whole_condition first tokens end = condition_took end.token (condition_behind tokens (condition_took (placed_word first) condition_begun))
+
 -- what is told of each name at its place, whether one of the directives before declared it, and of each condition, whether it is true behind its last
 -- token
 pub record Answers : Type 0 where
   pub is_declared : At → Bool
   pub is_true : Condition → At → Bool
-
--- it is so by how many names are declared by the directives before
-abbrev pub Agree : Answers → ℕ → List Part → Type 0
-Agree answers declared [] = Unit {0}
-Agree answers declared (Plain t ∷ parts) = Agree answers (declared_behind t declared) parts
-Agree answers declared (Signed is_inner sign t ∷ parts) = Agree answers (declared_behind t (declared_behind sign declared)) parts
-Agree answers declared (Opening is_inner if_declared first name end ∷ parts) =
-    (declared_before name.token.bytes (declared_first first declared) name.out.names ≡ answers.is_declared name)
-    × Agree answers (declared_behind end (declared_behind name (declared_first first declared))) parts
-Agree answers declared (Asking is_inner wanted first tokens end ∷ parts) =
-    ((verdict_of (declared_tokens tokens (declared_first first declared)) end.out (whole_condition first tokens end)).is_true ≡ answers.is_true (whole_condition first tokens end) end)
-    × Agree answers (declared_behind end (declared_tokens tokens (declared_first first declared))) parts
-Agree answers declared (Turning is_inner first end ∷ parts) = Agree answers (declared_behind end (declared_first first declared)) parts
-Agree answers declared (Closing is_inner first end ∷ parts) = Agree answers (declared_behind end (declared_first first declared)) parts
 
 -- What is kept of it
 
@@ -263,6 +196,14 @@ are_kept (x ∷ around) = x.stays && are_kept around
 abbrev pub all_kept : Around → Bool
 all_kept s = are_kept s.inside && are_kept s.between
 
+-- One is opened more, whose first side stays where its name was declared or its condition is true, or where not. It belongs to the directive in which it was opened, unless that
+-- stands in a side that is left out between directives.
+abbrev pub first_side : First → Bool → Bool → Open
+first_side first wanted is_so = record { place = begins first; is_second = false; stays = if wanted then is_so else not is_so }
+
+abbrev pub opened_more : Bool → Open → Around → Around
+opened_more is_inner x s = if is_inner && are_kept s.between then record s { inside = x ∷ s.inside } else record s { between = x ∷ s.between }
+
 -- the other side of the latest conditional begins, if it was in its first one; of both sides one stays
 abbrev pub other_side : Open → Open
 other_side x = if x.is_second then x else record x { is_second = true; stays = not x.stays }
@@ -275,46 +216,68 @@ abbrev pub turned_by : List Open → Around → Around
 turned_by [] s = record s { between = turned_open s.between }
 turned_by (x ∷ inside) s = record s { inside = other_side x ∷ inside }
 
+abbrev pub turned : Around → Around
+turned s = turned_by s.inside s
+
 -- the latest one is closed
 abbrev pub closed_by : List Open → Around → Around
 closed_by [] s = record s { between = drop 1 s.between }
 closed_by (x ∷ inside) s = record s { inside = inside }
 
--- One is opened more, whose first side stays where its name was declared or its condition is true, or where not. It belongs to the directive in which it was opened, unless that
--- stands in a side that is left out between directives.
-abbrev pub first_side : First → Bool → Bool → Open
-first_side first wanted is_so = record { place = begins first; is_second = false; stays = if wanted then is_so else not is_so }
-
-abbrev pub opened_more : Bool → Open → Around → Around
-opened_more is_inner x s = if is_inner && are_kept s.between then record s { inside = x ∷ s.inside } else record s { between = x ∷ s.between }
+abbrev pub closed : Around → Around
+closed s = closed_by s.inside s
 
 -- Those that were opened inside a directive end with it.
 abbrev pub ended_in : Option ℕ → Around → Around
 ended_in None s = s
 ended_in (Some declared) s = record s { inside = [] }
 
--- what is open behind a part
-abbrev pub behind_part : Answers → Part → Around → Around
-behind_part answers (Plain t) s = ended_in t.ended s
-behind_part answers (Signed is_inner sign t) s = ended_in t.ended s
-behind_part answers (Opening is_inner if_declared first name end) s = ended_in end.ended (opened_more is_inner (first_side first if_declared (answers.is_declared name)) s)
-behind_part answers (Asking is_inner wanted first tokens end) s = ended_in end.ended (opened_more is_inner (first_side first wanted (answers.is_true (whole_condition first tokens end) end)) s)
-behind_part answers (Turning is_inner first end) s = ended_in end.ended (turned_by s.inside s)
-behind_part answers (Closing is_inner first end) s = ended_in end.ended (closed_by s.inside s)
+-- A directive acts by its last token, behind the parts between its tokens; in a side that is left out it does so by its word, before them.
+abbrev pub acted : (act parts : Around → Around) → Around → Around
+acted act parts s = if all_kept s then act (parts s) else parts (act s)
 
-abbrev pub behind_parts : Answers → Around → List Part → Around
-behind_parts answers s [] = s
-behind_parts answers s (part ∷ parts) = behind_parts answers (behind_part answers part s) parts
+abbrev pub before_parts : (act : Around → Around) → Around → Around
+before_parts act s = if all_kept s then s else act s
 
--- the tokens that are kept
+-- the tokens that are kept of a part; none of a conditional directive is
 abbrev pub kept_of : Part → Around → List Spelled
 kept_of (Plain t) s = if all_kept s then t.token ∷ [] else []
 kept_of (Signed is_inner sign t) s = if all_kept s then hash sign.token.place ∷ t.token ∷ [] else []
 kept_of _ s = []
 
-abbrev pub kept_sides : Answers → Around → List Part → List Spelled
-kept_sides answers s [] = []
-kept_sides answers s (part ∷ parts) = kept_of part s ++ kept_sides answers (behind_part answers part s) parts
+-- what is open behind a part, and behind parts; and the tokens of these that are kept
+abbrev mutual
+  pub behind_part : Answers → Part → Around → Around
+  behind_part answers (Plain t) s = ended_in t.ended s
+  behind_part answers (Signed is_inner sign t) s = ended_in t.ended s
+  behind_part answers (Opening is_inner if_declared first before name behind end) s =
+      ended_in end.ended
+      (acted (opened_more is_inner (first_side first if_declared (answers.is_declared name))) (λ x. behind_parts answers (ended_in name.ended (behind_parts answers x before)) behind) s)
+  behind_part answers (Asking is_inner wanted first within end) s =
+      ended_in end.ended
+      (acted (opened_more is_inner (first_side first wanted (answers.is_true (whole_condition first (kept_sides answers s within) end) end))) (λ x. behind_parts answers x within) s)
+  behind_part answers (Turning is_inner first within end) s = ended_in end.ended (acted turned (λ x. behind_parts answers x within) s)
+  behind_part answers (Closing is_inner first within end) s = ended_in end.ended (acted closed (λ x. behind_parts answers x within) s)
+
+  pub behind_parts : Answers → Around → Parts → Around
+  behind_parts answers s NoParts = s
+  behind_parts answers s (Then part parts) = behind_parts answers (behind_part answers part s) parts
+
+  pub kept_sides : Answers → Around → Parts → List Spelled
+  kept_sides answers s NoParts = []
+  kept_sides answers s (Then part parts) = kept_of part s ++ kept_sides answers (behind_part answers part s) parts
+
+-- the parts of a directive stand here
+abbrev pub opening_parts : Answers → Bool → Bool → First → At → Around → Around
+opening_parts answers is_inner if_declared first name s = before_parts (opened_more is_inner (first_side first if_declared (answers.is_declared name))) s
+
+abbrev pub asking_parts : Answers → Bool → Bool → First → Parts → At → Around → Around
+asking_parts answers is_inner wanted first within end s =
+    before_parts (opened_more is_inner (first_side first wanted (answers.is_true (whole_condition first (kept_sides answers s within) end) end))) s
+
+-- and here behind its name
+abbrev pub behind_name : Answers → Parts → At → Around → Around
+behind_name answers before name s = ended_in name.ended (behind_parts answers s before)
 
 -- where directives begin that have no conditional to turn or to end, of those that are kept and do not end among tokens that are passed over
 abbrev pub seconds : List Open → List Bool
@@ -324,32 +287,144 @@ abbrev pub lone_at : ConditionalWord → First → At → Around → List Place
 lone_at w first end s =
     if end.site.is_quiet then [] else if all_kept s && is_lone w (seconds (s.inside ++ s.between)) then begins first ∷ [] else []
 
-abbrev pub lone_of : Part → Around → List Place
-lone_of (Turning is_inner first end) s = lone_at word.Ifnot first end s
-lone_of (Closing is_inner first end) s = lone_at word.Endif first end s
-lone_of _ s = []
+-- where it ends, and in a side that is left out where it begins
+abbrev pub acting : Answers → Parts → Around → Around
+acting answers within s = if all_kept s then behind_parts answers s within else s
 
-abbrev pub lone_parts : Answers → Around → List Part → List Place
-lone_parts answers s [] = []
-lone_parts answers s (part ∷ parts) = lone_of part s ++ lone_parts answers (behind_part answers part s) parts
+abbrev mutual
+  pub lone_of : Answers → Part → Around → List Place
+  lone_of answers (Opening is_inner if_declared first before name behind end) s =
+      let x = opening_parts answers is_inner if_declared first name s in lone_parts answers x before ++ lone_parts answers (behind_name answers before name x) behind
+  lone_of answers (Asking is_inner wanted first within end) s = lone_parts answers (asking_parts answers is_inner wanted first within end s) within
+  lone_of answers (Turning is_inner first within end) s = lone_parts answers (before_parts turned s) within ++ lone_at word.Ifnot first end (acting answers within s)
+  lone_of answers (Closing is_inner first within end) s = lone_parts answers (before_parts closed s) within ++ lone_at word.Endif first end (acting answers within s)
+  lone_of answers _ s = []
+
+  pub lone_parts : Answers → Around → Parts → List Place
+  lone_parts answers s NoParts = []
+  lone_parts answers s (Then part parts) = lone_of answers part s ++ lone_parts answers (behind_part answers part s) parts
 
 -- where those began that are open, in order, but for what was opened in a side that is left out
 abbrev pub unended : List Open → List Place
 unended [] = []
 unended (x ∷ around) = unended around ++ (if are_kept around then x.place ∷ [] else [])
 
--- Between directives no conditional is open that was opened inside one.
-abbrev pub StandsRight : Part → Around → Type 0
-StandsRight (Signed false sign t) s = s.inside ≡ []
-StandsRight (Opening false if_declared first name end) s = s.inside ≡ []
-StandsRight (Asking false wanted first tokens end) s = s.inside ≡ []
-StandsRight (Turning false first end) s = s.inside ≡ []
-StandsRight (Closing false first end) s = s.inside ≡ []
-StandsRight _ s = Unit {0}
+-- What parts are
 
-abbrev pub AllStandRight : Answers → Around → List Part → Type 0
-AllStandRight answers s [] = Unit {0}
-AllStandRight answers s (part ∷ parts) = StandsRight part s × AllStandRight answers (behind_part answers part s) parts
+-- a token that is neither a word of a conditional, nor a `#`, nor the end of the file
+pub record IsPlain (t : At) : Type 0 where
+  pub no_word : word_of t.token ≡ None
+  pub no_hash : is_mark mark.Hash t.token.kind ≡ false
+  pub goes_on : is_end t.token.kind ≡ false
+
+-- no directive ends behind a token that is inside one
+abbrev pub GoesOn : Bool → At → Type 0
+GoesOn true t = t.ended ≡ None
+GoesOn false t = Unit {0}
+
+pub record IsSign (is_inner : Bool) (sign : At) : Type 0 where
+  pub is : is_mark mark.Hash sign.token.kind ≡ true
+  pub goes_on : GoesOn is_inner sign
+
+-- Where a directive is kept, between the others, it begins with a `#` or without, and inside of one with it. Among the tokens of a conditional one all
+-- stand inside, wherever reading stands.
+abbrev pub Begins : Bool → Bool → Bool → Option At → At → Type 0
+Begins true false false None w = w.site.is_between ≡ true
+Begins true false false (Some sign) w = (sign.site.is_between ≡ true) × IsSign false sign
+Begins true false true sign w = ⊥
+Begins true true is_within None w = ⊥
+Begins true true is_within (Some sign) w = (is_within ≡ false → sign.site.is_between ≡ false) × IsSign true sign
+Begins false is_inner is_within None w = Unit {0}
+Begins false is_inner is_within (Some sign) w = IsSign is_inner sign
+
+pub record IsFirst (is_kept is_inner is_within : Bool) (w : ConditionalWord) (first : First) : Type 0 where
+  pub begins : Begins is_kept is_inner is_within first.sign first.word
+  pub is : word_of first.word.token ≡ Some w
+  pub goes_on : GoesOn is_inner first.word
+
+-- a name that is no such word
+pub record IsName (t : At) : Type 0 where
+  pub is : t.token.kind ≡ kind.Name
+  pub no_word : word_of t.token ≡ None
+
+pub record IsSemicolon (t : At) : Type 0 where
+  pub is : is_mark mark.Semicolon t.token.kind ≡ true
+  pub no_hash : is_mark mark.Hash t.token.kind ≡ false
+
+abbrev pub opening : Bool → ConditionalWord
+opening if_declared = if if_declared then word.Ifdef else word.Ifndef
+
+abbrev pub asking : Bool → ConditionalWord
+asking wanted = if wanted then word.Iftrue else word.Iffalse
+
+-- Between directives no conditional is open that was opened inside one: none before a directive that stands there, and none behind it, where its first
+-- side may be left out.
+abbrev pub NoneInside : Bool → Around → Type 0
+NoneInside false s = s.inside ≡ []
+NoneInside true s = Unit {0}
+
+abbrev pub NoneInsideBehind : Bool → Bool → At → Around → Type 0
+NoneInsideBehind true false end s = end.ended ≡ None → s.inside ≡ []
+NoneInsideBehind _ _ end s = Unit {0}
+
+-- a condition: the grammar takes its tokens, and the last one is the last of its directive
+abbrev pub AreTaken : List Spelled → At → Condition → Type 0
+AreTaken [] end k = (fits grammar known (atom_of end.token) k.stack ≡ true) × (is_whole (condition_took end.token k) ≡ true)
+AreTaken (t ∷ tokens) end k = (fits grammar known (atom_of t) k.stack ≡ true) × ((is_whole (condition_took t k) ≡ false) × AreTaken tokens end (condition_took t k))
+
+pub record IsCondition (answers : Answers) (first : First) (tokens : List Spelled) (end : At) (declared : ℕ) : Type 0 where
+  pub begins : fits grammar known (atom_of (placed_word first)) condition_begun.stack ≡ true
+  pub are_taken : AreTaken tokens end (condition_took (placed_word first) condition_begun)
+  pub agrees : (verdict_of declared end.out (whole_condition first tokens end)).is_true ≡ answers.is_true (whole_condition first tokens end) end
+
+-- where it is kept, and else nothing is
+abbrev pub IsAsked : Bool → Answers → First → List Spelled → At → ℕ → Type 0
+IsAsked true answers first tokens end declared = IsCondition answers first tokens end declared
+IsAsked false answers first tokens end declared = tokens ≡ []
+
+-- Behind parts between the tokens of a directive these are kept or left out as before, and elsewhere than in a condition none of the parts is kept.
+abbrev pub StayAs : Answers → Around → Parts → Type 0
+StayAs answers s parts = all_kept (behind_parts answers s parts) ≡ all_kept s
+
+abbrev pub AddsNone : Answers → Around → Parts → Type 0
+AddsNone answers s parts = StayAs answers s parts × (kept_sides answers s parts ≡ [])
+
+-- whether parts stand among the tokens of a directive that is read, where the directive around them does or not
+abbrev pub among : Bool → Around → Bool
+among is_within s = all_kept s || is_within
+
+-- parts of a file, or of a directive, and what is told of their names and conditions, by how many names are declared by the directives before
+abbrev mutual
+  pub IsPart : Answers → Bool → Around → ℕ → Part → Type 0
+  IsPart answers is_within s declared (Plain t) = IsPlain t
+  IsPart answers is_within s declared (Signed is_inner sign t) =
+      Begins (all_kept s) is_inner is_within (Some sign) t × (NoneInside is_inner s × (IsPlain t × (is_within ≡ true → all_kept s ≡ false)))
+  IsPart answers is_within s declared (Opening is_inner if_declared first before name behind end) =
+      let x = opening_parts answers is_inner if_declared first name s in
+      let y = behind_name answers before name x in
+      let now = declared_first first declared in
+      let later = declared_tokens (all_tokens before) now in
+      IsFirst (all_kept s) is_inner is_within (opening if_declared) first
+      × (NoneInside is_inner s
+      × ((AreParts answers (among is_within x) x now before × AddsNone answers x before)
+      × ((IsName name × ((declared_before name.token.bytes later name.out.names ≡ answers.is_declared name) × (all_kept y ≡ all_kept x)))
+      × ((AreParts answers (among is_within y) y (declared_behind name later) behind × AddsNone answers y behind) × (IsSemicolon end × NoneInsideBehind (all_kept s) is_inner end (behind_parts answers y behind))))))
+  IsPart answers is_within s declared (Asking is_inner wanted first within end) =
+      let x = asking_parts answers is_inner wanted first within end s in
+      let now = declared_first first declared in
+      IsFirst (all_kept s) is_inner is_within (asking wanted) first
+      × (NoneInside is_inner s
+      × ((AreParts answers (among is_within x) x now within × StayAs answers x within)
+      × (IsPlain end × (IsAsked (all_kept s) answers first (kept_sides answers x within) end (declared_tokens (all_tokens within) now) × NoneInsideBehind (all_kept s) is_inner end (behind_parts answers x within)))))
+  IsPart answers is_within s declared (Turning is_inner first within end) =
+      IsFirst (all_kept s) is_inner is_within word.Ifnot first × (NoneInside is_inner s × ((AreParts answers (among is_within (before_parts turned s)) (before_parts turned s) (declared_first first declared) within × AddsNone answers (before_parts turned s) within) × IsSemicolon end))
+  IsPart answers is_within s declared (Closing is_inner first within end) =
+      IsFirst (all_kept s) is_inner is_within word.Endif first × (NoneInside is_inner s × ((AreParts answers (among is_within (before_parts closed s)) (before_parts closed s) (declared_first first declared) within × AddsNone answers (before_parts closed s) within) × IsSemicolon end))
+
+  pub AreParts : Answers → Bool → Around → ℕ → Parts → Type 0
+  AreParts answers is_within s declared NoParts = Unit {0}
+  AreParts answers is_within s declared (Then part parts) =
+      IsPart answers is_within s declared part × AreParts answers is_within (behind_part answers part s) (declared_tokens (part_tokens part) declared) parts
 
 -- The law
 
@@ -364,7 +439,7 @@ pub record IsClear (c : Conditions) : Type 0 where
 
 -- Of each conditional one side is kept: just these tokens are handed on, each as one that is kept, and just these directives are told to be without
 -- their other end: where they end, and where the file does then, or the directive at hand. No file has as many levels as are counted at most.
-pub record KeepsSides (answers : Answers) (parts : List Part) (c : Conditions) : Type 0 where
+pub record KeepsSides (answers : Answers) (parts : Parts) (c : Conditions) : Type 0 where
   pub handed_on : all_handed_on (all_tokens parts) c ≡ map as_kept (kept_sides answers none_around parts)
   pub lone : all_lone_places (all_tokens parts) c ≡ lone_parts answers none_around parts
   pub in_file : (end : At) (files : FileNames) (r : Reported) → is_end end.token.kind ≡ true
@@ -372,11 +447,9 @@ pub record KeepsSides (answers : Answers) (parts : List Part) (c : Conditions) :
   pub in_directive : (files : FileNames) (r : Reported) → let s = behind_parts answers none_around parts in piece_told files (all_behind (all_tokens parts) c) r ≡ with_all_at files (unended s.inside) r
 
 -- a file with such conditionals, by what is told of its names and conditions
-pub record IsFile (answers : Answers) (declared : ℕ) (parts : List Part) : Type 0 where
-  pub are_parts : AreParts parts
-  pub names : Agree answers declared parts
-  pub directives : AllStandRight answers none_around parts
+pub record IsFile (answers : Answers) (declared : ℕ) (parts : Parts) : Type 0 where
+  pub are_parts : AreParts answers false none_around declared parts
   pub few : length (all_tokens parts) ≤ most_levels
 
 abbrev pub OneSideIsKept : Type 0
-OneSideIsKept = (answers : Answers) (parts : List Part) (c : Conditions) → IsClear c → IsFile answers c.declared parts → KeepsSides answers parts c
+OneSideIsKept = (answers : Answers) (parts : Parts) (c : Conditions) → IsClear c → IsFile answers c.declared parts → KeepsSides answers parts c

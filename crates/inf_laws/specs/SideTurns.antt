@@ -10,7 +10,7 @@ use Rattle.inf_reader.specs.Handing.{site_of}
 use Rattle.inf_reader.specs.Reading.{is_mode_ended}
 use Rattle.inf_session.specs.Choices.{Choices}
 use Rattle.inf_session.specs.Session.{State, file_closed, has_ended, heeded, is_resting, start, stepped, token_of, turn}
-use Rattle.inf_laws.specs.KeptSides.{Answers, At, Handing, IsClear, IsFile, Part, all_handed_on, all_tokens, as_kept, behind_parts, kept_sides, none_around, unended}
+use Rattle.inf_laws.specs.KeptSides.{Answers, At, Handing, IsClear, IsFile, Parts, all_handed_on, all_tokens, as_kept, behind_parts, kept_sides, none_around, unended}
 use Rattle.inf_laws.specs.KeptTokens.{Given, Kept, Unfit}
 use Rattle.inf_laws.specs.KeptTurns.{given_in, turned}
 use Rattle.inf_laws.specs.MissingEnds.{with_all_at}
@@ -51,13 +51,13 @@ TurnsHandOn = (sources : Sources) (o : Choices) (n : ℕ) (s : State) → StayIn
 
 -- Where the tokens of so many turns are those of a file with such conditionals, just the tokens are handed on that its sides keep.
 abbrev pub TurnsKeepSides : Type 0
-TurnsKeepSides = (answers : Answers) (sources : Sources) (o : Choices) (n : ℕ) (s : State) (parts : List Part) → StayInOne sources o n s → at_turns sources o n s ≡ all_tokens parts
+TurnsKeepSides = (answers : Answers) (sources : Sources) (o : Choices) (n : ℕ) (s : State) (parts : Parts) → StayInOne sources o n s → at_turns sources o n s ≡ all_tokens parts
     → IsClear s.conditions → IsFile answers s.conditions.declared parts
     → map shown (given_in sources o n s) ≡ map as_kept (kept_sides answers none_around parts)
 
 -- Where the file ends with the next turn, just those conditionals are told that are open, in order, but for what was opened in a side that is left out.
 abbrev pub TurnsTellMissingEnds : Type 0
-TurnsTellMissingEnds = (answers : Answers) (sources : Sources) (o : Choices) (n : ℕ) (s : State) (parts : List Part) → StayInOne sources o n s → at_turns sources o n s ≡ all_tokens parts
+TurnsTellMissingEnds = (answers : Answers) (sources : Sources) (o : Choices) (n : ℕ) (s : State) (parts : Parts) → StayInOne sources o n s → at_turns sources o n s ≡ all_tokens parts
     → IsClear s.conditions → IsFile answers s.conditions.declared parts
     → is_end (token_of (turned sources o n s).nesting.cursor).kind ≡ true
     → let last = stepped (turned sources o n s) in let around = behind_parts answers none_around parts in

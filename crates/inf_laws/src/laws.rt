@@ -95,9 +95,11 @@ pub fn lone_ends_are_told()
     ensures follow { SidesFollow }
 {}
 
-/// Of each conditional, between the directives of a file or inside of one, one side is kept: a token is handed on exactly where of each conditional
-/// around it the side stays that it is in. So do the turns of a reading from its start, as long as no file ends and none is included. Where the file ends
-/// behind them, just those conditionals are told that are open, in order, but for what was opened in a side that is left out.
+/// Of each conditional, between the directives of a file or inside of one, one side is kept, also in the condition of another one and between the tokens
+/// of its other directives, to any depth: a token is handed on exactly where of each conditional around it the side stays that it is in, and no token of
+/// a conditional directive is; its condition is what is kept of it. So do the turns of a reading from its start, as long as no file ends and none is
+/// included. Where the file ends behind them, just those conditionals are told that are open, in order, but for what was opened in a side that is left
+/// out.
 pub fn one_side_is_kept()
     ensures kept { OneSideIsKept }
     ensures handed_on { TurnsHandOn }
