@@ -179,7 +179,7 @@ record Entered (t : At) (s : Around) (w : List (List Conditional)) (c : Conditio
   tells : lone_places (judged_at t c).judged.lone ≡ []
   begun : Begun (around_included t s) (conditionals s.between ∷ w) (step_behind (enters t) c)
 
-entered_at : (t : At) (s : Around) (w : List (List Conditional)) (c : Conditions) → StaysAt s w c → IsPlain t → Entered t s w c
+entered_at : (t : At) (s : Around) (w : List (List Conditional)) (c : Conditions) → StaysAt s w c → IsPlain true false t → Entered t s w c
 entered_at t s w c st plain =
     let here = at st.base (conditionals s.inside) (conditionals s.between) None st.declared in
     let keeps = ap (judged_at t) st.is ∙ plain_kept t st.base (conditionals s.inside) (conditionals s.between) st.declared st.none_read plain in

@@ -34,7 +34,7 @@ use Rattle.inf_conditionals.specs.Judging.{Behind, at_front, asking as asking_on
 use Rattle.inf_conditionals.specs.Open.{Conditions, ended_by, is_second, latest_among, levels_behind, most_levels, silent, turned_first}
 use Rattle.inf_conditionals.specs.Words.{word_of}
 use Rattle.inf_reader.specs.Handing.{hash}
-use Rattle.inf_laws.specs.KeptSides.{AddsNone, Answers, AreParts, AreTaken, Around, Asking, At, Begins, Closing, First, GoesOn, Handing, IsAsked, IsCondition, IsFirst, IsName, IsPart, IsPlain, IsSemicolon, IsSign, NoneInside, NoneInsideBehind, NoParts, OneSideIsKept, Open, Opening, Part, Parts, Plain, Signed, StayAs, Then, Turning, acted, acting, all_behind, all_handed_on, all_kept, all_lone_places, all_tokens, among, are_kept, as_kept, asking, asking_parts, before_parts, begins, begins_at, behind_name, behind_part, behind_parts, closed, condition_behind, declared_behind, declared_first, declared_sign, declared_tokens, ended_behind, ended_in, first_side, first_tokens, going_on, handed_on, judged_at, kept_of, kept_sides, lone_at, lone_of, lone_parts, lone_places, none_around, opened_more, opening, opening_parts, other_side, part_tokens, placed_word, seconds, signed_tokens, turned, unended, whole_condition}
+use Rattle.inf_laws.specs.KeptSides.{AddsNone, Answers, AreParts, AreTaken, Around, Asking, At, Begins, Closing, First, GoesOn, Handing, IsAsked, IsCondition, IsFirst, IsName, IsPart, IsPlain, IsSemicolon, IsSign, IsSignedPlain, NoneInside, NoneInsideBehind, NoParts, OneSideIsKept, Open, Opening, Part, Parts, Passed, Plain, Signed, StayAs, Then, Turning, acted, acting, all_behind, all_handed_on, all_kept, all_lone_places, all_tokens, among, are_kept, as_kept, asking, asking_parts, before_parts, begins, begins_at, behind_name, behind_part, behind_parts, closed, condition_behind, declared_behind, declared_first, declared_sign, declared_tokens, ended_behind, ended_in, first_side, first_tokens, going_on, handed_on, judged_at, kept_of, kept_sides, lone_at, lone_of, lone_parts, lone_places, none_around, opened_more, opening, opening_parts, other_side, part_tokens, passed_by as word_passed, placed_word, seconds, signed_tokens, turned, unended, whole_condition}
 use Rattle.inf_laws.specs.LoneEnds.{is_lone}
 use Rattle.inf_laws.specs.MissingEnds.{with_all_at}
 use Rattle.inf_laws.specs.Sides.{ends_side, level_behind}
@@ -94,12 +94,12 @@ hash_end (kind.Mark x) e = refl
 hash_end (kind.Bad x) e = refl
 hash_end kind.End e = cc
 
--- semicolons and names are plain where a side is left out
-semicolon_plain : (t : At) → IsSemicolon t → IsPlain t
-semicolon_plain t is = record { no_word = semicolon_word t.token is.is; no_hash = is.no_hash; goes_on = semicolon_end t.token.kind is.is }
+-- semicolons and names are plain
+semicolon_plain : (is_kept is_within : Bool) (t : At) → IsSemicolon t → IsPlain is_kept is_within t
+semicolon_plain is_kept is_within t is = record { no_word = λ _. semicolon_word t.token is.is; no_hash = is.no_hash; goes_on = semicolon_end t.token.kind is.is }
 
-name_plain : (t : At) → t.token.kind ≡ kind.Name → word_of t.token ≡ None → IsPlain t
-name_plain t is none = record { no_word = none; no_hash = ap (is_mark mark.Hash) is; goes_on = ap is_end is }
+name_plain : (is_within : Bool) (t : At) → t.token.kind ≡ kind.Name → word_of t.token ≡ None → IsPlain false is_within t
+name_plain is_within t is none = record { no_word = λ _. none; no_hash = ap (is_mark mark.Hash) is; goes_on = ap is_end is }
 
 -- Conditionals
 
@@ -129,14 +129,18 @@ reading is_inner place a c inner among declared = at (awaits_it is_inner place a
 abbrev is_front : At → Conditions → Bool
 is_front t c = t.site.is_between && is_none_pending c.pending
 
-pub plain_kept : (t : At) (c : Conditions) (inner among : List Conditional) (declared : ℕ) → c.pending ≡ [] → IsPlain t
+pub plain_kept : (t : At) (c : Conditions) (inner among : List Conditional) (declared : ℕ) → c.pending ≡ [] → IsPlain true false t
     → judged_at t (at c inner among None declared) ≡ kept (at c inner among None declared)
 plain_kept t c inner among declared none is =
     let here = at c inner among None declared in
     let front = is_front t c in
     ap (λ (b : Bool). cond b (passed (held front t.token.place here)) (offered_to c.pending front t.site.is_quiet t.out t.token here)) is.no_hash
-    ∙ ap (λ ps. offered_to ps front t.site.is_quiet t.out t.token here) none
-    ∙ of_both (λ (b : Behind). b ≡ kept here) front (at_front (word_of t.token) t.token here) (kept here) (λ _. ap (λ o. at_front o t.token here) is.no_word) (λ _. refl)
+    ∙ ap (λ ps. offered_to ps (t.site.is_between && is_none_pending ps) t.site.is_quiet t.out t.token here) none
+    ∙ go t.site.is_between refl
+  where
+    go : (b : Bool) → t.site.is_between ≡ b → cond (b && true) (at_front (word_of t.token) t.token (at c inner among None declared)) (kept (at c inner among None declared)) ≡ kept (at c inner among None declared)
+    go true e = ap (λ o. at_front o t.token (at c inner among None declared)) (is.no_word e)
+    go false e = refl
 
 -- a `#` between directives, and inside one
 sign_kept : (t : At) (c : Conditions) (inner among : List Conditional) (declared : ℕ) → is_front t c ≡ true → is_mark mark.Hash t.token.kind ≡ true
@@ -246,16 +250,16 @@ side_at is_inner = record { is_inner = is_inner; levels = 0 }
 abbrev second : List Conditional → List Conditional → Bool
 second inner among = is_second (latest_among inner among)
 
-plain_left : (t : At) (c : Conditions) (inner among : List Conditional) (b : Bool) (n declared : ℕ) → IsPlain t → n + 1 ≤ most_levels
+plain_left : (is_within : Bool) (t : At) (c : Conditions) (inner among : List Conditional) (b : Bool) (n declared : ℕ) → IsPlain false is_within t → n + 1 ≤ most_levels
     → judged_at t (at c inner among (left_at b n) declared) ≡ passed (at c inner among (left_at b n) declared)
-plain_left t c inner among b n declared is few =
+plain_left is_within t c inner among b n declared is few =
     let base = at c inner among None declared in
-    token_is t.site t.out t.token base (side_at b) n None declared is.goes_on (ap (λ o. ends_side (second inner among) n o) is.no_word) few
-    ∙ ap (λ o. passed (left_inside base (side_at b) (level_behind o n) (sign_behind o t.token) declared)) is.no_word
+    token_is t.site t.out t.token base (side_at b) n None declared is.goes_on (ap (λ o. ends_side (second inner among) n o) (is.no_word refl)) few
+    ∙ ap (λ o. passed (left_inside base (side_at b) (level_behind o n) (sign_behind o t.token) declared)) (is.no_word refl)
     ∙ ap (λ h. passed (left_inside base (side_at b) n (cond h (Some t.token.place) None) declared)) is.no_hash
 
 -- behind a `#`
-signed_left : (t : At) (place : Place) (c : Conditions) (inner among : List Conditional) (b : Bool) (n declared : ℕ) → IsPlain t → n + 1 ≤ most_levels
+signed_left : (t : At) (place : Place) (c : Conditions) (inner among : List Conditional) (b : Bool) (n declared : ℕ) → IsSignedPlain t → n + 1 ≤ most_levels
     → judged_at t (state c (Some place) inner among (left_at b n) declared) ≡ passed (at c inner among (left_at b n) declared)
 signed_left t place c inner among b n declared is few =
     let base = at c inner among None declared in
@@ -583,7 +587,7 @@ keeps_both t place c now last e rest = record {
 }
 
 -- between directives, and inside one
-front_kept : (place : Place) (t : At) (c : Conditions) (inner among : List Conditional) (declared : ℕ) → IsPlain t
+front_kept : (place : Place) (t : At) (c : Conditions) (inner among : List Conditional) (declared : ℕ) → IsSignedPlain t
     → judged_at t (reading false place awaits.Word c inner among declared) ≡ both_kept_so place (at c inner among None declared)
 front_kept place t c inner among declared is =
     let here = at c inner among None declared in
@@ -596,7 +600,7 @@ front_kept place t c inner among declared is =
 abbrev given_up_so : Conditions → Conditions
 given_up_so c = record c { pending = []; conditions = [] }
 
-inside_kept : (place : Place) (t : At) (c : Conditions) (inner among : List Conditional) (declared : ℕ) → c.pending ≡ [] → IsPlain t
+inside_kept : (place : Place) (t : At) (c : Conditions) (inner among : List Conditional) (declared : ℕ) → c.pending ≡ [] → IsSignedPlain t
     → judged_at t (state c (Some place) inner among None declared) ≡ both_kept_so place (at (given_up_so c) inner among None declared)
 inside_kept place t c inner among declared none is =
     let here = at (given_up_so c) inner among None declared in
@@ -750,7 +754,7 @@ begun_asking is_inner false t place c inner among declared is =
     ap (λ (b : Bool). cond b (passed (asking_on place is_inner false (condition_took first condition_begun) here)) (unfit here)) is
 
 -- a token that it takes, whatever then is
-next_taken : (is_inner wanted : Bool) (place : Place) (t : At) (k : Condition) (c : Conditions) (inner among : List Conditional) (declared : ℕ) → IsPlain t → fits grammar known (atom_of t.token) k.stack ≡ true
+next_taken : (is_inner wanted : Bool) (place : Place) (t : At) (k : Condition) (c : Conditions) (inner among : List Conditional) (declared : ℕ) → is_mark mark.Hash t.token.kind ≡ false → fits grammar known (atom_of t.token) k.stack ≡ true
     → judged_at t (reading is_inner place (awaits.Condition wanted) (with_condition k c) inner among declared)
     ≡ went_on wanted t.site.is_quiet t.out t.token (condition_took t.token k) (directive is_inner place (awaits.Condition wanted)) (at c inner among None declared)
 next_taken is_inner wanted place t k c inner among declared plain is_taken =
@@ -758,11 +762,11 @@ next_taken is_inner wanted place t k c inner among declared plain is_taken =
     let p = directive is_inner place (awaits.Condition wanted) in
     let then = went_on wanted t.site.is_quiet t.out t.token (condition_took t.token k) p here in
     ap (λ (b : Bool). cond b (passed (held (t.site.is_between && false) t.token.place (reading is_inner place (awaits.Condition wanted) (with_condition k c) inner among declared)))
-    (cond (fits grammar known (atom_of t.token) k.stack) then (unfit here))) plain.no_hash
+    (cond (fits grammar known (atom_of t.token) k.stack) then (unfit here))) plain
     ∙ ap (λ (b : Bool). cond b then (unfit here)) is_taken
 
 -- one that is not the last
-next_goes : (is_inner wanted : Bool) (place : Place) (t : At) (k : Condition) (c : Conditions) (inner among : List Conditional) (declared : ℕ) → IsPlain t → fits grammar known (atom_of t.token) k.stack ≡ true
+next_goes : (is_inner wanted : Bool) (place : Place) (t : At) (k : Condition) (c : Conditions) (inner among : List Conditional) (declared : ℕ) → is_mark mark.Hash t.token.kind ≡ false → fits grammar known (atom_of t.token) k.stack ≡ true
     → is_whole (condition_took t.token k) ≡ false
     → judged_at t (reading is_inner place (awaits.Condition wanted) (with_condition k c) inner among declared)
     ≡ taken (asking_on place is_inner wanted (condition_took t.token k) (saying t.site.is_quiet (too_much c.longest t.token (condition_took t.token k)) (tokens_counted t.site.is_quiet (condition_took t.token k) (at c inner among None declared))))
@@ -776,7 +780,7 @@ next_goes is_inner wanted place t k c inner among declared plain is_taken whole 
     (taken (asking_on place is_inner wanted next (saying quiet (too_much c.longest t.token next) (tokens_counted quiet next here))))) whole
 
 -- and the last
-next_ends : (is_inner wanted : Bool) (place : Place) (t : At) (k : Condition) (c : Conditions) (inner among : List Conditional) (declared : ℕ) → IsPlain t → fits grammar known (atom_of t.token) k.stack ≡ true
+next_ends : (is_inner wanted : Bool) (place : Place) (t : At) (k : Condition) (c : Conditions) (inner among : List Conditional) (declared : ℕ) → is_mark mark.Hash t.token.kind ≡ false → fits grammar known (atom_of t.token) k.stack ≡ true
     → is_whole (condition_took t.token k) ≡ true
     → judged_at t (reading is_inner place (awaits.Condition wanted) (with_condition k c) inner among declared)
     ≡ decided (verdict_of declared t.out (condition_took t.token k)) wanted t.site.is_quiet (condition_took t.token k) (directive is_inner place (awaits.Condition wanted)) (at c inner among None declared)
@@ -1008,11 +1012,11 @@ left_led d parts leads r rest s declared n w start places last e are none few fu
     }
 
 -- a plain token of a side that is left out
-left_token : (r : Reader) (t : At) (all : List At) (s : Around) (declared n : ℕ) (w : List (List Conditional)) (start : Conditions) (tokens : List Spelled) (places : List Place) (last : Last)
-    → StandsAt r (last_at s declared n w) start → all_kept s ≡ false → IsPlain t → n + 1 ≤ most_levels
+left_token : (r : Reader) (is_within : Bool) (t : At) (all : List At) (s : Around) (declared n : ℕ) (w : List (List Conditional)) (start : Conditions) (tokens : List Spelled) (places : List Place) (last : Last)
+    → StandsAt r (last_at s declared n w) start → all_kept s ≡ false → IsPlain false is_within t → n + 1 ≤ most_levels
     → ((c : Conditions) → StandsAt r (last_at (ended_in t.ended s) (declared_behind t declared) n w) c → Led r all c tokens places last)
     → Led r (t ∷ all) start tokens places last
-left_token r t all s declared n w start tokens places last e left plain few further =
+left_token r is_within t all s declared n w start tokens places last e left plain few further =
     subst (λ (x : Conditions). Led r (t ∷ all) x tokens places last) (sym e.is) (go e.stand e.stack e.few)
   where
     goes : (st : Stands) (b : Bool) (m : ℕ) → stack_of st ≡ s → left_of st ≡ left_at b m → m ≤ n → levels_of st ≤ n → Led r (t ∷ all) (stands_at e.base st declared) tokens places last
@@ -1025,7 +1029,7 @@ left_token r t all s declared n w start tokens places last e left plain few furt
         (subst (λ (x : Around). StandsAt r (last_at (ended_in t.ended x) (declared_behind t declared) n w) (ended_behind t.ended here)) stack
         (ended_stands r t.ended st declared n w e.base e.holds e.waits few_st)) in
         subst (λ (x : Conditions). Led r (t ∷ all) x tokens places last) same
-        (passes r t all there there (ended_behind t.ended there) tokens places last (plain_left t e.base (inner_of st) (among_of st) b m declared plain (omega (arith, few, few_m))) refl
+        (passes r t all there there (ended_behind t.ended there) tokens places last (plain_left is_within t e.base (inner_of st) (among_of st) b m declared plain (omega (arith, few, few_m))) refl
         (further (ended_behind t.ended there) behind))
 
     go : (st : Stands) → stack_of st ≡ s → levels_of st ≤ n → Led r (t ∷ all) (stands_at e.base st declared) tokens places last
@@ -1361,7 +1365,7 @@ told_so r all c tokens places told last e is = subst (λ ps. Led r all c tokens 
 
 -- a condition takes one
 reads_one : (a : Awaits) (ks : List Condition) (is_inner : Bool) (place : Place) (others : List Pending) (t : At) (inside between : List Open) (declared n : ℕ) (v : List (List Conditional)) (c : Conditions)
-    → c.pending ≡ directive is_inner place a ∷ others → c.conditions ≡ ks → c.waiting ≡ v → are_kept inside ≡ true → are_kept between ≡ true → TakenBy a t.token ks → IsPlain t
+    → c.pending ≡ directive is_inner place a ∷ others → c.conditions ≡ ks → c.waiting ≡ v → are_kept inside ≡ true → are_kept between ≡ true → TakenBy a t.token ks → IsPlain true true t
     → Led (Reads (directive is_inner place a) others ks) (t ∷ []) (at c (conditionals inside) (conditionals between) None declared) (t.token ∷ []) []
     (last_at (ended_in t.ended (record { inside = inside; between = between })) (declared_behind t declared) n v)
 reads_one (awaits.Condition wanted) (k ∷ ks) is_inner place others t inside between declared n v c hp hk waits si sb is plain =
@@ -1379,7 +1383,7 @@ reads_one (awaits.Condition wanted) (k ∷ ks) is_inner place others t inside be
     ap (λ cs. at (record c { pending = directive is_inner place a ∷ others; conditions = cs }) inner among None declared) (sym hk)
     ∙ ap (λ ps. at (record c { pending = ps }) inner among None declared) (sym hp) in
     subst (λ (x : Conditions). Led r (t ∷ []) x (t.token ∷ []) [] last) same
-    (takes r t here now last refl (next_goes is_inner wanted place t k base inner among declared plain is.0 is.1)
+    (takes r t here now last refl (next_goes is_inner wanted place t k base inner among declared plain.no_hash is.0 is.1)
     (ended_stands (Reads (directive is_inner place a) others (next ∷ ks)) t.ended (AllStay inside between si sb) declared n v (awaits_it is_inner place a (with_condition next (counted quiet next base))) (refl, refl) waits (omega arith)))
 reads_one (awaits.Condition wanted) [] is_inner place others t inside between declared n v c hp hk waits si sb is plain = absurd is
 reads_one awaits.Word ks is_inner place others t inside between declared n v c hp hk waits si sb is plain = absurd is
@@ -1387,7 +1391,7 @@ reads_one (awaits.Name if_declared) ks is_inner place others t inside between de
 reads_one (awaits.End e) ks is_inner place others t inside between declared n v c hp hk waits si sb is plain = absurd is
 
 one_kept : (r : Reader) (t : At) (inside between : List Open) (declared n : ℕ) (v : List (List Conditional)) (c : Conditions) → Holds r c → c.waiting ≡ v → are_kept inside ≡ true → are_kept between ≡ true
-    → TakesAll r (t.token ∷ []) → IsPlain t
+    → TakesAll r (t.token ∷ []) → IsPlain true (within r) t
     → Led r (t ∷ []) (at c (conditionals inside) (conditionals between) None declared) (t.token ∷ []) []
     (last_at (ended_in t.ended (record { inside = inside; between = between })) (declared_behind t declared) n v)
 one_kept Hands t inside between declared n v c holds waits si sb takes plain =
@@ -1399,12 +1403,12 @@ one_kept (Reads p others ks) t inside between declared n v c holds waits si sb t
 abbrev plain_last : At → Around → ℕ → ℕ → List (List Conditional) → Last
 plain_last t s declared n v = last_at (ended_in t.ended s) (declared_behind t declared) n v
 
-plain_gone : (d : Answers) (t : At) (r : Reader) (st : Stands) (declared n : ℕ) (v : List (List Conditional)) (c : Conditions) → all_kept (stack_of st) ≡ false → Holds r c → c.waiting ≡ v → levels_of st ≤ n → IsPlain t
+plain_gone : (d : Answers) (t : At) (r : Reader) (st : Stands) (declared n : ℕ) (v : List (List Conditional)) (c : Conditions) → all_kept (stack_of st) ≡ false → Holds r c → c.waiting ≡ v → levels_of st ≤ n → IsPlain false (within r) t
     → n + length (t ∷ []) ≤ most_levels → Led r (t ∷ []) (stands_at c st declared) (kept_of (Plain t) (stack_of st)) [] (last_part d (Plain t) (stack_of st) declared n v)
 plain_gone d t r st declared n v c left holds waits few_st plain few =
     subst (λ k. Led r (t ∷ []) (stands_at c st declared) (cond k (t.token ∷ []) []) [] (last_part d (Plain t) (stack_of st) declared n v)) (sym left)
     (relaxed r (t ∷ []) (stands_at c st declared) [] [] (ended_in t.ended (stack_of st)) (declared_behind t declared) (declared_behind t declared) n (n + length (t ∷ [])) v refl (omega arith)
-    (left_token r t [] (stack_of st) declared n v (stands_at c st declared) [] [] (plain_last t (stack_of st) declared n v) (stands r st declared n v c holds waits few_st) left plain (omega (arith, few))
+    (left_token r (within r) t [] (stack_of st) declared n v (stands_at c st declared) [] [] (plain_last t (stack_of st) declared n v) (stands r st declared n v c holds waits few_st) left plain (omega (arith, few))
     (λ x e. rests r x (plain_last t (stack_of st) declared n v) e)))
 
 plain_leads : (d : Answers) (t : At) → StandLeads d (Plain t)
@@ -1414,11 +1418,11 @@ plain_leads d t r (AllStay inside between si sb) declared n v c holds waits few_
     let all = both_kept inside between si sb in
     subst (λ k. TakesAll r (cond k (t.token ∷ []) []) → Led r (t ∷ []) here (cond k (t.token ∷ []) []) [] (last_part d (Plain t) s declared n v)) (sym all)
     (λ taken_so. relaxed r (t ∷ []) here (t.token ∷ []) [] (ended_in t.ended s) (declared_behind t declared) (declared_behind t declared) n (n + length (t ∷ [])) v refl (omega arith)
-    (one_kept r t inside between declared n v c holds waits si sb taken_so are)) takes
+    (one_kept r t inside between declared n v c holds waits si sb taken_so (subst (λ k. IsPlain k (within r) t) all are))) takes
 plain_leads d t r (InnerLeft deep x inside between left si sb) declared n v c holds waits few_st are takes few =
-    plain_gone d t r (InnerLeft deep x inside between left si sb) declared n v c (inner_not_kept deep x inside between left) holds waits few_st are few
+    plain_gone d t r (InnerLeft deep x inside between left si sb) declared n v c (inner_not_kept deep x inside between left) holds waits few_st (subst (λ k. IsPlain k (within r) t) (inner_not_kept deep x inside between left) are) few
 plain_leads d t r (OuterLeft deep x between left sb) declared n v c holds waits few_st are takes few =
-    plain_gone d t r (OuterLeft deep x between left sb) declared n v c (not_kept deep x between left) holds waits few_st are few
+    plain_gone d t r (OuterLeft deep x between left sb) declared n v c (not_kept deep x between left) holds waits few_st (subst (λ k. IsPlain k (within r) t) (not_kept deep x between left) are) few
 
 -- and those behind a `#`
 
@@ -1426,7 +1430,7 @@ abbrev signed_last : At → At → Around → ℕ → ℕ → List (List Conditi
 signed_last sign t s declared n v = last_at (ended_in t.ended s) (declared_behind t (declared_behind sign declared)) (n + length (sign ∷ t ∷ [])) v
 
 signed_left_led : (d : Answers) (is_inner : Bool) (sign t : At) (r : Reader) (st : Stands) (b : Bool) (m declared n : ℕ) (v : List (List Conditional)) (c : Conditions) → left_of st ≡ left_at b m → m ≤ n → all_kept (stack_of st) ≡ false → CalmLeft is_inner (inner_of st) b
-    → Holds r c → c.waiting ≡ v → levels_of st ≤ n → IsSign is_inner sign → IsPlain t → n + length (sign ∷ t ∷ []) ≤ most_levels
+    → Holds r c → c.waiting ≡ v → levels_of st ≤ n → IsSign is_inner sign → IsSignedPlain t → n + length (sign ∷ t ∷ []) ≤ most_levels
     → Led r (sign ∷ t ∷ []) (stands_at c st declared) (kept_of (Signed is_inner sign t) (stack_of st)) [] (last_part d (Signed is_inner sign t) (stack_of st) declared n v)
 signed_left_led d is_inner sign t r st b m declared n v c is_left_at few_m left calm holds waits few_st is plain few =
     let inner = inner_of st in
@@ -1588,7 +1592,7 @@ ending_left w act left_word d is_inner first parts end leads r st declared n v c
     let adds = are.1.1.0.1 in
     let still : all_kept x ≡ false → Further r (tokens ++ end ∷ []) places (last_at x now n v) last = λ gone m e.
     left_led d parts leads r (end ∷ []) x now n v m alone last e (among_left d (within r) x now parts gone are.1.1.0.0) adds.1 (omega (arith, few, less, sum))
-    (λ m2 e2. left_token r end [] l.around l.declared l.levels v m2 [] alone last e2 (adds.0 ∙ gone) (semicolon_plain end are.1.1.1) (omega (arith, few, less, sum))
+    (λ m2 e2. left_token r true end [] l.around l.declared l.levels v m2 [] alone last e2 (adds.0 ∙ gone) (semicolon_plain false true end are.1.1.1) (omega (arith, few, less, sum))
     (λ m3 e3. told_so r [] m3 [] [] alone last none_lone (rests r m3 last e3))) in
     let a = awaits.End effect.Nothing in
     let p = directive false place a in
@@ -1651,7 +1655,7 @@ AskingIs d is_within is_inner wanted first parts end declared s k =
     IsFirst k is_inner is_within (asking wanted) first
     × (NoneInside is_inner s
     × ((AreParts d (among is_within x) x now parts × StayAs d x parts)
-    × (IsPlain end × (IsAsked k d first (kept_sides d x parts) end (declared_tokens (all_tokens parts) now) × NoneInsideBehind k is_inner end (behind_parts d x parts)))))
+    × (IsPlain k true end × (IsAsked k d first (kept_sides d x parts) end (declared_tokens (all_tokens parts) now) × NoneInsideBehind k is_inner end (behind_parts d x parts)))))
 
 abbrev AskingLed : Answers → Bool → Bool → First → Parts → At → Reader → Stands → ℕ → ℕ → List (List Conditional) → Conditions → Bool → Type 0
 AskingLed d is_inner wanted first parts end r st declared n v c k =
@@ -1704,7 +1708,7 @@ asking_kept d is_inner wanted first parts end leads r declared n v c holds waits
     let said = cond end.site.is_quiet None (told_by place whole verdict.finding) in
     let opened_now : Bool → Conditions = λ x. record (opened_at is_inner x place after i b l.declared) { said = said } in
     acts r end (reading is_inner place a (with_condition read after) i b l.declared) (opened_now stays) None (unless_quiet end place) last
-    (next_ends is_inner wanted place end read after i b l.declared are.1.1.1.0 taken_last.0 taken_last.1
+    (next_ends is_inner wanted place end read after i b l.declared are.1.1.1.0.no_hash taken_last.0 taken_last.1
     ∙ ap (λ x. ended_so (opened_now x) None (unless_quiet end place)) agrees)
     (opened_stands r is_inner stays place end l.around.inside l.around.between l.declared m v after (holds_on r c base holds) bw bi bb are.1.1.1.1.1)) in
     relaxed r (directive_tokens first tokens end) (at c inner among_now None declared) [] (lone_parts d s parts) last.around (declared_behind end l.declared) (declared_tokens (directive_tokens first tokens end) declared) m m v
@@ -1734,7 +1738,7 @@ asking_left d is_inner wanted first parts end leads r st declared n v c holds wa
     (opens_left r is_inner (within r) (asking wanted) first (tokens ++ end ∷ []) more st declared n v c places last holds waits few_st (omega (arith, few, less, sum)) left are.1.0 are.0 (λ m b. asking_stays wanted m b) (asking_level wanted)
     (λ m e.
     left_led d parts leads r (end ∷ []) x now (n + 1) v m [] last e (among_left d (within r) x now parts gone are.1.1.0.0) are.1.1.1.1.0 (omega (arith, few, less, sum))
-    (λ m2 e2. left_token r end [] l.around l.declared l.levels v m2 [] [] last e2 (are.1.1.0.1 ∙ gone) are.1.1.1.0 (omega (arith, few, less, sum))
+    (λ m2 e2. left_token r true end [] l.around l.declared l.levels v m2 [] [] last e2 (are.1.1.0.1 ∙ gone) are.1.1.1.0 (omega (arith, few, less, sum))
     (λ m3 e3. rests r m3 last e3)))))
 
 asking_leads : (d : Answers) (is_inner wanted : Bool) (first : First) (parts : Parts) (end : At) → Leads d parts → StandLeads d (Asking is_inner wanted first parts end)
@@ -1759,7 +1763,7 @@ OpeningIs d is_within is_inner if_declared first before name behind end declared
     IsFirst k is_inner is_within (opening if_declared) first
     × (NoneInside is_inner s
     × ((AreParts d (among is_within x) x now before × AddsNone d x before)
-    × ((IsName name × ((declared_before name.token.bytes later name.out.names ≡ d.is_declared name) × (all_kept y ≡ all_kept x)))
+    × ((IsName k name × ((declared_before name.token.bytes later name.out.names ≡ d.is_declared name) × (all_kept y ≡ all_kept x)))
     × ((AreParts d (among is_within y) y (declared_behind name later) behind × AddsNone d y behind) × (IsSemicolon end × NoneInsideBehind k is_inner end (behind_parts d y behind))))))
 
 abbrev opening_tokens : First → Parts → At → Parts → At → List At
@@ -1874,11 +1878,11 @@ opening_left d is_inner if_declared first before name behind end leads_before le
     let gone_behind : all_kept y ≡ false = are.1.1.1.0.1.1 ∙ gone in
     let name_is = are.1.1.1.0.0 in
     let from_name : Further r (name ∷ rest_behind) places_behind l last = λ m e.
-    left_token r name rest_behind l.around l.declared l.levels v m [] places_behind last e (adds.0 ∙ gone) (name_plain name name_is.is name_is.no_word) (omega (arith, few, less, sum))
+    left_token r true name rest_behind l.around l.declared l.levels v m [] places_behind last e (adds.0 ∙ gone) (name_plain true name name_is.is (name_is.no_word refl)) (omega (arith, few, less, sum))
     (λ m2 e2.
     told_so r rest_behind m2 [] (places_behind ++ []) places_behind last (append-nil places_behind)
     (left_led d behind leads_behind r (end ∷ []) y later l.levels v m2 [] last e2 (among_left d (within r) y later behind gone_behind are.1.1.1.1.0.0) adds_behind.1 (omega (arith, few, less, sum, sum_behind))
-    (λ m3 e3. left_token r end [] l2.around l2.declared l2.levels v m3 [] [] last e3 (adds_behind.0 ∙ gone_behind) (semicolon_plain end are.1.1.1.1.1.0) (omega (arith, few, less, sum, sum_behind))
+    (λ m3 e3. left_token r true end [] l2.around l2.declared l2.levels v m3 [] [] last e3 (adds_behind.0 ∙ gone_behind) (semicolon_plain false true end are.1.1.1.1.1.0) (omega (arith, few, less, sum, sum_behind))
     (λ m4 e4. rests r m4 last e4)))) in
     relaxed r toks (stands_at c st declared) [] places (ended_in end.ended l2.around) (declared_behind end l2.declared) (declared_tokens toks declared) l2.levels (n + length toks) v
     (opening_declared first before name behind end declared) (omega (arith, less, sum, sum_behind))
@@ -1893,6 +1897,47 @@ opening_leads d is_inner if_declared first before name behind end leads_before l
         kept_only (λ x. OpeningLed d is_inner if_declared first before name behind end r x declared n v c true)
         (opening_kept d is_inner if_declared first before name behind end leads_before leads_behind r declared n v c holds waits few) st e
     go false e = opening_left d is_inner if_declared first before name behind end leads_before leads_behind r st declared n v c holds waits few_st few e
+
+-- A word alone in a side that is left out
+
+passes_on : (r : Reader) (first : First) (st : Stands) (s : Around) (declared n m : ℕ) (v : List (List Conditional)) (c : Conditions) → m ≤ n + length (first_tokens first [])
+    → (Further r [] [] (last_at s (declared_first first declared) m v) (last_at s (declared_first first declared) m v) → Led r (first_tokens first []) (stands_at c st declared) [] [] (last_at s (declared_first first declared) m v))
+    → Led r (first_tokens first []) (stands_at c st declared) [] [] (last_at s (declared_tokens (first_tokens first []) declared) (n + length (first_tokens first [])) v)
+passes_on r first st s declared n m v c few led =
+    let last = last_at s (declared_first first declared) m v in
+    relaxed r (first_tokens first []) (stands_at c st declared) [] [] s (declared_first first declared) (declared_tokens (first_tokens first []) declared) m (n + length (first_tokens first [])) v
+    (declared_behind_first first [] declared) few (led (λ x e. rests r x last e))
+
+passed_ending : (w : ConditionalWord) (act : Around → Around) → LeftLed w act → (r : Reader) (is_inner : Bool) (first : First) (st : Stands) (declared n : ℕ) (v : List (List Conditional)) (c : Conditions) → Holds r c → c.waiting ≡ v → levels_of st ≤ n
+    → IsFirst false is_inner (within r) w first × (NoneInside is_inner (stack_of st) × ((all_kept (stack_of st) ≡ false) × (all_kept (act (stack_of st)) ≡ false))) → n + length (first_tokens first []) ≤ most_levels
+    → Led r (first_tokens first []) (stands_at c st declared) [] [] (last_at (act (stack_of st)) (declared_tokens (first_tokens first []) declared) (n + length (first_tokens first [])) v)
+passed_ending w act left_word r is_inner first st declared n v c holds waits few_st are few =
+    let s = act (stack_of st) in
+    let last = last_at s (declared_first first declared) n v in
+    let less = fewer first [] in
+    passes_on r first st s declared n n v c (omega arith)
+    (λ further. left_word r is_inner (within r) first [] st declared n v c [] last holds waits few_st (omega (arith, few, less)) are.1.1.0 are.1.0 are.0 (λ _. further)
+    (λ inside between si sb is. absurd (let never : true ≡ false = sym (both_kept inside between si sb) ∙ ap all_kept is ∙ are.1.1.1 in cc)))
+
+passed_opening : (w : ConditionalWord) → ((m : ℕ) (b : Bool) → ends_side b m (Some w) ≡ false) → ((m : ℕ) → level_behind (Some w) m ≡ suc m)
+    → (r : Reader) (is_inner : Bool) (first : First) (st : Stands) (declared n : ℕ) (v : List (List Conditional)) (c : Conditions) → Holds r c → c.waiting ≡ v → levels_of st ≤ n
+    → IsFirst false is_inner (within r) w first × (NoneInside is_inner (stack_of st) × ((all_kept (stack_of st) ≡ false) × (all_kept (opened_more is_inner (first_side first true true) (stack_of st)) ≡ false))) → n + length (first_tokens first []) ≤ most_levels
+    → Led r (first_tokens first []) (stands_at c st declared) [] [] (last_at (opened_more is_inner (first_side first true true) (stack_of st)) (declared_tokens (first_tokens first []) declared) (n + length (first_tokens first [])) v)
+passed_opening w stays level r is_inner first st declared n v c holds waits few_st are few =
+    let more = first_side first true true in
+    let s = opened_more is_inner more (stack_of st) in
+    let last = last_at s (declared_first first declared) (n + 1) v in
+    let less = fewer first [] in
+    passes_on r first st s declared n (n + 1) v c (omega (arith, less))
+    (λ further. opens_left r is_inner (within r) w first [] more st declared n v c [] last holds waits few_st (omega (arith, few, less)) are.1.1.0 are.1.0 are.0 stays level further)
+
+passed_leads : (d : Answers) (is_inner : Bool) (w : ConditionalWord) (first : First) → StandLeads d (Passed is_inner w first)
+passed_leads d is_inner word.Ifnot first r st declared n v c holds waits few_st are takes few = passed_ending word.Ifnot turned turns_left r is_inner first st declared n v c holds waits few_st are few
+passed_leads d is_inner word.Endif first r st declared n v c holds waits few_st are takes few = passed_ending word.Endif closed closes_left r is_inner first st declared n v c holds waits few_st are few
+passed_leads d is_inner word.Ifdef first r st declared n v c holds waits few_st are takes few = passed_opening word.Ifdef (λ m b. opening_stays true m b) (opening_level true) r is_inner first st declared n v c holds waits few_st are few
+passed_leads d is_inner word.Ifndef first r st declared n v c holds waits few_st are takes few = passed_opening word.Ifndef (λ m b. opening_stays false m b) (opening_level false) r is_inner first st declared n v c holds waits few_st are few
+passed_leads d is_inner word.Iftrue first r st declared n v c holds waits few_st are takes few = passed_opening word.Iftrue (λ m b. asking_stays true m b) (asking_level true) r is_inner first st declared n v c holds waits few_st are few
+passed_leads d is_inner word.Iffalse first r st declared n v c holds waits few_st are takes few = passed_opening word.Iffalse (λ m b. asking_stays false m b) (asking_level false) r is_inner first st declared n v c holds waits few_st are few
 
 -- All parts
 
@@ -1937,6 +1982,7 @@ mutual
   part_led d (Asking is_inner wanted first parts end) = part_from d (Asking is_inner wanted first parts end) (asking_leads d is_inner wanted first parts end (led d parts))
   part_led d (Turning is_inner first parts end) = part_from d (Turning is_inner first parts end) (turning_leads d is_inner first parts end (led d parts))
   part_led d (Closing is_inner first parts end) = part_from d (Closing is_inner first parts end) (closing_leads d is_inner first parts end (led d parts))
+  part_led d (Passed is_inner w first) = part_from d (Passed is_inner w first) (passed_leads d is_inner w first)
 
   pub led : (d : Answers) (parts : Parts) → Leads d parts
   led d NoParts = none_leads d

@@ -125,7 +125,7 @@ pub record AreOfAFile (answers : Answers) (s : Around) (declared : ℕ) (parts :
 -- a file is entered at a plain token that is kept, and left at its end
 pub record IsIncluded (s : Around) (entering leaving : At) : Type 0 where
   pub is_kept : all_kept s ≡ true
-  pub plain : IsPlain entering
+  pub plain : IsPlain true false entering
   pub is_last : is_end leaving.token.kind ≡ true
 
 abbrev pub AreFiles : Answers → Around → Conditions → Files → Type 0

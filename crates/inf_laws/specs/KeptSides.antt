@@ -113,7 +113,7 @@ first_tokens first tokens = signed_tokens first.sign (first.word ∷ tokens)
 -- A token that belongs to no conditional directive, alone or behind a `#`; a directive with a name, which opens a conditional, where the name is to be declared or not, and one
 -- with a condition, which is to be true or not; and an `Ifnot` and an `Endif`, each with its semicolon. A directive stands inside another one or
 -- between the others, and parts stand between the tokens of a conditional one: before and behind its name, among those of its condition, and before its
--- semicolon.
+-- semicolon. In a side that is left out the word of a directive may stand alone, whatever comes behind it.
 mutual
   pub data Part : Type 0 where
     Plain : (token : At) → Part
@@ -122,6 +122,7 @@ mutual
     Asking : (is_inner wanted : Bool) (first : First) (within : Parts) (end : At) → Part
     Turning : (is_inner : Bool) (first : First) (within : Parts) (end : At) → Part
     Closing : (is_inner : Bool) (first : First) (within : Parts) (end : At) → Part
+    Passed : (is_inner : Bool) (w : ConditionalWord) (first : First) → Part
 
   pub data Parts : Type 0 where
     NoParts : Parts
@@ -135,6 +136,7 @@ abbrev mutual
   part_tokens (Asking is_inner wanted first within end) = first_tokens first (all_tokens within ++ end ∷ [])
   part_tokens (Turning is_inner first within end) = first_tokens first (all_tokens within ++ end ∷ [])
   part_tokens (Closing is_inner first within end) = first_tokens first (all_tokens within ++ end ∷ [])
+  part_tokens (Passed is_inner w first) = first_tokens first []
 
   pub all_tokens : Parts → List At
   all_tokens NoParts = []
@@ -239,6 +241,12 @@ acted act parts s = if all_kept s then act (parts s) else parts (act s)
 abbrev pub before_parts : (act : Around → Around) → Around → Around
 before_parts act s = if all_kept s then s else act s
 
+-- what a word does there
+abbrev pub passed_by : Bool → First → ConditionalWord → Around → Around
+passed_by is_inner first word.Ifnot s = turned s
+passed_by is_inner first word.Endif s = closed s
+passed_by is_inner first w s = opened_more is_inner (first_side first true true) s
+
 -- the tokens that are kept of a part; none of a conditional directive is
 abbrev pub kept_of : Part → Around → List Spelled
 kept_of (Plain t) s = if all_kept s then t.token ∷ [] else []
@@ -258,6 +266,7 @@ abbrev mutual
       (acted (opened_more is_inner (first_side first wanted (answers.is_true (whole_condition first (kept_sides answers s within) end) end))) (λ x. behind_parts answers x within) s)
   behind_part answers (Turning is_inner first within end) s = ended_in end.ended (acted turned (λ x. behind_parts answers x within) s)
   behind_part answers (Closing is_inner first within end) s = ended_in end.ended (acted closed (λ x. behind_parts answers x within) s)
+  behind_part answers (Passed is_inner w first) s = passed_by is_inner first w s
 
   pub behind_parts : Answers → Around → Parts → Around
   behind_parts answers s NoParts = s
@@ -311,9 +320,13 @@ unended (x ∷ around) = unended around ++ (if are_kept around then x.place ∷ 
 
 -- What parts are
 
--- a token that is neither a word of a conditional, nor a `#`, nor the end of the file
-pub record IsPlain (t : At) : Type 0 where
-  pub no_word : word_of t.token ≡ None
+-- whether a word of a conditional counts without a `#`: where it is left out, and where it is kept between directives
+abbrev pub counts : Bool → Bool → At → Bool
+counts is_kept is_within t = not is_kept || (not is_within && t.site.is_between)
+
+-- a token that is neither the end of the file, nor a `#`, nor a word of a conditional where that counts
+pub record IsPlain (is_kept is_within : Bool) (t : At) : Type 0 where
+  pub no_word : counts is_kept is_within t ≡ true → word_of t.token ≡ None
   pub no_hash : is_mark mark.Hash t.token.kind ≡ false
   pub goes_on : is_end t.token.kind ≡ false
 
@@ -325,6 +338,12 @@ GoesOn false t = Unit {0}
 pub record IsSign (is_inner : Bool) (sign : At) : Type 0 where
   pub is : is_mark mark.Hash sign.token.kind ≡ true
   pub goes_on : GoesOn is_inner sign
+
+-- behind one a word always counts
+pub record IsSignedPlain (t : At) : Type 0 where
+  pub no_word : word_of t.token ≡ None
+  pub no_hash : is_mark mark.Hash t.token.kind ≡ false
+  pub goes_on : is_end t.token.kind ≡ false
 
 -- Where a directive is kept, between the others, it begins with a `#` or without, and inside of one with it. Among the tokens of a conditional one all
 -- stand inside, wherever reading stands.
@@ -342,10 +361,10 @@ pub record IsFirst (is_kept is_inner is_within : Bool) (w : ConditionalWord) (fi
   pub is : word_of first.word.token ≡ Some w
   pub goes_on : GoesOn is_inner first.word
 
--- a name that is no such word
-pub record IsName (t : At) : Type 0 where
+-- a name, where it is left out none that is such a word
+pub record IsName (is_kept : Bool) (t : At) : Type 0 where
   pub is : t.token.kind ≡ kind.Name
-  pub no_word : word_of t.token ≡ None
+  pub no_word : is_kept ≡ false → word_of t.token ≡ None
 
 pub record IsSemicolon (t : At) : Type 0 where
   pub is : is_mark mark.Semicolon t.token.kind ≡ true
@@ -396,9 +415,9 @@ among is_within s = all_kept s || is_within
 -- parts of a file, or of a directive, and what is told of their names and conditions, by how many names are declared by the directives before
 abbrev mutual
   pub IsPart : Answers → Bool → Around → ℕ → Part → Type 0
-  IsPart answers is_within s declared (Plain t) = IsPlain t
+  IsPart answers is_within s declared (Plain t) = IsPlain (all_kept s) is_within t
   IsPart answers is_within s declared (Signed is_inner sign t) =
-      Begins (all_kept s) is_inner is_within (Some sign) t × (NoneInside is_inner s × (IsPlain t × (is_within ≡ true → all_kept s ≡ false)))
+      Begins (all_kept s) is_inner is_within (Some sign) t × (NoneInside is_inner s × (IsSignedPlain t × (is_within ≡ true → all_kept s ≡ false)))
   IsPart answers is_within s declared (Opening is_inner if_declared first before name behind end) =
       let x = opening_parts answers is_inner if_declared first name s in
       let y = behind_name answers before name x in
@@ -407,7 +426,7 @@ abbrev mutual
       IsFirst (all_kept s) is_inner is_within (opening if_declared) first
       × (NoneInside is_inner s
       × ((AreParts answers (among is_within x) x now before × AddsNone answers x before)
-      × ((IsName name × ((declared_before name.token.bytes later name.out.names ≡ answers.is_declared name) × (all_kept y ≡ all_kept x)))
+      × ((IsName (all_kept s) name × ((declared_before name.token.bytes later name.out.names ≡ answers.is_declared name) × (all_kept y ≡ all_kept x)))
       × ((AreParts answers (among is_within y) y (declared_behind name later) behind × AddsNone answers y behind) × (IsSemicolon end × NoneInsideBehind (all_kept s) is_inner end (behind_parts answers y behind))))))
   IsPart answers is_within s declared (Asking is_inner wanted first within end) =
       let x = asking_parts answers is_inner wanted first within end s in
@@ -415,11 +434,13 @@ abbrev mutual
       IsFirst (all_kept s) is_inner is_within (asking wanted) first
       × (NoneInside is_inner s
       × ((AreParts answers (among is_within x) x now within × StayAs answers x within)
-      × (IsPlain end × (IsAsked (all_kept s) answers first (kept_sides answers x within) end (declared_tokens (all_tokens within) now) × NoneInsideBehind (all_kept s) is_inner end (behind_parts answers x within)))))
+      × (IsPlain (all_kept s) true end × (IsAsked (all_kept s) answers first (kept_sides answers x within) end (declared_tokens (all_tokens within) now) × NoneInsideBehind (all_kept s) is_inner end (behind_parts answers x within)))))
   IsPart answers is_within s declared (Turning is_inner first within end) =
       IsFirst (all_kept s) is_inner is_within word.Ifnot first × (NoneInside is_inner s × ((AreParts answers (among is_within (before_parts turned s)) (before_parts turned s) (declared_first first declared) within × AddsNone answers (before_parts turned s) within) × IsSemicolon end))
   IsPart answers is_within s declared (Closing is_inner first within end) =
       IsFirst (all_kept s) is_inner is_within word.Endif first × (NoneInside is_inner s × ((AreParts answers (among is_within (before_parts closed s)) (before_parts closed s) (declared_first first declared) within × AddsNone answers (before_parts closed s) within) × IsSemicolon end))
+  IsPart answers is_within s declared (Passed is_inner w first) =
+      IsFirst false is_inner is_within w first × (NoneInside is_inner s × ((all_kept s ≡ false) × (all_kept (passed_by is_inner first w s) ≡ false)))
 
   pub AreParts : Answers → Bool → Around → ℕ → Parts → Type 0
   AreParts answers is_within s declared NoParts = Unit {0}
