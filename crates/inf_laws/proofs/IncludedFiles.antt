@@ -1,6 +1,6 @@
 -- Files that include one another keep what each of them keeps.
 use Rattle.std.proofs.Common.{◌≡◌, ℕ, zero, suc, ◌+◌, length, List, [], ◌∷◌, ◌++◌, map, reverse, cond, ◌&&◌, Bool, true, false, Option, Some, None, refl, sym, ap, subst, ◌∙◌, append_assoc, arith}
-use Rattle.std.proofs.lemmas.List.{map-append}
+use Rattle.std.proofs.lemmas.List.{append-nil, map-append}
 use Rattle.inf_scanner.specs.declared.tokens.Place.{Place}
 use Rattle.inf_token.specs.Files.{Sources}
 use Rattle.inf_sources.specs.Cursors.{Cursor}
@@ -10,6 +10,8 @@ use Rattle.inf_sources.specs.declared.open_files.Included.TheVariants as answer
 use Rattle.inf_unit.specs.Directives.{Asked, End, Include, Nothing}
 use Rattle.inf_unit.specs.Messages.{FileNames, Reported}
 use Rattle.inf_unit.specs.Tokens.{Spelled, is_end}
+use Rattle.inf_conditionals.specs.declared.judged.Handed.{Handed}
+use Rattle.inf_conditionals.specs.declared.judged.Handed.TheVariants as handed
 use Rattle.inf_conditionals.specs.declared.open.Conditional.{Conditional}
 use Rattle.inf_conditionals.specs.declared.open.LeftOut.{LeftOut}
 use Rattle.inf_conditionals.specs.Ends.{file_entered, file_left, file_left_to, file_told, with_all_lone}
@@ -20,13 +22,15 @@ use Rattle.inf_reader.specs.Handing.{said_told, site_of}
 use Rattle.inf_reader.specs.Reading.{is_mode_ended}
 use Rattle.inf_session.specs.Choices.{Choices}
 use Rattle.inf_session.specs.Session.{State, answered, asked_nothing, heeded, included_by, left, left_by, file_closed, none_included, stand_of, stepped, token_of, turn}
-use Rattle.inf_laws.specs.IncludedFiles.{Alone, AreFiles, AreOfAFile, Enters, Files, FilesKeepSides, FilesTellUnended, Including, IsIncluded, KeepsFiles, Leaves, Passage, Stays, Step, TurnsKeep, TurnsKeepFiles, all_unended, around_behind, around_included, asked_passage, behind_files, handed_by, kept_files, lone_by, lone_files, opens, passage, passed_files, places, staying, step_at, step_behind, steps, steps_at, steps_behind, told_behind, unended_by, unended_files}
-use Rattle.inf_laws.specs.KeptSides.{Answers, Around, At, Handing, IsClear, IsPlain, Open, Parts, all_behind, all_handed_on, all_kept, all_lone_places, all_tokens, are_kept, as_kept, behind_parts, declared_tokens, ended_behind, handed_on, judged_at, ended_in, kept_sides, lone_parts, lone_places, none_around, unended}
+use Rattle.inf_laws.specs.IncludedFiles.{Alone, AreFiles, AreOfAFile, Breaking, Cut, Enters, Files, FilesKeepSides, FilesTellUnended, Including, IsIncluded, KeepsFiles, Leaves, Passage, Stays, Step, TurnsKeep, TurnsKeepFiles, all_unended, around_behind, around_broken, around_included, asked_passage, behind_files, end_handed, handed_by, handed_files, lone_by, lone_files, opens, passage, passed_files, places, staying, step_at, step_behind, steps, steps_at, steps_behind, told_behind, unended_by, unended_files}
+use Rattle.inf_laws.specs.KeptSides.{Answers, Around, At, Handing, IsClear, IsPlain, Open, Parts, all_behind, all_handed_on, all_kept, all_lone_places, all_tokens, are_kept, as_kept, behind_parts, declared_tokens, ended_behind, handed_as, handed_on, judged_at, ended_in, kept_sides, lone_parts, lone_places, none_around, unended}
+use Rattle.inf_laws.specs.Unfinished.{Bare, HaveBegun, Hashed, IsMisfit, Misfit, Unfinished, all_begun_tokens, behind_all_begun, behind_misfit, handed_misfit, lone_all_begun, misfit_tokens}
 use Rattle.inf_laws.specs.KeptTurns.{given_by, given_in, turned}
 use Rattle.inf_laws.specs.MissingEnds.{with_all_at}
 use Rattle.inf_laws.specs.SideTurns.{at_turn, ends_there, shown}
-use Rattle.inf_laws.proofs.KeptSides.{AllStay, Hands, InnerLeft, OuterLeft, Reader, Stands, StandsAt, all_handed, all_taken, at, conditionals, end_kept_so, among_of, hands_on, inner_not_kept, inner_of, last_at, led, not_kept, open_of, outer, plain_kept, stack_of, stands_at, told_both, unended_is}
+use Rattle.inf_laws.proofs.KeptSides.{AllStay, Hands, InnerLeft, Last, OuterLeft, Reader, Stands, StandsAt, all_handed, all_taken, among_of, are_open, at, conditionals, end_is_no_hash, end_kept_so, hands_on, inner_not_kept, inner_of, kept_at, last_at, led, not_kept, outer, plain_kept, stack_of, stands_at, state, told_both, unended_is}
 use Rattle.inf_laws.proofs.MissingEnds.{place_of, told_at}
+use Rattle.inf_laws.proofs.Unfinished.{AllBegun, all_begun_led, cut_by, end_cuts, given_up_at, sign_cut, sign_cut_so}
 use Rattle.inf_laws.proofs.SideTurns.{all_shown, rested_conditions}
 
 -- Steps one after the other
@@ -73,33 +77,36 @@ behind_staying (t ∷ tokens) c = behind_staying tokens (step_behind (staying t)
 
 -- What steps come to
 
--- what is open at last, and in the files that wait
-record Last : Type 0 where
-  around : Around
-  waiting : List (List Conditional)
-
-record EndsAs (last : Last) (c : Conditions) : Type 0 where
-  declared : ℕ
-  levels : ℕ
-  stands : StandsAt Hands (last_at last.around declared levels last.waiting) c
-
-record FilesLed (all : List Step) (c : Conditions) (tokens : List Spelled) (alone missing : List Place) (last : Last) : Type 0 where
-  hands : handed_by all c ≡ map as_kept tokens
+record StepsLed (all : List Step) (c : Conditions) (given : List Handing) (alone missing : List Place) : Type 0 where
+  hands : handed_by all c ≡ given
   tells : lone_by all c ≡ alone
   misses : unended_by all c ≡ missing
-  ends : EndsAs last (steps_behind all c)
 
-joined : (first second : List Step) (c : Conditions) (tokens more : List Spelled) (alone others missing further : List Place) (between last : Last)
-    → FilesLed first c tokens alone missing between → FilesLed second (steps_behind first c) more others further last
-    → FilesLed (first ++ second) c (tokens ++ more) (alone ++ others) (missing ++ further) last
-joined first second c tokens more alone others missing further between last a b = record {
-  hands =
-      handed_both first second c ∙ ap (λ hs. hs ++ handed_by second (steps_behind first c)) a.hands ∙ ap (λ hs. map as_kept tokens ++ hs) b.hands
-      ∙ sym (map-append as_kept tokens more);
+joined : (first second : List Step) (c : Conditions) (given more : List Handing) (alone others missing further : List Place)
+    → StepsLed first c given alone missing → StepsLed second (steps_behind first c) more others further
+    → StepsLed (first ++ second) c (given ++ more) (alone ++ others) (missing ++ further)
+joined first second c given more alone others missing further a b = record {
+  hands = handed_both first second c ∙ ap (λ hs. hs ++ handed_by second (steps_behind first c)) a.hands ∙ ap (λ hs. given ++ hs) b.hands;
   tells = lone_both first second c ∙ ap (λ ps. ps ++ lone_by second (steps_behind first c)) a.tells ∙ ap (λ ps. alone ++ ps) b.tells;
   misses = unended_both first second c ∙ ap (λ ps. ps ++ unended_by second (steps_behind first c)) a.misses ∙ ap (λ ps. missing ++ ps) b.misses;
-  ends = subst (λ (x : Conditions). EndsAs last x) (sym (behind_both first second c)) b.ends;
 }
+
+-- tokens that stay in their file
+staying_led : (tokens : List At) (c : Conditions) (given : List Handing) (alone : List Place) → all_handed_on tokens c ≡ given → all_lone_places tokens c ≡ alone → StepsLed (map staying tokens) c given alone []
+staying_led tokens c given alone hands tells = record { hands = hands_staying tokens c ∙ hands; tells = lone_staying tokens c ∙ tells; misses = unended_staying tokens c }
+
+-- how a file may end: so its end is handed on there, and nothing is left out or read behind it
+record EndsAs (h : Handed) (s : Around) (w : List (List Conditional)) (c : Conditions) : Type 0 where
+  base : Conditions
+  stand : Stands
+  declared : ℕ
+  none_read : base.pending ≡ []
+  waits : base.waiting ≡ w
+  stack : stack_of stand ≡ s
+  inner : c.inner ≡ inner_of stand
+  among : c.among ≡ among_of stand
+  at_end : (end : At) → is_end end.token.kind ≡ true
+      → judged_at end c ≡ record { now = at base (inner_of stand) (among_of stand) None declared; judged = record none_handed { token = Some h } }
 
 -- A stretch of a file begins where no side is left out, and nothing is half read.
 record Begun (s : Around) (w : List (List Conditional)) (c : Conditions) : Type 0 where
@@ -109,11 +116,15 @@ record Begun (s : Around) (w : List (List Conditional)) (c : Conditions) : Type 
   waits : c.waiting ≡ w
   none_read : c.pending ≡ []
 
-abbrev last_in : Around → List (List Conditional) → Last
-last_in s w = record { around = s; waiting = w }
+-- what is open behind it, with how many names and levels
+abbrev stretch_last : Answers → Around → List (List Conditional) → Conditions → Parts → Last
+stretch_last d s w c parts = last_at (behind_parts d s parts) (declared_tokens (all_tokens parts) c.declared) (0 + length (all_tokens parts)) w
 
-stretch : (d : Answers) (s : Around) (w : List (List Conditional)) (c : Conditions) (parts : Parts) → Begun s w c → AreOfAFile d s c.declared parts
-    → FilesLed (map staying (all_tokens parts)) c (kept_sides d s parts) (lone_parts d s parts) [] (last_in (behind_parts d s parts) w)
+record Stretch (d : Answers) (s : Around) (w : List (List Conditional)) (c : Conditions) (parts : Parts) : Type 0 where
+  led : StepsLed (map staying (all_tokens parts)) c (map as_kept (kept_sides d s parts)) (lone_parts d s parts) []
+  stands : StandsAt Hands (stretch_last d s w c parts) (all_behind (all_tokens parts) c)
+
+stretch : (d : Answers) (s : Around) (w : List (List Conditional)) (c : Conditions) (parts : Parts) → Begun s w c → AreOfAFile d s c.declared parts → Stretch d s w c parts
 stretch d s w c parts b are =
     let few = are.few in
     let tokens = all_tokens parts in
@@ -122,13 +133,10 @@ stretch d s w c parts b are =
     record { base = c; stand = AllStay s.inside s.between b.inside_kept b.between_kept; holds = b.none_read; waits = b.waits; is = sym b.is; stack = refl; few = omega arith } in
     let all = led d parts Hands s c.declared 0 w c start are.are_parts (all_taken kept_so) (omega (arith, few)) in
     let behind = all_behind tokens c in
-    let last = last_at (behind_parts d s parts) (declared_tokens tokens c.declared) (0 + length tokens) w in
+    let last = stretch_last d s w c parts in
     record {
-      hands = hands_staying tokens c ∙ all.hands ∙ all_handed kept_so;
-      tells = lone_staying tokens c ∙ all.tells;
-      misses = unended_staying tokens c;
-      ends = subst (λ (x : Conditions). EndsAs (last_in (behind_parts d s parts) w) x) (sym (behind_staying tokens c))
-          (record { declared = declared_tokens tokens c.declared; levels = 0 + length tokens; stands = subst (λ (q : Reader). StandsAt q last behind) (hands_on kept_so) all.ends });
+      led = staying_led tokens c (map as_kept kept_so) (lone_parts d s parts) (all.hands ∙ all_handed kept_so) all.tells;
+      stands = subst (λ (q : Reader). StandsAt q last behind) (hands_on kept_so) all.ends;
     }
 
 -- An included file is entered
@@ -165,8 +173,8 @@ kept_there (InnerLeft deep x inside between left si sb) s w c base declared stac
 kept_there (OuterLeft deep x between left sb) s w c base declared stack is waits none all =
     absurd (let never : true ≡ false = sym all ∙ ap all_kept (sym stack) ∙ not_kept deep x between left in cc)
 
-stays_at : (s : Around) (w : List (List Conditional)) (c : Conditions) → EndsAs (last_in s w) c → all_kept s ≡ true → StaysAt s w c
-stays_at s w c e all = let there = e.stands in kept_there there.stand s w c there.base e.declared there.stack there.is there.waits there.holds all
+stays_at : (last : Last) (c : Conditions) → StandsAt Hands last c → all_kept last.around ≡ true → StaysAt last.around last.waiting c
+stays_at last c e all = kept_there e.stand last.around last.waiting c e.base last.declared e.stack e.is e.waits e.holds all
 
 begun_in : (e : Option ℕ) (s : Around) (w : List (List Conditional)) (base : Conditions) (declared : ℕ) → are_kept s.inside ≡ true → base.waiting ≡ w → base.pending ≡ []
     → Begun (ended_in e (record s { between = [] })) (conditionals s.between ∷ w)
@@ -208,6 +216,43 @@ end_is_kept t c is none no_sign = go c.left_out c.sign refl refl no_sign
         ∙ ap (λ x. kept (record c { left_out = None; sign = x })) is_sign
     go None (Some place) is_left is_sign e = cc
 
+ends_kept : (last : Last) (c : Conditions) → StandsAt Hands last c → EndsAs handed.Kept last.around last.waiting c
+ends_kept last c e = record {
+  base = e.base;
+  stand = e.stand;
+  declared = last.declared;
+  none_read = e.holds;
+  waits = e.waits;
+  stack = e.stack;
+  inner = ap (λ (x : Conditions). x.inner) e.is;
+  among = ap (λ (x : Conditions). x.among) e.is;
+  at_end = λ end is_last.
+      end_is_kept end c is_last (ap (λ (x : Conditions). x.pending) e.is ∙ e.holds) (ap (λ (x : Conditions). x.sign) e.is)
+      ∙ ap (λ (x : Conditions). kept (record x { left_out = None; sign = None })) e.is;
+}
+
+-- in the midst of a directive
+ends_cut : (d : Answers) (outer : List Unfinished) (u : Unfinished) (s : Around) (last : Last) (toks : List At) (alone : List Place) (c : Conditions) → AllBegun d outer u s last toks alone c
+    → EndsAs handed.Unfit last.around last.waiting (all_behind toks c)
+ends_cut d outer u s last toks alone c b =
+    let there = all_behind toks c in
+    let k = kept_at b.p b.others b.ks last there b.led.ends b.stays in
+    let inner = conditionals last.around.inside in
+    let among = conditionals last.around.between in
+    record {
+      base = given_up_at k.base;
+      stand = AllStay last.around.inside last.around.between k.inside_kept k.between_kept;
+      declared = last.declared;
+      none_read = refl;
+      waits = k.waits;
+      stack = refl;
+      inner = ap (λ (x : Conditions). x.inner) k.is;
+      among = ap (λ (x : Conditions). x.among) k.is;
+      at_end = λ end is_last.
+          ap (judged_at end) k.is
+          ∙ cut_by d s outer u b.p b.others b.ks k.base inner among last.declared end b.waits_for b.condition (end_is_no_hash end.token.kind is_last) (end_cuts d s outer u end is_last);
+    }
+
 told_places : (around : List Open) (cs : List Conditional) → cs ≡ conditionals (outer around) → places (reverse cs) ≡ unended around
 told_places around cs e = ap (λ x. places (reverse x)) e ∙ sym (unended_is around)
 
@@ -220,80 +265,229 @@ begun_behind e s w base inner among declared kept_so waits none =
     go None = record { inside_kept = refl; between_kept = kept_so; is = refl; waits = refl; none_read = none }
     go (Some now) = record { inside_kept = refl; between_kept = kept_so; is = refl; waits = refl; none_read = none }
 
-record LeftAt (t : At) (s inner : Around) (w : List (List Conditional)) (c : Conditions) : Type 0 where
-  hands : handed_on (judged_at t c).judged t.token ≡ as_kept t.token ∷ []
+record LeftAt (h : Handed) (t : At) (s inner : Around) (w : List (List Conditional)) (c : Conditions) : Type 0 where
+  hands : handed_on (judged_at t c).judged t.token ≡ handed_as h t.token
   tells : lone_places (judged_at t c).judged.lone ≡ []
   misses : told_behind Leaves (judged_at t c).now ≡ all_unended inner
   begun : Begun (around_behind s) w (step_behind (leaves t) c)
 
 -- the places that are told at an end
-misses_at : (t : At) (last : Last) (c : Conditions) → EndsAs last c → is_end t.token.kind ≡ true → told_behind Leaves (judged_at t c).now ≡ all_unended last.around
-misses_at t last c e is_last =
-    let stands = e.stands in
-    let open_so = open_of Hands (last_at last.around e.declared e.levels last.waiting) c stands in
-    ap (λ (b : Behind). told_behind Leaves b.now) (end_is_kept t c is_last (ap (λ (x : Conditions). x.pending) stands.is ∙ stands.holds) (ap (λ (x : Conditions). x.sign) stands.is))
-    ∙ ap (λ ps. ps ++ places (reverse c.among)) (told_places last.around.inside c.inner open_so.inside)
-    ∙ ap (λ ps. unended last.around.inside ++ ps) (told_places last.around.between c.among open_so.between)
+misses_at : (t : At) (h : Handed) (s : Around) (w : List (List Conditional)) (c : Conditions) → EndsAs h s w c → is_end t.token.kind ≡ true → told_behind Leaves (judged_at t c).now ≡ all_unended s
+misses_at t h s w c e is_last =
+    let open_so = are_open e.stand in
+    let inner = inner_of e.stand in
+    let among = among_of e.stand in
+    ap (λ (b : Behind). told_behind Leaves b.now) (e.at_end t is_last)
+    ∙ ap (λ ps. ps ++ places (reverse among)) (told_places (stack_of e.stand).inside inner open_so.inside)
+    ∙ ap (λ ps. unended (stack_of e.stand).inside ++ ps) (told_places (stack_of e.stand).between among open_so.between)
+    ∙ ap all_unended e.stack
 
-left_at_end : (t : At) (s inner : Around) (w : List (List Conditional)) (c : Conditions) → EndsAs (last_in inner (conditionals s.between ∷ w)) c → are_kept s.between ≡ true
-    → is_end t.token.kind ≡ true → LeftAt t s inner w c
-left_at_end t s inner w c e kept_so is_last =
-    let last = last_in inner (conditionals s.between ∷ w) in
-    let stands = e.stands in
-    let keeps = end_is_kept t c is_last (ap (λ (x : Conditions). x.pending) stands.is ∙ stands.holds) (ap (λ (x : Conditions). x.sign) stands.is) in
+left_at_end : (t : At) (h : Handed) (s inner : Around) (w : List (List Conditional)) (c : Conditions) → EndsAs h inner (conditionals s.between ∷ w) c → are_kept s.between ≡ true
+    → is_end t.token.kind ≡ true → LeftAt h t s inner w c
+left_at_end t h s inner w c e kept_so is_last =
+    let keeps = e.at_end t is_last in
     record {
       hands = ap (λ (b : Behind). handed_on b.judged t.token) keeps;
       tells = ap (λ (b : Behind). lone_places b.judged.lone) keeps;
-      misses = misses_at t last c e is_last;
+      misses = misses_at t h inner (conditionals s.between ∷ w) c e is_last;
       begun = subst (λ (b : Behind). Begun (around_behind s) w (ended_behind t.ended (file_left (silent b.now)))) (sym keeps)
-          (subst (λ (x : Conditions). Begun (around_behind s) w (ended_behind t.ended (file_left (silent (record x { left_out = None; sign = None }))))) (sym stands.is)
-          (begun_behind t.ended s w stands.base (inner_of stands.stand) (among_of stands.stand) e.declared kept_so stands.waits stands.holds));
+          (begun_behind t.ended s w e.base (inner_of e.stand) (among_of e.stand) e.declared kept_so e.waits e.none_read);
+    }
+
+-- A token cuts a directive
+
+begun_broken : (e : Option ℕ) (s : Around) (w : List (List Conditional)) (base : Conditions) (declared : ℕ) → are_kept s.inside ≡ true → are_kept s.between ≡ true → base.waiting ≡ w → base.pending ≡ []
+    → Begun (ended_in e s) w (ended_behind e (at base (conditionals s.inside) (conditionals s.between) None declared))
+begun_broken None s w base declared si sb waits none = record { inside_kept = si; between_kept = sb; is = refl; waits = waits; none_read = none }
+begun_broken (Some now) s w base declared si sb waits none = record { inside_kept = refl; between_kept = sb; is = refl; waits = waits; none_read = none }
+
+record MisfitLed (misfit : Misfit) (s : Around) (w : List (List Conditional)) (c : Conditions) : Type 0 where
+  hands : all_handed_on (misfit_tokens misfit) c ≡ handed_misfit misfit
+  tells : all_lone_places (misfit_tokens misfit) c ≡ []
+  begun : Begun (behind_misfit misfit s) w (all_behind (misfit_tokens misfit) c)
+
+misfit_led : (d : Answers) (outer : List Unfinished) (u : Unfinished) (s : Around) (last : Last) (toks : List At) (alone : List Place) (c : Conditions) (misfit : Misfit) → AllBegun d outer u s last toks alone c → IsMisfit d s outer u misfit
+    → MisfitLed misfit last.around last.waiting (all_behind toks c)
+misfit_led d outer u s last toks alone c (Bare t) b is =
+    let there = all_behind toks c in
+    let k = kept_at b.p b.others b.ks last there b.led.ends b.stays in
+    let inner = conditionals last.around.inside in
+    let among = conditionals last.around.between in
+    let cut = ap (judged_at t) k.is ∙ cut_by d s outer u b.p b.others b.ks k.base inner among last.declared t b.waits_for b.condition is.0 is.1 in
+    record {
+      hands = ap (λ (x : Behind). handed_on x.judged t.token ++ []) cut;
+      tells = ap (λ (x : Behind). lone_places x.judged.lone ++ []) cut;
+      begun = subst (λ (x : Behind). Begun (ended_in t.ended last.around) last.waiting (ended_behind t.ended (silent x.now))) (sym cut)
+          (begun_broken t.ended last.around last.waiting (given_up_at k.base) last.declared k.inside_kept k.between_kept k.waits refl);
+    }
+misfit_led d outer u s last toks alone c (Hashed sign t) b is =
+    let there = all_behind toks c in
+    let k = kept_at b.p b.others b.ks last there b.led.ends b.stays in
+    let inner = conditionals last.around.inside in
+    let among = conditionals last.around.between in
+    let place = sign.token.place in
+    let base = record k.base { pending = b.p ∷ b.others; conditions = b.ks } in
+    let held_so = ap (judged_at sign) k.is ∙ sign_cut sign base b.p b.others inner among last.declared refl is.0.is in
+    let held_back = state base (Some place) inner among None last.declared in
+    let goes = ap (λ (x : Behind). ended_behind sign.ended (silent x.now)) held_so ∙ ap (λ e. ended_behind e held_back) is.0.goes_on in
+    let cut = ap (judged_at t) goes ∙ sign_cut_so place t base b.p b.others inner among last.declared is.1 in
+    record {
+      hands =
+          ap (λ (x : Behind). handed_on x.judged sign.token ++ all_handed_on (t ∷ []) (ended_behind sign.ended (silent (judged_at sign there).now))) held_so
+          ∙ ap (λ (x : Behind). handed_on x.judged t.token ++ []) cut;
+      tells =
+          ap (λ (x : Behind). lone_places x.judged.lone ++ all_lone_places (t ∷ []) (ended_behind sign.ended (silent (judged_at sign there).now))) held_so
+          ∙ ap (λ (x : Behind). lone_places x.judged.lone ++ []) cut;
+      begun = subst (λ (x : Behind). Begun (ended_in t.ended last.around) last.waiting (ended_behind t.ended (silent x.now))) (sym cut)
+          (begun_broken t.ended last.around last.waiting (given_up_at k.base) last.declared k.inside_kept k.between_kept k.waits refl);
     }
 
 -- All files
 
-files_led : (d : Answers) (f : Files) (s : Around) (w : List (List Conditional)) (c : Conditions) → Begun s w c → AreFiles d s c f
-    → FilesLed (steps f) c (kept_files d s f) (lone_files d s f) (unended_files d s f) (last_in (behind_files d s f) w)
-files_led d (Alone parts) s w c b are = stretch d s w c parts b are
+end_is_handed : (f : Files) (end : At) → handed_as (end_handed f) end.token ≡ record { handed = end_handed f; token = end.token } ∷ []
+end_is_handed (Alone parts) end = refl
+end_is_handed (Cut parts outer u) end = refl
+end_is_handed (Breaking parts outer u misfit more) end = end_is_handed more end
+end_is_handed (Including parts t f leaving more) end = end_is_handed more end
+
+record FilesLed (d : Answers) (f : Files) (s : Around) (w : List (List Conditional)) (c : Conditions) : Type 0 where
+  led : StepsLed (steps f) c (handed_files d s f) (lone_files d s f) (unended_files d s f)
+  ends : EndsAs (end_handed f) (behind_files d s f) w (steps_behind (steps f) c)
+
+-- a directive that is not whole, behind parts
+record BrokenLed (d : Answers) (s : Around) (w : List (List Conditional)) (c : Conditions) (parts : Parts) (outer : List Unfinished) (u : Unfinished) : Type 0 where
+  led : StepsLed (map staying (all_begun_tokens outer u)) (all_behind (all_tokens parts) c) [] (lone_all_begun d (behind_parts d s parts) outer u) []
+  last : Last
+  around : last.around ≡ behind_all_begun d (behind_parts d s parts) outer u
+  waiting : last.waiting ≡ w
+  begun : AllBegun d outer u (behind_parts d s parts) last (all_begun_tokens outer u) (lone_all_begun d (behind_parts d s parts) outer u) (all_behind (all_tokens parts) c)
+
+broken_led : (d : Answers) (s : Around) (w : List (List Conditional)) (c : Conditions) (parts : Parts) (outer : List Unfinished) (u : Unfinished) → Stretch d s w c parts
+    → HaveBegun d (behind_parts d s parts) (declared_tokens (all_tokens parts) c.declared) (length (all_tokens parts)) outer u → BrokenLed d s w c parts outer u
+broken_led d s w c parts outer u first has =
+    let l = stretch_last d s w c parts in
+    let here = all_behind (all_tokens parts) c in
+    let toks = all_begun_tokens outer u in
+    let few = has.few in
+    let b = all_begun_led d outer u Hands l.around l.declared l.levels w here first.stands has.are (omega (arith, few)) in
+    record {
+      led = staying_led toks here [] (lone_all_begun d l.around outer u) b.led.hands b.led.tells;
+      last = last_at (behind_all_begun d l.around outer u) (declared_tokens toks l.declared) (l.levels + length toks) w;
+      around = refl;
+      waiting = refl;
+      begun = b;
+    }
+
+files_led : (d : Answers) (f : Files) (s : Around) (w : List (List Conditional)) (c : Conditions) → Begun s w c → AreFiles d s c f → FilesLed d f s w c
+files_led d (Alone parts) s w c b are =
+    let first = stretch d s w c parts b are in
+    record { led = first.led; ends = subst (λ (x : Conditions). EndsAs handed.Kept (behind_parts d s parts) w x) (sym (behind_staying (all_tokens parts) c)) (ends_kept (stretch_last d s w c parts) (all_behind (all_tokens parts) c) first.stands) }
+files_led d (Cut parts outer u) s w c b are =
+    let first = stretch d s w c parts b are.0 in
+    let broken = broken_led d s w c parts outer u first are.1 in
+    let toks = all_begun_tokens outer u in
+    let here = all_behind (all_tokens parts) c in
+    let last = broken.last in
+    let to_here = behind_staying (all_tokens parts) c in
+    let given = map as_kept (kept_sides d s parts) in
+    let alone = lone_all_begun d (behind_parts d s parts) outer u in
+    let both =
+    joined (map staying (all_tokens parts)) (map staying toks) c given [] (lone_parts d s parts) alone [] [] first.led
+    (subst (λ (x : Conditions). StepsLed (map staying toks) x [] alone []) (sym to_here) broken.led) in
+    let ends = ends_cut d outer u (behind_parts d s parts) last toks alone here broken.begun in
+    record {
+      led = record { hands = both.hands ∙ append-nil given; tells = both.tells; misses = both.misses };
+      ends = subst (λ (x : Conditions). EndsAs handed.Unfit (behind_all_begun d (behind_parts d s parts) outer u) w x)
+          (sym (behind_both (map staying (all_tokens parts)) (map staying toks) c ∙ ap (steps_behind (map staying toks)) to_here ∙ behind_staying toks here))
+          (subst (λ (x : Around). EndsAs handed.Unfit x w (all_behind toks here)) broken.around (subst (λ ws. EndsAs handed.Unfit last.around ws (all_behind toks here)) broken.waiting ends));
+    }
+files_led d (Breaking parts outer u misfit more) s w c b are =
+    let first = stretch d s w c parts b are.0 in
+    let broken = broken_led d s w c parts outer u first are.1.0 in
+    let tokens = all_tokens parts in
+    let toks = all_begun_tokens outer u in
+    let bad = misfit_tokens misfit in
+    let here = all_behind tokens c in
+    let there = all_behind toks here in
+    let beyond = all_behind bad there in
+    let last = broken.last in
+    let alone = lone_all_begun d (behind_parts d s parts) outer u in
+    let cut = misfit_led d outer u (behind_parts d s parts) last toks alone here misfit broken.begun are.1.1.0 in
+    let around = around_broken d s parts outer u misfit in
+    let begun : Begun around w beyond =
+    subst (λ (x : Around). Begun (behind_misfit misfit x) w beyond) broken.around (subst (λ ws. Begun (behind_misfit misfit last.around) ws beyond) broken.waiting cut.begun) in
+    let rest = files_led d more around w beyond begun are.1.1.1 in
+    let given = handed_files d around more in
+    let others = lone_files d around more in
+    let further = unended_files d around more in
+    let to_here = behind_staying tokens c in
+    let to_there = behind_staying toks here in
+    let to_beyond = behind_staying bad there in
+    let third : StepsLed (map staying bad ++ steps more) there (handed_misfit misfit ++ given) others further =
+    joined (map staying bad) (steps more) there (handed_misfit misfit) given [] others [] further (staying_led bad there (handed_misfit misfit) [] cut.hands cut.tells)
+    (subst (λ (x : Conditions). StepsLed (steps more) x given others further) (sym to_beyond) rest.led) in
+    let second : StepsLed (map staying toks ++ (map staying bad ++ steps more)) here (handed_misfit misfit ++ given) (alone ++ others) further =
+    joined (map staying toks) (map staying bad ++ steps more) here [] (handed_misfit misfit ++ given) alone others [] further broken.led
+    (subst (λ (x : Conditions). StepsLed (map staying bad ++ steps more) x (handed_misfit misfit ++ given) others further) (sym to_there) third) in
+    record {
+      led = joined (map staying tokens) (map staying toks ++ (map staying bad ++ steps more)) c (map as_kept (kept_sides d s parts)) (handed_misfit misfit ++ given) (lone_parts d s parts) (alone ++ others) [] further first.led
+          (subst (λ (x : Conditions). StepsLed (map staying toks ++ (map staying bad ++ steps more)) x (handed_misfit misfit ++ given) (alone ++ others) further) (sym to_here) second);
+      ends = subst (λ (x : Conditions). EndsAs (end_handed more) (behind_files d around more) w x)
+          (sym
+          (behind_both (map staying tokens) (map staying toks ++ (map staying bad ++ steps more)) c
+          ∙ ap (steps_behind (map staying toks ++ (map staying bad ++ steps more))) to_here
+          ∙ behind_both (map staying toks) (map staying bad ++ steps more) here
+          ∙ ap (steps_behind (map staying bad ++ steps more)) to_there
+          ∙ behind_both (map staying bad) (steps more) there
+          ∙ ap (steps_behind (steps more)) to_beyond)) rest.ends;
+    }
 files_led d (Including parts t f end more) s w c b are =
     let here = behind_parts d s parts in
     let inside = around_included t here in
-    let c_here = all_behind (all_tokens parts) c in
+    let tokens = all_tokens parts in
+    let c_here = all_behind tokens c in
     let c_in = step_behind (enters t) c_here in
     let c_end = steps_behind (steps f) c_in in
     let c_more = step_behind (leaves end) c_end in
-    let last = last_in (behind_files d (around_behind here) more) w in
     let first = stretch d s w c parts b are.0 in
-    let to_here = behind_staying (all_tokens parts) c in
-    let st = stays_at here w c_here (subst (λ (x : Conditions). EndsAs (last_in here w) x) to_here first.ends) are.1.0.is_kept in
+    let to_here = behind_staying tokens c in
+    let st = stays_at (stretch_last d s w c parts) c_here first.stands are.1.0.is_kept in
     let enter = entered_at t here w c_here st are.1.0.plain in
     let inner = files_led d f inside (conditionals here.between ∷ w) c_in enter.begun are.1.1.0 in
-    let leave = left_at_end end here (behind_files d inside f) w c_end inner.ends st.between_kept are.1.0.is_last in
+    let leave = left_at_end end (end_handed f) here (behind_files d inside f) w c_end inner.ends st.between_kept are.1.0.is_last in
     let rest = files_led d more (around_behind here) w c_more leave.begun are.1.1.1 in
-    let leaving_on : FilesLed (leaves end ∷ steps more) c_end (end.token ∷ kept_files d (around_behind here) more) (lone_files d (around_behind here) more)
-    (all_unended (behind_files d inside f) ++ unended_files d (around_behind here) more) last =
+    let given = handed_files d (around_behind here) more in
+    let last_so : Handing = record { handed = end_handed f; token = end.token } in
+    let others = lone_files d (around_behind here) more in
+    let missing_here = all_unended (behind_files d inside f) in
+    let further = unended_files d (around_behind here) more in
+    let leaving_on : StepsLed (leaves end ∷ steps more) c_end (last_so ∷ given) others (missing_here ++ further) =
     record {
-      hands = ap (λ hs. hs ++ handed_by (steps more) c_more) leave.hands ∙ ap (λ hs. as_kept end.token ∷ hs) rest.hands;
-      tells = ap (λ ps. ps ++ lone_by (steps more) c_more) leave.tells ∙ rest.tells;
-      misses = ap (λ ps. ps ++ unended_by (steps more) c_more) leave.misses ∙ ap (λ ps. all_unended (behind_files d inside f) ++ ps) rest.misses;
-      ends = rest.ends;
+      hands = ap (λ hs. hs ++ handed_by (steps more) c_more) (leave.hands ∙ end_is_handed f end) ∙ ap (λ hs. last_so ∷ hs) rest.led.hands;
+      tells = ap (λ ps. ps ++ lone_by (steps more) c_more) leave.tells ∙ rest.led.tells;
+      misses = ap (λ ps. ps ++ unended_by (steps more) c_more) leave.misses ∙ ap (λ ps. missing_here ++ ps) rest.led.misses;
     } in
-    let inner_on =
-    joined (steps f) (leaves end ∷ steps more) c_in (kept_files d inside f) (end.token ∷ kept_files d (around_behind here) more) (lone_files d inside f) (lone_files d (around_behind here) more)
-    (unended_files d inside f) (all_unended (behind_files d inside f) ++ unended_files d (around_behind here) more) (last_in (behind_files d inside f) (conditionals here.between ∷ w)) last inner leaving_on in
     let all_inner = steps f ++ leaves end ∷ steps more in
-    let tokens = kept_files d inside f ++ end.token ∷ kept_files d (around_behind here) more in
-    let alone = lone_files d inside f ++ lone_files d (around_behind here) more in
-    let missing = unended_files d inside f ++ (all_unended (behind_files d inside f) ++ unended_files d (around_behind here) more) in
-    let entering_on : FilesLed (enters t ∷ all_inner) c_here (t.token ∷ tokens) alone missing last =
+    let inner_given = handed_files d inside f ++ last_so ∷ given in
+    let alone = lone_files d inside f ++ others in
+    let missing = unended_files d inside f ++ (missing_here ++ further) in
+    let inner_on : StepsLed all_inner c_in inner_given alone missing =
+    joined (steps f) (leaves end ∷ steps more) c_in (handed_files d inside f) (last_so ∷ given) (lone_files d inside f) others (unended_files d inside f) (missing_here ++ further) inner.led leaving_on in
+    let entering_on : StepsLed (enters t ∷ all_inner) c_here (as_kept t.token ∷ inner_given) alone missing =
     record {
       hands = ap (λ hs. hs ++ handed_by all_inner c_in) enter.hands ∙ ap (λ hs. as_kept t.token ∷ hs) inner_on.hands;
       tells = ap (λ ps. ps ++ lone_by all_inner c_in) enter.tells ∙ inner_on.tells;
       misses = inner_on.misses;
-      ends = inner_on.ends;
     } in
-    joined (map staying (all_tokens parts)) (enters t ∷ all_inner) c (kept_sides d s parts) (t.token ∷ tokens) (lone_parts d s parts) alone [] missing (last_in here w) last first
-    (subst (λ (x : Conditions). FilesLed (enters t ∷ all_inner) x (t.token ∷ tokens) alone missing last) (sym to_here) entering_on)
+    record {
+      led = joined (map staying tokens) (enters t ∷ all_inner) c (map as_kept (kept_sides d s parts)) (as_kept t.token ∷ inner_given) (lone_parts d s parts) alone [] missing first.led
+          (subst (λ (x : Conditions). StepsLed (enters t ∷ all_inner) x (as_kept t.token ∷ inner_given) alone missing) (sym to_here) entering_on);
+      ends = subst (λ (x : Conditions). EndsAs (end_handed more) (behind_files d (around_behind here) more) w x)
+          (sym
+          (behind_both (map staying tokens) (enters t ∷ all_inner) c
+          ∙ ap (steps_behind (enters t ∷ all_inner)) to_here
+          ∙ behind_both (steps f) (leaves end ∷ steps more) c_in)) rest.ends;
+    }
 
 begun_clear : (c : Conditions) → IsClear c → Begun none_around c.waiting c
 begun_clear c clear = record {
@@ -313,10 +507,10 @@ pub files_keep_sides : FilesKeepSides
 files_keep_sides d f c clear are =
     let all = files_led d f none_around c.waiting c (begun_clear c clear) are in
     record {
-      handed_on = all.hands;
-      lone = all.tells;
-      unended = all.misses;
-      at_last = λ end is_last. misses_at end (last_in (behind_files d none_around f) c.waiting) (steps_behind (steps f) c) all.ends is_last;
+      handed_on = all.led.hands;
+      lone = all.led.tells;
+      unended = all.led.misses;
+      at_last = λ end is_last. misses_at end (end_handed f) (behind_files d none_around f) c.waiting (steps_behind (steps f) c) all.ends is_last;
     }
 
 pub files_tell_unended : FilesTellUnended

@@ -115,13 +115,13 @@ abbrev pub left_at : Bool → ℕ → Option LeftOut
 left_at is_inner n = Some (record { is_inner = is_inner; levels = n })
 
 -- in a directive
-abbrev directive : Bool → Place → Awaits → Pending
+abbrev pub directive : Bool → Place → Awaits → Pending
 directive is_inner place a = record { place = place; is_inner = is_inner; awaits = a }
 
-abbrev awaits_it : Bool → Place → Awaits → Conditions → Conditions
+abbrev pub awaits_it : Bool → Place → Awaits → Conditions → Conditions
 awaits_it is_inner place a c = record c { pending = directive is_inner place a ∷ c.pending }
 
-abbrev reading : Bool → Place → Awaits → Conditions → List Conditional → List Conditional → ℕ → Conditions
+abbrev pub reading : Bool → Place → Awaits → Conditions → List Conditional → List Conditional → ℕ → Conditions
 reading is_inner place a c inner among declared = at (awaits_it is_inner place a c) inner among None declared
 
 -- Where no side is left out
@@ -150,7 +150,7 @@ sign_kept t c inner among declared front hash =
     ap (λ (b : Bool). cond b (passed (held (is_front t c) t.token.place here)) (offered_to c.pending (is_front t c) t.site.is_quiet t.out t.token here)) hash
     ∙ ap (λ (b : Bool). passed (held b t.token.place here)) front
 
-sign_inner : (t : At) (c : Conditions) (inner among : List Conditional) (declared : ℕ) → is_front t c ≡ false → is_mark mark.Hash t.token.kind ≡ true
+pub sign_inner : (t : At) (c : Conditions) (inner among : List Conditional) (declared : ℕ) → is_front t c ≡ false → is_mark mark.Hash t.token.kind ≡ true
     → judged_at t (at c inner among None declared) ≡ passed (state c (Some t.token.place) inner among None declared)
 sign_inner t c inner among declared front hash =
     let here = at c inner among None declared in
@@ -182,11 +182,11 @@ signed_inner : (w : ConditionalWord) (place : Place) (t : At) (c : Conditions) (
     → judged_at t (state c (Some place) inner among None declared) ≡ begun w t.token place true (at c inner among None declared)
 signed_inner w place t c inner among declared is = ap (λ o. behind_sign o place t.site.is_quiet t.out t.token (state c (Some place) inner among None declared)) is
 
-begun_opening : (is_inner if_declared : Bool) (t : Spelled) (place : Place) (c : Conditions) → begun (opening if_declared) t place is_inner c ≡ passed (awaiting place is_inner (awaits.Name if_declared) c)
+pub begun_opening : (is_inner if_declared : Bool) (t : Spelled) (place : Place) (c : Conditions) → begun (opening if_declared) t place is_inner c ≡ passed (awaiting place is_inner (awaits.Name if_declared) c)
 begun_opening is_inner true t place c = refl
 begun_opening is_inner false t place c = refl
 
-name_kept : (is_inner if_declared : Bool) (place : Place) (t : At) (c : Conditions) (inner among : List Conditional) (declared : ℕ) → t.token.kind ≡ kind.Name
+pub name_kept : (is_inner if_declared : Bool) (place : Place) (t : At) (c : Conditions) (inner among : List Conditional) (declared : ℕ) → t.token.kind ≡ kind.Name
     → judged_at t (reading is_inner place (awaits.Name if_declared) c inner among declared)
     ≡ passed (reading is_inner place (awaits.End (effect.Opens (is_kept if_declared t.out declared t.token.bytes))) c inner among declared)
 name_kept is_inner if_declared place t c inner among declared is =
@@ -206,7 +206,7 @@ end_kept e is_inner place t c inner among declared is =
 
 -- The end of the file leaves open what is open.
 
-end_is_no_hash : (k : TokenKind) → is_end k ≡ true → is_mark mark.Hash k ≡ false
+pub end_is_no_hash : (k : TokenKind) → is_end k ≡ true → is_mark mark.Hash k ≡ false
 end_is_no_hash kind.End e = refl
 end_is_no_hash kind.Name e = cc
 end_is_no_hash (kind.Number n) e = cc
@@ -427,7 +427,7 @@ handed_both (t ∷ first) second r =
     ap (λ hs. handed_one r t ++ hs) (handed_both first second (read_one t r))
     ∙ sym (append_assoc (handed_one r t) (handed_to (read_one t r) first) (handed_to (read_on first (read_one t r)) second))
 
-nothing_handed : (tokens : List Spelled) (p : Pending) (others : List Pending) (ks : List Condition) → handed_to (Reads p others ks) tokens ≡ []
+pub nothing_handed : (tokens : List Spelled) (p : Pending) (others : List Pending) (ks : List Condition) → handed_to (Reads p others ks) tokens ≡ []
 nothing_handed [] p others ks = refl
 nothing_handed (t ∷ tokens) p others [] = nothing_handed tokens p others []
 nothing_handed (t ∷ tokens) p others (k ∷ ks) = nothing_handed tokens p others (condition_took t k ∷ ks)
@@ -454,7 +454,7 @@ within_same [] r = refl
 within_same (t ∷ tokens) r = within_same tokens (read_one t r) ∙ within_one t r
 
 -- a condition
-read_condition : (tokens : List Spelled) (p : Pending) (others : List Pending) (k : Condition) (ks : List Condition) → read_on tokens (Reads p others (k ∷ ks)) ≡ Reads p others (condition_behind tokens k ∷ ks)
+pub read_condition : (tokens : List Spelled) (p : Pending) (others : List Pending) (k : Condition) (ks : List Condition) → read_on tokens (Reads p others (k ∷ ks)) ≡ Reads p others (condition_behind tokens k ∷ ks)
 read_condition [] p others k ks = refl
 read_condition (t ∷ tokens) p others k ks = read_condition tokens p others (condition_took t k) ks
 
@@ -494,27 +494,27 @@ pub record Led (r : Reader) (all : List At) (c : Conditions) (tokens : List Spel
 
 -- One after the other
 
-hands_both : (first second : List At) (c : Conditions) → all_handed_on (first ++ second) c ≡ all_handed_on first c ++ all_handed_on second (all_behind first c)
+pub hands_both : (first second : List At) (c : Conditions) → all_handed_on (first ++ second) c ≡ all_handed_on first c ++ all_handed_on second (all_behind first c)
 hands_both [] second c = refl
 hands_both (t ∷ first) second c =
     ap (λ hs. handed_on (judged_at t c).judged t.token ++ hs) (hands_both first second (going_on t c))
     ∙ sym (append_assoc (handed_on (judged_at t c).judged t.token) (all_handed_on first (going_on t c)) (all_handed_on second (all_behind first (going_on t c))))
 
-tells_both : (first second : List At) (c : Conditions) → all_lone_places (first ++ second) c ≡ all_lone_places first c ++ all_lone_places second (all_behind first c)
+pub tells_both : (first second : List At) (c : Conditions) → all_lone_places (first ++ second) c ≡ all_lone_places first c ++ all_lone_places second (all_behind first c)
 tells_both [] second c = refl
 tells_both (t ∷ first) second c =
     ap (λ ps. lone_places (judged_at t c).judged.lone ++ ps) (tells_both first second (going_on t c))
     ∙ sym (append_assoc (lone_places (judged_at t c).judged.lone) (all_lone_places first (going_on t c)) (all_lone_places second (all_behind first (going_on t c))))
 
-behind_both : (first second : List At) (c : Conditions) → all_behind (first ++ second) c ≡ all_behind second (all_behind first c)
+pub behind_both : (first second : List At) (c : Conditions) → all_behind (first ++ second) c ≡ all_behind second (all_behind first c)
 behind_both [] second c = refl
 behind_both (t ∷ first) second c = behind_both first second (going_on t c)
 
-declared_both : (first second : List At) (declared : ℕ) → declared_tokens (first ++ second) declared ≡ declared_tokens second (declared_tokens first declared)
+pub declared_both : (first second : List At) (declared : ℕ) → declared_tokens (first ++ second) declared ≡ declared_tokens second (declared_tokens first declared)
 declared_both [] second declared = refl
 declared_both (t ∷ first) second declared = declared_both first second (declared_behind t declared)
 
-length_both : (first second : List At) → length (first ++ second) ≡ length first + length second
+pub length_both : (first second : List At) → length (first ++ second) ≡ length first + length second
 length_both [] second = omega arith
 length_both (t ∷ first) second = omega (arith, length_both first second)
 
@@ -533,7 +533,7 @@ joined r first second c tokens more places others between last a b = record {
     read_both (t ∷ first) second r = read_both first second (read_one t r)
 
 -- what is told of more names and levels
-relaxed : (r : Reader) (all : List At) (c : Conditions) (tokens : List Spelled) (places : List Place) (s : Around) (declared declared_so n m : ℕ) (w : List (List Conditional)) → declared ≡ declared_so → n ≤ m
+pub relaxed : (r : Reader) (all : List At) (c : Conditions) (tokens : List Spelled) (places : List Place) (s : Around) (declared declared_so n m : ℕ) (w : List (List Conditional)) → declared ≡ declared_so → n ≤ m
     → Led r all c tokens places (last_at s declared n w) → Led r all c tokens places (last_at s declared_so m w)
 relaxed r all c tokens places s declared declared_so n m w e few is =
     let at_end = is.ends in
@@ -554,10 +554,10 @@ relaxed r all c tokens places s declared declared_so n m w e few is =
 -- Tokens
 
 -- nothing more
-rests : (r : Reader) (c : Conditions) (last : Last) → StandsAt r last c → Led r [] c [] [] last
+pub rests : (r : Reader) (c : Conditions) (last : Last) → StandsAt r last c → Led r [] c [] [] last
 rests r c last e = record { hands = refl; tells = refl; ends = e }
 
-passes : (r : Reader) (t : At) (all : List At) (c now next : Conditions) (tokens : List Spelled) (places : List Place) (last : Last) → judged_at t c ≡ passed now → ended_behind t.ended (silent now) ≡ next → Led r all next tokens places last
+pub passes : (r : Reader) (t : At) (all : List At) (c now next : Conditions) (tokens : List Spelled) (places : List Place) (last : Last) → judged_at t c ≡ passed now → ended_behind t.ended (silent now) ≡ next → Led r all next tokens places last
     → Led r (t ∷ all) c tokens places last
 passes r t all c now next tokens places last e to rest = record {
   hands =
@@ -656,34 +656,34 @@ inner_front (Reads p others ks) sign c holds inside = ap (λ ps. sign.site.is_be
 outer_front : (sign : At) (c : Conditions) → c.pending ≡ [] → sign.site.is_between ≡ true → is_front sign c ≡ true
 outer_front sign c none between = ap (λ ps. sign.site.is_between && is_none_pending ps) none ∙ ap (λ b. b && true) between
 
-begins_kept : (r : Reader) (is_inner : Bool) (w : ConditionalWord) (a : Awaits) (sign : Option At) (t : At) (all : List At) (c after : Conditions) (inner among : List Conditional) (declared : ℕ) (places : List Place) (last : Last)
+pub begins_kept : (r q : Reader) (is_inner : Bool) (w : ConditionalWord) (a : Awaits) (sign : Option At) (t : At) (all : List At) (c after : Conditions) (inner among : List Conditional) (declared : ℕ) (places : List Place) (last : Last)
     → Holds r c → Begins true is_inner (within r) sign t → word_of t.token ≡ Some w → GoesOn is_inner t
     → ((m : ℕ) → begun w t.token (begins_at sign t) is_inner (at c inner among None m) ≡ passed (reading is_inner (begins_at sign t) a after inner among m)) → Calm is_inner inner None
-    → Led r all (reading is_inner (begins_at sign t) a after inner among (declared_behind t (declared_sign sign declared))) [] places last
-    → Led r (signed_tokens sign (t ∷ all)) (at c inner among None declared) [] places last
-begins_kept Hands false w a None t all c after inner among declared places last holds between is goes waits calm rest =
+    → Led q all (reading is_inner (begins_at sign t) a after inner among (declared_behind t (declared_sign sign declared))) [] places last
+    → Led q (signed_tokens sign (t ∷ all)) (at c inner among None declared) [] places last
+begins_kept Hands q false w a None t all c after inner among declared places last holds between is goes waits calm rest =
     let place = t.token.place in
-    passes Hands t all (at c inner among None declared) (reading false place a after inner among declared) (reading false place a after inner among (declared_behind t declared)) [] places last
+    passes q t all (at c inner among None declared) (reading false place a after inner among declared) (reading false place a after inner among (declared_behind t declared)) [] places last
     (word_kept w t c inner among declared holds between is ∙ waits declared)
     (mid false t (awaits_it false place a after) None inner among None declared goes calm) rest
-begins_kept Hands false w a (Some sign) t all c after inner among declared places last holds between is goes waits calm rest =
+begins_kept Hands q false w a (Some sign) t all c after inner among declared places last holds between is goes waits calm rest =
     let place = sign.token.place in
     let now = declared_behind sign declared in
-    passes Hands sign (t ∷ all) (at c inner among None declared) (reading false place awaits.Word c inner among declared) (reading false place awaits.Word c inner among now) [] places last
+    passes q sign (t ∷ all) (at c inner among None declared) (reading false place awaits.Word c inner among declared) (reading false place awaits.Word c inner among now) [] places last
     (sign_kept sign c inner among declared (outer_front sign c holds between.0) between.1.is)
     (mid false sign (awaits_it false place awaits.Word c) None inner among None declared tt calm)
-    (passes Hands t all (reading false place awaits.Word c inner among now) (reading false place a after inner among now) (reading false place a after inner among (declared_behind t now)) [] places last
+    (passes q t all (reading false place awaits.Word c inner among now) (reading false place a after inner among now) (reading false place a after inner among (declared_behind t now)) [] places last
     (signed_kept w place t c inner among now is ∙ waits now)
     (mid false t (awaits_it false place a after) None inner among None now goes calm) rest)
-begins_kept (Reads p others ks) false w a sign t all c after inner among declared places last holds between is goes waits calm rest = absurd between
-begins_kept r true w a None t all c after inner among declared places last holds between is goes waits calm rest = absurd between
-begins_kept r true w a (Some sign) t all c after inner among declared places last holds between is goes waits calm rest =
+begins_kept (Reads p others ks) q false w a sign t all c after inner among declared places last holds between is goes waits calm rest = absurd between
+begins_kept r q true w a None t all c after inner among declared places last holds between is goes waits calm rest = absurd between
+begins_kept r q true w a (Some sign) t all c after inner among declared places last holds between is goes waits calm rest =
     let place = sign.token.place in
     let now = declared_behind sign declared in
-    passes r sign (t ∷ all) (at c inner among None declared) (state c (Some place) inner among None declared) (state c (Some place) inner among None now) [] places last
+    passes q sign (t ∷ all) (at c inner among None declared) (state c (Some place) inner among None declared) (state c (Some place) inner among None now) [] places last
     (sign_inner sign c inner among declared (inner_front r sign c holds between.0) between.1.is)
     (mid true sign c (Some place) inner among None declared between.1.goes_on calm)
-    (passes r t all (state c (Some place) inner among None now) (reading true place a after inner among now) (reading true place a after inner among (declared_behind t now)) [] places last
+    (passes q t all (state c (Some place) inner among None now) (reading true place a after inner among now) (reading true place a after inner among (declared_behind t now)) [] places last
     (signed_inner w place t c inner among now is ∙ waits now)
     (mid true t (awaits_it true place a after) None inner among None now goes calm) rest)
 
@@ -735,13 +735,13 @@ begins_end r is_inner is_within w (Some sign) t all c inner among inner_now amon
 -- The tokens of a condition
 
 -- with a condition of which more is to be read
-abbrev with_condition : Condition → Conditions → Conditions
+abbrev pub with_condition : Condition → Conditions → Conditions
 with_condition k c = record c { conditions = k ∷ c.conditions }
 
 abbrev counted : Bool → Condition → Conditions → Conditions
 counted is_quiet k c = record c { most_tokens = cond is_quiet c.most_tokens (max c.most_tokens (outer_tokens k.unit)) }
 
-begun_asking : (is_inner wanted : Bool) (t : Spelled) (place : Place) (c : Conditions) (inner among : List Conditional) (declared : ℕ) → fits grammar known (atom_of (record t { place = place })) condition_begun.stack ≡ true
+pub begun_asking : (is_inner wanted : Bool) (t : Spelled) (place : Place) (c : Conditions) (inner among : List Conditional) (declared : ℕ) → fits grammar known (atom_of (record t { place = place })) condition_begun.stack ≡ true
     → begun (asking wanted) t place is_inner (at c inner among None declared)
     ≡ passed (reading is_inner place (awaits.Condition wanted) (with_condition (condition_took (record t { place = place }) condition_begun) c) inner among declared)
 begun_asking is_inner true t place c inner among declared is =
@@ -799,7 +799,7 @@ pub not_kept : (deep : List Open) (x : Open) (around : List Open) → x.stays �
 not_kept [] x around left = ap (λ b. b && are_kept around) left
 not_kept (y ∷ deep) x around left = ap (λ b. y.stays && b) (not_kept deep x around left) ∙ and-false y.stays
 
-both_kept : (inside between : List Open) → are_kept inside ≡ true → are_kept between ≡ true → all_kept (record { inside = inside; between = between }) ≡ true
+pub both_kept : (inside between : List Open) → are_kept inside ≡ true → are_kept between ≡ true → all_kept (record { inside = inside; between = between }) ≡ true
 both_kept inside between si sb = ap (λ b. b && are_kept between) si ∙ sb
 
 pub inner_not_kept : (deep : List Open) (x : Open) (inside between : List Open) → x.stays ≡ false → all_kept (record { inside = deep ++ x ∷ inside; between = between }) ≡ false
@@ -890,14 +890,14 @@ asking_level true n = omega arith
 asking_level false n = omega arith
 
 -- what is behind the first tokens is shorter, and begins with these names
-fewer : (first : First) (tokens : List At) → length tokens + 1 ≤ length (first_tokens first tokens)
+pub fewer : (first : First) (tokens : List At) → length tokens + 1 ≤ length (first_tokens first tokens)
 fewer first tokens = go first.sign
   where
     go : (sign : Option At) → length tokens + 1 ≤ length (signed_tokens sign (first.word ∷ tokens))
     go None = omega arith
     go (Some sign) = omega arith
 
-declared_behind_first : (first : First) (tokens : List At) (declared : ℕ) → declared_tokens tokens (declared_first first declared) ≡ declared_tokens (first_tokens first tokens) declared
+pub declared_behind_first : (first : First) (tokens : List At) (declared : ℕ) → declared_tokens tokens (declared_first first declared) ≡ declared_tokens (first_tokens first tokens) declared
 declared_behind_first first tokens declared = go first.sign
   where
     go : (sign : Option At) → declared_tokens tokens (declared_behind first.word (declared_sign sign declared)) ≡ declared_tokens (signed_tokens sign (first.word ∷ tokens)) declared
@@ -921,14 +921,14 @@ holds_on Hands c base holds = holds
 holds_on (Reads p others ks) c base holds = holds
 
 -- where all is kept, while a directive is read
-record KeptAt (p : Pending) (others : List Pending) (ks : List Condition) (last : Last) (c : Conditions) : Type 0 where
-  base : Conditions
-  inside_kept : are_kept last.around.inside ≡ true
-  between_kept : are_kept last.around.between ≡ true
-  waits : base.waiting ≡ last.waiting
-  is : c ≡ at (record base { pending = p ∷ others; conditions = ks }) (conditionals last.around.inside) (conditionals last.around.between) None last.declared
+pub record KeptAt (p : Pending) (others : List Pending) (ks : List Condition) (last : Last) (c : Conditions) : Type 0 where
+  pub base : Conditions
+  pub inside_kept : are_kept last.around.inside ≡ true
+  pub between_kept : are_kept last.around.between ≡ true
+  pub waits : base.waiting ≡ last.waiting
+  pub is : c ≡ at (record base { pending = p ∷ others; conditions = ks }) (conditionals last.around.inside) (conditionals last.around.between) None last.declared
 
-kept_at : (p : Pending) (others : List Pending) (ks : List Condition) (last : Last) (c : Conditions) → StandsAt (Reads p others ks) last c → all_kept last.around ≡ true → KeptAt p others ks last c
+pub kept_at : (p : Pending) (others : List Pending) (ks : List Condition) (last : Last) (c : Conditions) → StandsAt (Reads p others ks) last c → all_kept last.around ≡ true → KeptAt p others ks last c
 kept_at p others ks last c e all = go e.stand e.stack e.is
   where
     go : (st : Stands) → stack_of st ≡ last.around → c ≡ stands_at e.base st last.declared → KeptAt p others ks last c
@@ -950,16 +950,16 @@ kept_at p others ks last c e all = go e.stand e.stack e.is
 
 -- Parts between the tokens of a directive
 
-abbrev last_behind : Answers → Parts → Around → ℕ → ℕ → List (List Conditional) → Last
+abbrev pub last_behind : Answers → Parts → Around → ℕ → ℕ → List (List Conditional) → Last
 last_behind d parts s declared n w = last_at (behind_parts d s parts) (declared_tokens (all_tokens parts) declared) (n + length (all_tokens parts)) w
 
-abbrev Leads : Answers → Parts → Type 0
+abbrev pub Leads : Answers → Parts → Type 0
 Leads d parts = (r : Reader) (s : Around) (declared n : ℕ) (w : List (List Conditional)) (c : Conditions) → StandsAt r (last_at s declared n w) c → AreParts d (within r) s declared parts → TakesAll r (kept_sides d s parts)
     → n + length (all_tokens parts) ≤ most_levels
     → Led r (all_tokens parts) c (kept_sides d s parts) (lone_parts d s parts) (last_behind d parts s declared n w)
 
 -- of one that is kept
-within_led : (d : Answers) (parts : Parts) → Leads d parts → (r : Reader) (rest : List At) (is_inner : Bool) (place : Place) (a : Awaits) (c : Conditions) (ks after : List Condition) (s : Around) (declared n : ℕ) (w : List (List Conditional)) (start : Conditions) (places : List Place) (last : Last)
+pub within_led : (d : Answers) (parts : Parts) → Leads d parts → (r : Reader) (rest : List At) (is_inner : Bool) (place : Place) (a : Awaits) (c : Conditions) (ks after : List Condition) (s : Around) (declared n : ℕ) (w : List (List Conditional)) (start : Conditions) (places : List Place) (last : Last)
     → let p = directive is_inner place a in let l = last_behind d parts s declared n w in
     StandsAt (Reads p c.pending ks) (last_at s declared n w) start → all_kept s ≡ true → AreParts d true s declared parts → StayAs d s parts → TakesAll (Reads p c.pending ks) (kept_sides d s parts)
     → read_on (kept_sides d s parts) (Reads p c.pending ks) ≡ Reads p c.pending after → n + length (all_tokens parts) ≤ most_levels
@@ -985,10 +985,10 @@ within_led d parts leads r rest is_inner place a c ks after s declared n w start
     }
 
 -- of which nothing is kept
-takes_none : (tokens : List Spelled) (r : Reader) → tokens ≡ [] → TakesAll r tokens
+pub takes_none : (tokens : List Spelled) (r : Reader) → tokens ≡ [] → TakesAll r tokens
 takes_none tokens r e = subst (TakesAll r) (sym e) tt
 
-reads_none : (tokens : List Spelled) (r : Reader) → tokens ≡ [] → read_on tokens r ≡ r
+pub reads_none : (tokens : List Spelled) (r : Reader) → tokens ≡ [] → read_on tokens r ≡ r
 reads_none tokens r e = ap (λ ts. read_on ts r) e
 
 -- of one that stands in a side that is left out
@@ -1190,22 +1190,22 @@ closes_last r is_inner first t (y ∷ inside) between declared n v c holds waits
 
 -- The word of a directive in a side that is left out
 
-abbrev Further : Reader → List At → List Place → Last → Last → Type 0
-Further r all places there last = (c : Conditions) → StandsAt r there c → Led r all c [] places last
+abbrev Further : Reader → Reader → List At → List Place → Last → Last → Type 0
+Further r q all places there last = (c : Conditions) → StandsAt r there c → Led q all c [] places last
 
-opens_left : (r : Reader) (is_inner is_within : Bool) (w : ConditionalWord) (first : First) (all : List At) (more : Open) (st : Stands) (declared n : ℕ) (v : List (List Conditional)) (c : Conditions) (places : List Place) (last : Last)
+opens_left : (r q : Reader) (is_inner is_within : Bool) (w : ConditionalWord) (first : First) (all : List At) (more : Open) (st : Stands) (declared n : ℕ) (v : List (List Conditional)) (c : Conditions) (places : List Place) (last : Last)
     → Holds r c → c.waiting ≡ v → levels_of st ≤ n → n + 1 ≤ most_levels → all_kept (stack_of st) ≡ false → NoneInside is_inner (stack_of st) → IsFirst false is_inner is_within w first
     → ((m : ℕ) (b : Bool) → ends_side b m (Some w) ≡ false) → ((m : ℕ) → level_behind (Some w) m ≡ suc m)
-    → Further r all places (last_at (opened_more is_inner more (stack_of st)) (declared_first first declared) (n + 1) v) last
-    → Led r (first_tokens first all) (stands_at c st declared) [] places last
-opens_left r is_inner is_within w first all more (AllStay inside between si sb) declared n v c places last holds waits few_st few left none is stays level further =
+    → Further r q all places (last_at (opened_more is_inner more (stack_of st)) (declared_first first declared) (n + 1) v) last
+    → Led q (first_tokens first all) (stands_at c st declared) [] places last
+opens_left r q is_inner is_within w first all more (AllStay inside between si sb) declared n v c places last holds waits few_st few left none is stays level further =
     absurd (let never : true ≡ false = sym (both_kept inside between si sb) ∙ left in cc)
-opens_left r false is_within w first all more (InnerLeft deep x inside between gone si sb) declared n v c places last holds waits few_st few left none is stays level further = absurd (some_open deep x inside none)
-opens_left r true is_within w first all more (InnerLeft deep x inside between gone si sb) declared n v c places last holds waits few_st few left none is stays level further =
+opens_left r q false is_within w first all more (InnerLeft deep x inside between gone si sb) declared n v c places last holds waits few_st few left none is stays level further = absurd (some_open deep x inside none)
+opens_left r q true is_within w first all more (InnerLeft deep x inside between gone si sb) declared n v c places last holds waits few_st few left none is stays level further =
     let m = length deep in
     let inner = conditionals (x ∷ inside) in
     let now = declared_first first declared in
-    begins_left r true is_within w (suc m) first.sign first.word all c inner (conditionals between) true m declared places last is.begins is.is is.goes_on (λ e. absurd (no_false e)) (omega (arith, few_st, few))
+    begins_left q true is_within w (suc m) first.sign first.word all c inner (conditionals between) true m declared places last is.begins is.is is.goes_on (λ e. absurd (no_false e)) (omega (arith, few_st, few))
     (stays m (second inner (conditionals between))) (level m)
     (further (at c inner (conditionals between) (left_at true (suc m)) now)
     (record {
@@ -1217,11 +1217,11 @@ opens_left r true is_within w first all more (InnerLeft deep x inside between go
       stack = sym (ap (λ k. cond k (record { inside = more ∷ deep ++ x ∷ inside; between = between }) (record { inside = deep ++ x ∷ inside; between = more ∷ between })) sb);
       few = omega (arith, few_st);
     }))
-opens_left r is_inner is_within w first all more (OuterLeft deep x between gone sb) declared n v c places last holds waits few_st few left none is stays level further =
+opens_left r q is_inner is_within w first all more (OuterLeft deep x between gone sb) declared n v c places last holds waits few_st few left none is stays level further =
     let m = length deep in
     let among = conditionals (x ∷ between) in
     let now = declared_first first declared in
-    begins_left r is_inner is_within w (suc m) first.sign first.word all c [] among false m declared places last is.begins is.is is.goes_on (λ _. (refl, refl)) (omega (arith, few_st, few))
+    begins_left q is_inner is_within w (suc m) first.sign first.word all c [] among false m declared places last is.begins is.is is.goes_on (λ _. (refl, refl)) (omega (arith, few_st, few))
     (stays m (second [] among)) (level m)
     (further (at c [] among (left_at false (suc m)) now)
     (record {
@@ -1235,24 +1235,24 @@ opens_left r is_inner is_within w first all more (OuterLeft deep x between gone 
     }))
 
 -- a word that may end the side
-abbrev LeftLed : ConditionalWord → (Around → Around) → Type 0
-LeftLed w act = (r : Reader) (is_inner is_within : Bool) (first : First) (all : List At) (st : Stands) (declared n : ℕ) (v : List (List Conditional)) (c : Conditions) (places : List Place) (last : Last)
+abbrev pub LeftLed : ConditionalWord → (Around → Around) → Type 0
+LeftLed w act = (r q : Reader) (is_inner is_within : Bool) (first : First) (all : List At) (st : Stands) (declared n : ℕ) (v : List (List Conditional)) (c : Conditions) (places : List Place) (last : Last)
     → Holds r c → c.waiting ≡ v → levels_of st ≤ n → n + 1 ≤ most_levels → all_kept (stack_of st) ≡ false → NoneInside is_inner (stack_of st) → IsFirst false is_inner is_within w first
-    → (all_kept (act (stack_of st)) ≡ false → Further r all places (last_at (act (stack_of st)) (declared_first first declared) n v) last)
+    → (all_kept (act (stack_of st)) ≡ false → Further r q all places (last_at (act (stack_of st)) (declared_first first declared) n v) last)
     → ((inside between : List Open) → are_kept inside ≡ true → are_kept between ≡ true → record { inside = inside; between = between } ≡ act (stack_of st)
-    → Led r all (reading false (begins first) (awaits.End effect.Nothing) c (conditionals inside) (conditionals between) (declared_first first declared)) [] places last)
-    → Led r (first_tokens first all) (stands_at c st declared) [] places last
+    → Led q all (reading false (begins first) (awaits.End effect.Nothing) c (conditionals inside) (conditionals between) (declared_first first declared)) [] places last)
+    → Led q (first_tokens first all) (stands_at c st declared) [] places last
 
-turns_left : LeftLed word.Ifnot turned
-turns_left r is_inner is_within first all (AllStay inside between si sb) declared n v c places last holds waits few_st few left none is still ended = absurd (let never : true ≡ false = sym (both_kept inside between si sb) ∙ left in cc)
-turns_left r false is_within first all (InnerLeft deep x inside between gone si sb) declared n v c places last holds waits few_st few left none is still ended = absurd (some_open deep x inside none)
-turns_left r true is_within first all (InnerLeft [] x inside between gone si sb) declared n v c places last holds waits few_st few left none is still ended =
+pub turns_left : LeftLed word.Ifnot turned
+turns_left r q is_inner is_within first all (AllStay inside between si sb) declared n v c places last holds waits few_st few left none is still ended = absurd (let never : true ≡ false = sym (both_kept inside between si sb) ∙ left in cc)
+turns_left r q false is_within first all (InnerLeft deep x inside between gone si sb) declared n v c places last holds waits few_st few left none is still ended = absurd (some_open deep x inside none)
+turns_left r q true is_within first all (InnerLeft [] x inside between gone si sb) declared n v c places last holds waits few_st few left none is still ended =
     let inner = conditionals (x ∷ inside) in
     let among = conditionals between in
     let now = declared_first first declared in
-    bool_cases_of x.is_second (Led r (first_tokens first all) (at c inner among (left_at true 0) declared) [] places last)
+    bool_cases_of x.is_second (Led q (first_tokens first all) (at c inner among (left_at true 0) declared) [] places last)
     (λ e.
-    begins_left r true is_within word.Ifnot 0 first.sign first.word all c inner among true 0 declared places last is.begins is.is is.goes_on (λ e. absurd (no_false e)) (omega (arith, few)) (ap not e) refl
+    begins_left q true is_within word.Ifnot 0 first.sign first.word all c inner among true 0 declared places last is.begins is.is is.goes_on (λ e. absurd (no_false e)) (omega (arith, few)) (ap not e) refl
     (still (inner_not_kept [] (other_side x) inside between (left_still x e gone)) (at c inner among (left_at true 0) now)
     (record {
       base = c;
@@ -1265,24 +1265,24 @@ turns_left r true is_within first all (InnerLeft [] x inside between gone si sb)
     })))
     (λ e.
     let next : List Conditional = record { place = x.place; is_second = true } ∷ conditionals inside in
-    begins_end r true is_within word.Ifnot first.sign first.word all c inner among next among true declared places last is.begins is.is is.goes_on (λ e. absurd (no_false e)) (λ e. absurd (no_false e)) (omega (arith, few)) (ap not e) (λ sign m. refl)
-    (subst (λ cs. Led r all (reading false (begins first) (awaits.End effect.Nothing) c cs among now) [] places last) (turned_is x inside e)
+    begins_end q true is_within word.Ifnot first.sign first.word all c inner among next among true declared places last is.begins is.is is.goes_on (λ e. absurd (no_false e)) (λ e. absurd (no_false e)) (omega (arith, few)) (ap not e) (λ sign m. refl)
+    (subst (λ cs. Led q all (reading false (begins first) (awaits.End effect.Nothing) c cs among now) [] places last) (turned_is x inside e)
     (ended (other_side x ∷ inside) between (kept_turned x inside e gone si) sb refl)))
-turns_left r true is_within first all (InnerLeft (y ∷ deep) x inside between gone si sb) declared n v c places last holds waits few_st few left none is still ended =
+turns_left r q true is_within first all (InnerLeft (y ∷ deep) x inside between gone si sb) declared n v c places last holds waits few_st few left none is still ended =
     let inner = conditionals (x ∷ inside) in
     let among = conditionals between in
     let m = length deep in
     let now = declared_first first declared in
-    begins_left r true is_within word.Ifnot (suc m) first.sign first.word all c inner among true (suc m) declared places last is.begins is.is is.goes_on (λ e. absurd (no_false e)) (omega (arith, few, few_st))
+    begins_left q true is_within word.Ifnot (suc m) first.sign first.word all c inner among true (suc m) declared places last is.begins is.is is.goes_on (λ e. absurd (no_false e)) (omega (arith, few, few_st))
     (ap (λ b. b && not (second inner among)) (eqb-suc-zero m)) refl
     (still (inner_not_kept (other_side y ∷ deep) x inside between gone) (at c inner among (left_at true (suc m)) now)
     (record { base = c; stand = InnerLeft (other_side y ∷ deep) x inside between gone si sb; holds = holds; waits = waits; is = refl; stack = refl; few = few_st }))
-turns_left r is_inner is_within first all (OuterLeft [] x between gone sb) declared n v c places last holds waits few_st few left none is still ended =
+turns_left r q is_inner is_within first all (OuterLeft [] x between gone sb) declared n v c places last holds waits few_st few left none is still ended =
     let among = conditionals (x ∷ between) in
     let now = declared_first first declared in
-    bool_cases_of x.is_second (Led r (first_tokens first all) (at c [] among (left_at false 0) declared) [] places last)
+    bool_cases_of x.is_second (Led q (first_tokens first all) (at c [] among (left_at false 0) declared) [] places last)
     (λ e.
-    begins_left r is_inner is_within word.Ifnot 0 first.sign first.word all c [] among false 0 declared places last is.begins is.is is.goes_on (λ _. (refl, refl)) (omega (arith, few)) (ap not e) refl
+    begins_left q is_inner is_within word.Ifnot 0 first.sign first.word all c [] among false 0 declared places last is.begins is.is is.goes_on (λ _. (refl, refl)) (omega (arith, few)) (ap not e) refl
     (still (not_kept [] (other_side x) between (left_still x e gone)) (at c [] among (left_at false 0) now)
     (record {
       base = c;
@@ -1295,43 +1295,43 @@ turns_left r is_inner is_within first all (OuterLeft [] x between gone sb) decla
     })))
     (λ e.
     let next : List Conditional = record { place = x.place; is_second = true } ∷ conditionals between in
-    begins_end r is_inner is_within word.Ifnot first.sign first.word all c [] among [] next false declared places last is.begins is.is is.goes_on (λ _. (refl, refl)) (λ _. (refl, refl)) (omega (arith, few)) (ap not e) (λ sign m. refl)
-    (subst (λ cs. Led r all (reading false (begins first) (awaits.End effect.Nothing) c [] cs now) [] places last) (turned_is x between e)
+    begins_end q is_inner is_within word.Ifnot first.sign first.word all c [] among [] next false declared places last is.begins is.is is.goes_on (λ _. (refl, refl)) (λ _. (refl, refl)) (omega (arith, few)) (ap not e) (λ sign m. refl)
+    (subst (λ cs. Led q all (reading false (begins first) (awaits.End effect.Nothing) c [] cs now) [] places last) (turned_is x between e)
     (ended [] (other_side x ∷ between) refl (kept_turned x between e gone sb) refl)))
-turns_left r is_inner is_within first all (OuterLeft (y ∷ deep) x between gone sb) declared n v c places last holds waits few_st few left none is still ended =
+turns_left r q is_inner is_within first all (OuterLeft (y ∷ deep) x between gone sb) declared n v c places last holds waits few_st few left none is still ended =
     let among = conditionals (x ∷ between) in
     let m = length deep in
     let now = declared_first first declared in
-    begins_left r is_inner is_within word.Ifnot (suc m) first.sign first.word all c [] among false (suc m) declared places last is.begins is.is is.goes_on (λ _. (refl, refl)) (omega (arith, few, few_st))
+    begins_left q is_inner is_within word.Ifnot (suc m) first.sign first.word all c [] among false (suc m) declared places last is.begins is.is is.goes_on (λ _. (refl, refl)) (omega (arith, few, few_st))
     (ap (λ b. b && not (second [] among)) (eqb-suc-zero m)) refl
     (still (not_kept (other_side y ∷ deep) x between gone) (at c [] among (left_at false (suc m)) now)
     (record { base = c; stand = OuterLeft (other_side y ∷ deep) x between gone sb; holds = holds; waits = waits; is = refl; stack = refl; few = few_st }))
 
-closes_left : LeftLed word.Endif closed
-closes_left r is_inner is_within first all (AllStay inside between si sb) declared n v c places last holds waits few_st few left none is still ended = absurd (let never : true ≡ false = sym (both_kept inside between si sb) ∙ left in cc)
-closes_left r false is_within first all (InnerLeft deep x inside between gone si sb) declared n v c places last holds waits few_st few left none is still ended = absurd (some_open deep x inside none)
-closes_left r true is_within first all (InnerLeft [] x inside between gone si sb) declared n v c places last holds waits few_st few left none is still ended =
+pub closes_left : LeftLed word.Endif closed
+closes_left r q is_inner is_within first all (AllStay inside between si sb) declared n v c places last holds waits few_st few left none is still ended = absurd (let never : true ≡ false = sym (both_kept inside between si sb) ∙ left in cc)
+closes_left r q false is_within first all (InnerLeft deep x inside between gone si sb) declared n v c places last holds waits few_st few left none is still ended = absurd (some_open deep x inside none)
+closes_left r q true is_within first all (InnerLeft [] x inside between gone si sb) declared n v c places last holds waits few_st few left none is still ended =
     let among = conditionals between in
-    begins_end r true is_within word.Endif first.sign first.word all c (conditionals (x ∷ inside)) among (conditionals inside) among true declared places last is.begins is.is is.goes_on (λ e. absurd (no_false e)) (λ e. absurd (no_false e)) (omega (arith, few)) refl (λ sign m. refl)
+    begins_end q true is_within word.Endif first.sign first.word all c (conditionals (x ∷ inside)) among (conditionals inside) among true declared places last is.begins is.is is.goes_on (λ e. absurd (no_false e)) (λ e. absurd (no_false e)) (omega (arith, few)) refl (λ sign m. refl)
     (ended inside between si sb refl)
-closes_left r true is_within first all (InnerLeft (y ∷ deep) x inside between gone si sb) declared n v c places last holds waits few_st few left none is still ended =
+closes_left r q true is_within first all (InnerLeft (y ∷ deep) x inside between gone si sb) declared n v c places last holds waits few_st few left none is still ended =
     let inner = conditionals (x ∷ inside) in
     let among = conditionals between in
     let m = length deep in
     let now = declared_first first declared in
-    begins_left r true is_within word.Endif m first.sign first.word all c inner among true (suc m) declared places last is.begins is.is is.goes_on (λ e. absurd (no_false e)) (omega (arith, few, few_st))
+    begins_left q true is_within word.Endif m first.sign first.word all c inner among true (suc m) declared places last is.begins is.is is.goes_on (λ e. absurd (no_false e)) (omega (arith, few, few_st))
     (ap (λ b. b && true) (eqb-suc-zero m)) (omega arith)
     (still (inner_not_kept deep x inside between gone) (at c inner among (left_at true m) now)
     (record { base = c; stand = InnerLeft deep x inside between gone si sb; holds = holds; waits = waits; is = refl; stack = refl; few = omega (arith, few_st) }))
-closes_left r is_inner is_within first all (OuterLeft [] x between gone sb) declared n v c places last holds waits few_st few left none is still ended =
+closes_left r q is_inner is_within first all (OuterLeft [] x between gone sb) declared n v c places last holds waits few_st few left none is still ended =
     let among = conditionals (x ∷ between) in
-    begins_end r is_inner is_within word.Endif first.sign first.word all c [] among [] (conditionals between) false declared places last is.begins is.is is.goes_on (λ _. (refl, refl)) (λ _. (refl, refl)) (omega (arith, few)) refl (λ sign m. refl)
+    begins_end q is_inner is_within word.Endif first.sign first.word all c [] among [] (conditionals between) false declared places last is.begins is.is is.goes_on (λ _. (refl, refl)) (λ _. (refl, refl)) (omega (arith, few)) refl (λ sign m. refl)
     (ended [] between refl sb refl)
-closes_left r is_inner is_within first all (OuterLeft (y ∷ deep) x between gone sb) declared n v c places last holds waits few_st few left none is still ended =
+closes_left r q is_inner is_within first all (OuterLeft (y ∷ deep) x between gone sb) declared n v c places last holds waits few_st few left none is still ended =
     let among = conditionals (x ∷ between) in
     let m = length deep in
     let now = declared_first first declared in
-    begins_left r is_inner is_within word.Endif m first.sign first.word all c [] among false (suc m) declared places last is.begins is.is is.goes_on (λ _. (refl, refl)) (omega (arith, few, few_st))
+    begins_left q is_inner is_within word.Endif m first.sign first.word all c [] among false (suc m) declared places last is.begins is.is is.goes_on (λ _. (refl, refl)) (omega (arith, few, few_st))
     (ap (λ b. b && true) (eqb-suc-zero m)) (omega arith)
     (still (not_kept deep x between gone) (at c [] among (left_at false m) now)
     (record { base = c; stand = OuterLeft deep x between gone sb; holds = holds; waits = waits; is = refl; stack = refl; few = omega (arith, few_st) }))
@@ -1358,7 +1358,7 @@ stands_so r st declared n v c = StandsAt r (last_at (stack_of st) declared n v) 
 stands : (r : Reader) (st : Stands) (declared n : ℕ) (v : List (List Conditional)) (c : Conditions) → Holds r c → c.waiting ≡ v → levels_of st ≤ n → stands_so r st declared n v c
 stands r st declared n v c holds waits few = record { base = c; stand = st; holds = holds; waits = waits; is = refl; stack = refl; few = few }
 
-told_so : (r : Reader) (all : List At) (c : Conditions) (tokens : List Spelled) (places told : List Place) (last : Last) → places ≡ told → Led r all c tokens places last → Led r all c tokens told last
+pub told_so : (r : Reader) (all : List At) (c : Conditions) (tokens : List Spelled) (places told : List Place) (last : Last) → places ≡ told → Led r all c tokens places last → Led r all c tokens told last
 told_so r all c tokens places told last e is = subst (λ ps. Led r all c tokens ps last) e is
 
 -- Plain tokens
@@ -1510,7 +1510,7 @@ last_declared : (first : First) (tokens : List At) (end : At) (declared : ℕ) �
 last_declared first tokens end declared =
     sym (declared_both tokens (end ∷ []) (declared_first first declared)) ∙ declared_behind_first first (tokens ++ end ∷ []) declared
 
-calm_open : (is_inner : Bool) (inside between : List Open) → NoneInside is_inner (record { inside = inside; between = between }) → Calm is_inner (conditionals inside) None
+pub calm_open : (is_inner : Bool) (inside between : List Open) → NoneInside is_inner (record { inside = inside; between = between }) → Calm is_inner (conditionals inside) None
 calm_open is_inner inside between none e = (ap conditionals (none_open is_inner (record { inside = inside; between = between }) none e), refl)
 
 -- with the parts that are read
@@ -1569,7 +1569,7 @@ ending_kept w act e begins_so last_led d is_inner first parts end leads r declar
     (λ base bw bi bb. last_led r is_inner first end l.around.inside l.around.between l.declared m v (record base { pending = c.pending; conditions = c.conditions }) (holds_on r c base holds) bw bi bb are.1.1.1) in
     relaxed r (directive_tokens first tokens end) (at c inner among_now None declared) [] places (ended_in end.ended (act l.around)) (declared_behind end l.declared) (declared_tokens (directive_tokens first tokens end) declared) m m v
     (last_declared first tokens end declared) (omega arith)
-    (begins_kept r is_inner w a first.sign first.word (tokens ++ end ∷ []) c c inner among_now declared places last holds are.0.begins are.0.is are.0.goes_on
+    (begins_kept r r is_inner w a first.sign first.word (tokens ++ end ∷ []) c c inner among_now declared places last holds are.0.begins are.0.is are.0.goes_on
     (λ x. begins_so first.word.token place is_inner (at c inner among_now None x)) (calm_open is_inner inside between are.1.0) rest)
 
 ending_left : (w : ConditionalWord) (act : Around → Around) → LeftLed w act
@@ -1590,7 +1590,7 @@ ending_left w act left_word d is_inner first parts end leads r st declared n v c
     let none_lone : [] ≡ alone = sym (no_lone w first end s left) in
     let places = lone_parts d x parts ++ alone in
     let adds = are.1.1.0.1 in
-    let still : all_kept x ≡ false → Further r (tokens ++ end ∷ []) places (last_at x now n v) last = λ gone m e.
+    let still : all_kept x ≡ false → Further r r (tokens ++ end ∷ []) places (last_at x now n v) last = λ gone m e.
     left_led d parts leads r (end ∷ []) x now n v m alone last e (among_left d (within r) x now parts gone are.1.1.0.0) adds.1 (omega (arith, few, less, sum))
     (λ m2 e2. left_token r true end [] l.around l.declared l.levels v m2 [] alone last e2 (adds.0 ∙ gone) (semicolon_plain false true end are.1.1.1) (omega (arith, few, less, sum))
     (λ m3 e3. told_so r [] m3 [] [] alone last none_lone (rests r m3 last e3))) in
@@ -1611,7 +1611,7 @@ ending_left w act left_word d is_inner first parts end leads r st declared n v c
     (ended_stands r end.ended (AllStay l.around.inside l.around.between bi bb) l.declared l.levels v after (holds_on r c base holds) bw (omega arith)))) in
     relaxed r (directive_tokens first tokens end) (stands_at c st declared) [] places (ended_in end.ended l.around) (declared_behind end l.declared) (declared_tokens (directive_tokens first tokens end) declared) l.levels (n + length (directive_tokens first tokens end)) v
     (last_declared first tokens end declared) (omega (arith, less, sum))
-    (left_word r is_inner (within r) first (tokens ++ end ∷ []) st declared n v c places last holds waits few_st (omega (arith, few, less, sum)) left are.1.0 are.0 still ended)
+    (left_word r r is_inner (within r) first (tokens ++ end ∷ []) st declared n v c places last holds waits few_st (omega (arith, few, less, sum)) left are.1.0 are.0 still ended)
 
 turning_leads : (d : Answers) (is_inner : Bool) (first : First) (parts : Parts) (end : At) → Leads d parts → StandLeads d (Turning is_inner first parts end)
 turning_leads d is_inner first parts end leads r st declared n v c holds waits few_st are takes few = go (all_kept (stack_of st)) refl are
@@ -1714,7 +1714,7 @@ asking_kept d is_inner wanted first parts end leads r declared n v c holds waits
     relaxed r (directive_tokens first tokens end) (at c inner among_now None declared) [] (lone_parts d s parts) last.around (declared_behind end l.declared) (declared_tokens (directive_tokens first tokens end) declared) m m v
     (last_declared first tokens end declared) (omega arith)
     (told_so r (directive_tokens first tokens end) (at c inner among_now None declared) [] places (lone_parts d s parts) last (append-nil (lone_parts d s parts))
-    (begins_kept r is_inner (asking wanted) a first.sign first.word (tokens ++ end ∷ []) c (with_condition begun_so c) inner among_now declared places last holds are.0.begins are.0.is are.0.goes_on
+    (begins_kept r r is_inner (asking wanted) a first.sign first.word (tokens ++ end ∷ []) c (with_condition begun_so c) inner among_now declared places last holds are.0.begins are.0.is are.0.goes_on
     (λ x. begun_asking is_inner wanted first.word.token place c inner among_now x condition.begins) (calm_open is_inner inside between are.1.0) rest))
 
 asking_left : (d : Answers) (is_inner wanted : Bool) (first : First) (parts : Parts) (end : At) → Leads d parts → (r : Reader) (st : Stands) (declared n : ℕ) (v : List (List Conditional)) (c : Conditions) → Holds r c → c.waiting ≡ v → levels_of st ≤ n
@@ -1735,7 +1735,7 @@ asking_left d is_inner wanted first parts end leads r st declared n v c holds wa
     relaxed r toks (stands_at c st declared) [] (lone_parts d x parts) (ended_in end.ended l.around) (declared_behind end l.declared) (declared_tokens toks declared) l.levels (n + length toks) v
     (last_declared first tokens end declared) (omega (arith, less, sum))
     (told_so r toks (stands_at c st declared) [] places (lone_parts d x parts) last (append-nil (lone_parts d x parts))
-    (opens_left r is_inner (within r) (asking wanted) first (tokens ++ end ∷ []) more st declared n v c places last holds waits few_st (omega (arith, few, less, sum)) left are.1.0 are.0 (λ m b. asking_stays wanted m b) (asking_level wanted)
+    (opens_left r r is_inner (within r) (asking wanted) first (tokens ++ end ∷ []) more st declared n v c places last holds waits few_st (omega (arith, few, less, sum)) left are.1.0 are.0 (λ m b. asking_stays wanted m b) (asking_level wanted)
     (λ m e.
     left_led d parts leads r (end ∷ []) x now (n + 1) v m [] last e (among_left d (within r) x now parts gone are.1.1.0.0) are.1.1.1.1.0 (omega (arith, few, less, sum))
     (λ m2 e2. left_token r true end [] l.around l.declared l.levels v m2 [] [] last e2 (are.1.1.0.1 ∙ gone) are.1.1.1.0 (omega (arith, few, less, sum))
@@ -1850,7 +1850,7 @@ opening_kept d is_inner if_declared first before name behind end leads_before le
     (takes_none (kept_sides d s before) (Reads p_name c.pending c.conditions) adds.1) (reads_none (kept_sides d s before) (Reads p_name c.pending c.conditions) adds.1) (omega (arith, few, less, sum)) further in
     relaxed r toks (at c inner among_now None declared) [] places last.around (declared_behind end l2.declared) (declared_tokens toks declared) m m v
     (opening_declared first before name behind end declared) (omega arith)
-    (begins_kept r is_inner (opening if_declared) waits_name first.sign first.word (all_tokens before ++ name ∷ rest_behind) c c inner among_now declared places last holds are.0.begins are.0.is are.0.goes_on
+    (begins_kept r r is_inner (opening if_declared) waits_name first.sign first.word (all_tokens before ++ name ∷ rest_behind) c c inner among_now declared places last holds are.0.begins are.0.is are.0.goes_on
     (λ x. begun_opening is_inner if_declared first.word.token place (at c inner among_now None x)) (calm_open is_inner inside between are.1.0) rest)
 
 opening_left : (d : Answers) (is_inner if_declared : Bool) (first : First) (before : Parts) (name : At) (behind : Parts) (end : At) → Leads d before → Leads d behind → (r : Reader) (st : Stands) (declared n : ℕ) (v : List (List Conditional)) (c : Conditions)
@@ -1877,7 +1877,7 @@ opening_left d is_inner if_declared first before name behind end leads_before le
     let adds_behind = are.1.1.1.1.0.1 in
     let gone_behind : all_kept y ≡ false = are.1.1.1.0.1.1 ∙ gone in
     let name_is = are.1.1.1.0.0 in
-    let from_name : Further r (name ∷ rest_behind) places_behind l last = λ m e.
+    let from_name : Further r r (name ∷ rest_behind) places_behind l last = λ m e.
     left_token r true name rest_behind l.around l.declared l.levels v m [] places_behind last e (adds.0 ∙ gone) (name_plain true name name_is.is (name_is.no_word refl)) (omega (arith, few, less, sum))
     (λ m2 e2.
     told_so r rest_behind m2 [] (places_behind ++ []) places_behind last (append-nil places_behind)
@@ -1886,7 +1886,7 @@ opening_left d is_inner if_declared first before name behind end leads_before le
     (λ m4 e4. rests r m4 last e4)))) in
     relaxed r toks (stands_at c st declared) [] places (ended_in end.ended l2.around) (declared_behind end l2.declared) (declared_tokens toks declared) l2.levels (n + length toks) v
     (opening_declared first before name behind end declared) (omega (arith, less, sum, sum_behind))
-    (opens_left r is_inner (within r) (opening if_declared) first (all_tokens before ++ name ∷ rest_behind) more st declared n v c places last holds waits few_st (omega (arith, few, less, sum)) left are.1.0 are.0 (λ m b. opening_stays if_declared m b) (opening_level if_declared)
+    (opens_left r r is_inner (within r) (opening if_declared) first (all_tokens before ++ name ∷ rest_behind) more st declared n v c places last holds waits few_st (omega (arith, few, less, sum)) left are.1.0 are.0 (λ m b. opening_stays if_declared m b) (opening_level if_declared)
     (λ m e. left_led d before leads_before r (name ∷ rest_behind) x now (n + 1) v m places_behind last e (among_left d (within r) x now before gone are.1.1.0.0) adds.1 (omega (arith, few, less, sum)) from_name))
 
 opening_leads : (d : Answers) (is_inner if_declared : Bool) (first : First) (before : Parts) (name : At) (behind : Parts) (end : At) → Leads d before → Leads d behind → StandLeads d (Opening is_inner if_declared first before name behind end)
@@ -1901,7 +1901,7 @@ opening_leads d is_inner if_declared first before name behind end leads_before l
 -- A word alone in a side that is left out
 
 passes_on : (r : Reader) (first : First) (st : Stands) (s : Around) (declared n m : ℕ) (v : List (List Conditional)) (c : Conditions) → m ≤ n + length (first_tokens first [])
-    → (Further r [] [] (last_at s (declared_first first declared) m v) (last_at s (declared_first first declared) m v) → Led r (first_tokens first []) (stands_at c st declared) [] [] (last_at s (declared_first first declared) m v))
+    → (Further r r [] [] (last_at s (declared_first first declared) m v) (last_at s (declared_first first declared) m v) → Led r (first_tokens first []) (stands_at c st declared) [] [] (last_at s (declared_first first declared) m v))
     → Led r (first_tokens first []) (stands_at c st declared) [] [] (last_at s (declared_tokens (first_tokens first []) declared) (n + length (first_tokens first [])) v)
 passes_on r first st s declared n m v c few led =
     let last = last_at s (declared_first first declared) m v in
@@ -1916,7 +1916,7 @@ passed_ending w act left_word r is_inner first st declared n v c holds waits few
     let last = last_at s (declared_first first declared) n v in
     let less = fewer first [] in
     passes_on r first st s declared n n v c (omega arith)
-    (λ further. left_word r is_inner (within r) first [] st declared n v c [] last holds waits few_st (omega (arith, few, less)) are.1.1.0 are.1.0 are.0 (λ _. further)
+    (λ further. left_word r r is_inner (within r) first [] st declared n v c [] last holds waits few_st (omega (arith, few, less)) are.1.1.0 are.1.0 are.0 (λ _. further)
     (λ inside between si sb is. absurd (let never : true ≡ false = sym (both_kept inside between si sb) ∙ ap all_kept is ∙ are.1.1.1 in cc)))
 
 passed_opening : (w : ConditionalWord) → ((m : ℕ) (b : Bool) → ends_side b m (Some w) ≡ false) → ((m : ℕ) → level_behind (Some w) m ≡ suc m)
@@ -1929,7 +1929,7 @@ passed_opening w stays level r is_inner first st declared n v c holds waits few_
     let last = last_at s (declared_first first declared) (n + 1) v in
     let less = fewer first [] in
     passes_on r first st s declared n (n + 1) v c (omega (arith, less))
-    (λ further. opens_left r is_inner (within r) w first [] more st declared n v c [] last holds waits few_st (omega (arith, few, less)) are.1.1.0 are.1.0 are.0 stays level further)
+    (λ further. opens_left r r is_inner (within r) w first [] more st declared n v c [] last holds waits few_st (omega (arith, few, less)) are.1.1.0 are.1.0 are.0 stays level further)
 
 passed_leads : (d : Answers) (is_inner : Bool) (w : ConditionalWord) (first : First) → StandLeads d (Passed is_inner w first)
 passed_leads d is_inner word.Ifnot first r st declared n v c holds waits few_st are takes few = passed_ending word.Ifnot turned turns_left r is_inner first st declared n v c holds waits few_st are few
@@ -2005,7 +2005,7 @@ pub record AreOpen (last : Around) (inner among : List Conditional) : Type 0 whe
   pub inside : inner ≡ conditionals (outer last.inside)
   pub between : among ≡ conditionals (outer last.between)
 
-are_open : (st : Stands) → AreOpen (stack_of st) (inner_of st) (among_of st)
+pub are_open : (st : Stands) → AreOpen (stack_of st) (inner_of st) (among_of st)
 are_open (AllStay inside between si sb) = record { inside = sym (ap conditionals (outer_kept inside si)); between = sym (ap conditionals (outer_kept between sb)) }
 are_open (InnerLeft deep x inside between left si sb) = record { inside = sym (ap conditionals (outer_left deep x inside left si)); between = sym (ap conditionals (outer_kept between sb)) }
 are_open (OuterLeft deep x between left sb) = record { inside = refl; between = sym (ap conditionals (outer_left deep x between left sb)) }

@@ -14,6 +14,7 @@ pub mod KeptTurns
 pub mod LoneEnds
 pub mod InnerSides
 pub mod KeptSides
+pub mod Unfinished
 pub mod IncludedFiles
 pub mod SideTurns
 pub mod Hashes

@@ -6,13 +6,16 @@ use Rattle.inf_sources.specs.Inclusions.{Inclusion, Opens, OpensNone, inclusion}
 use Rattle.inf_unit.specs.Directives.{Asked, End, Include, Nothing}
 use Rattle.inf_unit.specs.Messages.{FileNames, Reported}
 use Rattle.inf_unit.specs.Tokens.{Spelled, is_end}
+use Rattle.inf_conditionals.specs.declared.judged.Handed.{Handed}
+use Rattle.inf_conditionals.specs.declared.judged.Handed.TheVariants as handed
 use Rattle.inf_conditionals.specs.declared.open.Conditional.{Conditional}
 use Rattle.inf_conditionals.specs.Ends.{file_entered, file_left, file_told}
 use Rattle.inf_conditionals.specs.Open.{Conditions, most_levels, silent}
 use Rattle.inf_reader.specs.Reading.{is_mode_ended}
 use Rattle.inf_session.specs.Choices.{Choices}
 use Rattle.inf_session.specs.Session.{State, file_closed, stepped, token_of, turn}
-use Rattle.inf_laws.specs.KeptSides.{Answers, AreParts, Around, At, Handing, IsClear, IsPlain, Parts, all_behind, all_kept, all_tokens, as_kept, behind_parts, ended_behind, ended_in, handed_on, judged_at, kept_sides, lone_parts, lone_places, none_around, unended}
+use Rattle.inf_laws.specs.KeptSides.{Answers, AreParts, Around, At, Handing, IsClear, IsPlain, Parts, all_behind, all_kept, all_tokens, as_kept, behind_parts, declared_tokens, ended_behind, ended_in, handed_on, judged_at, kept_sides, lone_parts, lone_places, none_around, unended}
+use Rattle.inf_laws.specs.Unfinished.{HaveBegun, IsMisfit, Misfit, Unfinished, all_begun_tokens, behind_all_begun, behind_misfit, handed_misfit, lone_all_begun, misfit_tokens}
 use Rattle.inf_laws.specs.KeptTurns.{given_in, turned}
 use Rattle.inf_laws.specs.MissingEnds.{with_all_at}
 use Rattle.inf_laws.specs.SideTurns.{at_turn, shown}
@@ -69,14 +72,20 @@ unended_by (x ∷ steps) c = told_behind x.passage (judged_at x.at c).now ++ une
 
 -- Files
 
--- What is still to come of a file: no inclusion; or parts of it, the token with which an included file is entered, what that has, the token at
--- its end, and what comes behind.
+-- What is still to come of a file: no more than parts; or parts and a conditional directive that the end of the file cuts; or parts, one that a token cuts, this
+-- token, and what comes behind it; or parts, the token with which an included file is entered, what that has, the token at its end, and what comes
+-- behind.
 pub data Files : Type 0 where
   Alone : (parts : Parts) → Files
+  Cut : (parts : Parts) (outer : List Unfinished) (u : Unfinished) → Files
+  Breaking : (parts : Parts) (outer : List Unfinished) (u : Unfinished) (misfit : Misfit) (behind : Files) → Files
   Including : (parts : Parts) (entering : At) (included : Files) (leaving : At) (behind : Files) → Files
 
 abbrev pub steps : Files → List Step
 steps (Alone parts) = map staying (all_tokens parts)
+steps (Cut parts outer u) = map staying (all_tokens parts) ++ map staying (all_begun_tokens outer u)
+steps (Breaking parts outer u misfit behind) =
+    map staying (all_tokens parts) ++ (map staying (all_begun_tokens outer u) ++ (map staying (misfit_tokens misfit) ++ steps behind))
 steps (Including parts entering included leaving behind) =
     map staying (all_tokens parts) ++ record { at = entering; passage = Enters } ∷ (steps included ++ record { at = leaving; passage = Leaves } ∷ steps behind)
 
@@ -87,20 +96,42 @@ around_included entering s = ended_in entering.ended (record s { between = [] })
 abbrev pub around_behind : Around → Around
 around_behind s = record s { inside = [] }
 
+-- what is open behind a token that cuts a directive: that has not acted
+abbrev pub around_broken : Answers → Around → Parts → List Unfinished → Unfinished → Misfit → Around
+around_broken answers s parts outer u misfit = behind_misfit misfit (behind_all_begun answers (behind_parts answers s parts) outer u)
+
 -- what is open at the end of a file
 abbrev pub behind_files : Answers → Around → Files → Around
 behind_files answers s (Alone parts) = behind_parts answers s parts
+behind_files answers s (Cut parts outer u) = behind_all_begun answers (behind_parts answers s parts) outer u
+behind_files answers s (Breaking parts outer u misfit behind) = behind_files answers (around_broken answers s parts outer u misfit) behind
 behind_files answers s (Including parts entering included leaving behind) = behind_files answers (around_behind (behind_parts answers s parts)) behind
 
--- the tokens that are kept: of each file those that its own conditionals keep, with the end of each included one
-abbrev pub kept_files : Answers → Around → Files → List Spelled
-kept_files answers s (Alone parts) = kept_sides answers s parts
-kept_files answers s (Including parts entering included leaving behind) =
-    kept_sides answers s parts
-    ++ entering.token ∷ (kept_files answers (around_included entering (behind_parts answers s parts)) included ++ leaving.token ∷ kept_files answers (around_behind (behind_parts answers s parts)) behind)
+-- the end of a file is kept, but where it cuts a directive it does not fit
+abbrev pub end_handed : Files → Handed
+end_handed (Alone parts) = handed.Kept
+end_handed (Cut parts outer u) = handed.Unfit
+end_handed (Breaking parts outer u misfit behind) = end_handed behind
+end_handed (Including parts entering included leaving behind) = end_handed behind
+
+-- the tokens that are handed on: of each file those that its own conditionals keep, and those that cut a directive, with the end of each included one
+abbrev pub handed_files : Answers → Around → Files → List Handing
+handed_files answers s (Alone parts) = map as_kept (kept_sides answers s parts)
+handed_files answers s (Cut parts outer u) = map as_kept (kept_sides answers s parts)
+handed_files answers s (Breaking parts outer u misfit behind) =
+    map as_kept (kept_sides answers s parts) ++ (handed_misfit misfit ++ handed_files answers (around_broken answers s parts outer u misfit) behind)
+handed_files answers s (Including parts entering included leaving behind) =
+    map as_kept (kept_sides answers s parts)
+    ++ as_kept entering.token
+    ∷ (handed_files answers (around_included entering (behind_parts answers s parts)) included
+    ++ record { handed = end_handed included; token = leaving.token } ∷ handed_files answers (around_behind (behind_parts answers s parts)) behind)
 
 abbrev pub lone_files : Answers → Around → Files → List Place
 lone_files answers s (Alone parts) = lone_parts answers s parts
+lone_files answers s (Cut parts outer u) = lone_parts answers s parts ++ lone_all_begun answers (behind_parts answers s parts) outer u
+lone_files answers s (Breaking parts outer u misfit behind) =
+    lone_parts answers s parts
+    ++ (lone_all_begun answers (behind_parts answers s parts) outer u ++ lone_files answers (around_broken answers s parts outer u misfit) behind)
 lone_files answers s (Including parts entering included leaving behind) =
     lone_parts answers s parts
     ++ (lone_files answers (around_included entering (behind_parts answers s parts)) included ++ lone_files answers (around_behind (behind_parts answers s parts)) behind)
@@ -111,6 +142,8 @@ all_unended s = unended s.inside ++ unended s.between
 
 abbrev pub unended_files : Answers → Around → Files → List Place
 unended_files answers s (Alone parts) = []
+unended_files answers s (Cut parts outer u) = []
+unended_files answers s (Breaking parts outer u misfit behind) = unended_files answers (around_broken answers s parts outer u misfit) behind
 unended_files answers s (Including parts entering included leaving behind) =
     unended_files answers (around_included entering (behind_parts answers s parts)) included
     ++ (all_unended (behind_files answers (around_included entering (behind_parts answers s parts)) included) ++ unended_files answers (around_behind (behind_parts answers s parts)) behind)
@@ -130,6 +163,14 @@ pub record IsIncluded (s : Around) (entering leaving : At) : Type 0 where
 
 abbrev pub AreFiles : Answers → Around → Conditions → Files → Type 0
 AreFiles answers s c (Alone parts) = AreOfAFile answers s c.declared parts
+AreFiles answers s c (Cut parts outer u) =
+    AreOfAFile answers s c.declared parts
+    × HaveBegun answers (behind_parts answers s parts) (declared_tokens (all_tokens parts) c.declared) (length (all_tokens parts)) outer u
+AreFiles answers s c (Breaking parts outer u misfit behind) =
+    AreOfAFile answers s c.declared parts
+    × (HaveBegun answers (behind_parts answers s parts) (declared_tokens (all_tokens parts) c.declared) (length (all_tokens parts)) outer u
+    × (IsMisfit answers (behind_parts answers s parts) outer u misfit
+    × AreFiles answers (around_broken answers s parts outer u misfit) (all_behind (misfit_tokens misfit) (all_behind (all_begun_tokens outer u) (all_behind (all_tokens parts) c))) behind))
 AreFiles answers s c (Including parts entering included leaving behind) =
     AreOfAFile answers s c.declared parts
     × (IsIncluded (behind_parts answers s parts) entering leaving
@@ -137,9 +178,9 @@ AreFiles answers s c (Including parts entering included leaving behind) =
     × AreFiles answers (around_behind (behind_parts answers s parts))
     (step_behind (record { at = leaving; passage = Leaves }) (steps_behind (steps included) (step_behind (record { at = entering; passage = Enters }) (all_behind (all_tokens parts) c)))) behind))
 
--- Just these tokens are handed on, each as one that is kept, and just these places are told; at the end of the outermost file those of what is open in it.
+-- Just these tokens are handed on, each as one that is kept or as one that does not fit, and just these places are told; at the end of the outermost file those of what is open in it.
 pub record KeepsFiles (answers : Answers) (files : Files) (c : Conditions) : Type 0 where
-  pub handed_on : handed_by (steps files) c ≡ map as_kept (kept_files answers none_around files)
+  pub handed_on : handed_by (steps files) c ≡ handed_files answers none_around files
   pub lone : lone_by (steps files) c ≡ lone_files answers none_around files
   pub unended : unended_by (steps files) c ≡ unended_files answers none_around files
   pub at_last : (end : At) → is_end end.token.kind ≡ true
@@ -174,7 +215,7 @@ steps_at sources o (suc n) s = step_at sources o s ∷ steps_at sources o n (tur
 
 -- Turns whose steps are those of files keep what these keep. The end of a file tells what is told behind its step, in this order, after all else.
 pub record TurnsKeep (answers : Answers) (sources : Sources) (o : Choices) (n : ℕ) (s : State) (files : Files) : Type 0 where
-  pub handed_on : map shown (given_in sources o n s) ≡ map as_kept (kept_files answers none_around files)
+  pub handed_on : map shown (given_in sources o n s) ≡ handed_files answers none_around files
   pub at_last : let last = stepped (turned sources o n s) in is_end (token_of (turned sources o n s).nesting.cursor).kind ≡ true
       → (file_closed last).work.report ≡ with_all_at last.nesting.names (all_unended (behind_files answers none_around files)) last.work.report
 

@@ -12,6 +12,7 @@ pub mod KeptTurns
 pub mod LoneEnds
 pub mod InnerSides
 pub mod KeptSides
+pub mod Unfinished
 pub mod SideTurns
 pub mod IncludedFiles
 pub mod Hashes

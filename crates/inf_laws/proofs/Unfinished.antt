@@ -1,0 +1,476 @@
+-- Conditional directives that are not whole.
+use Rattle.std.proofs.Common.{◌≡◌, ℕ, zero, suc, ◌+◌, ◌≤◌, List, [], ◌∷◌, ◌++◌, length, cond, ◌&&◌, Bool, true, false, Option, Some, None, unwrap_or, refl, sym, ap, subst, ◌∙◌, append_assoc, arith}
+use Rattle.std.proofs.Math.Bool.{and-false}
+use Rattle.std.proofs.lemmas.List.{append-nil}
+use Rattle.inf_output.specs.Output.{Out}
+use Rattle.inf_scanner.specs.declared.tokens.Mark.TheVariants as mark
+use Rattle.inf_scanner.specs.declared.tokens.Place.{Place}
+use Rattle.inf_scanner.specs.declared.tokens.TokenKind.{TokenKind}
+use Rattle.inf_scanner.specs.declared.tokens.TokenKind.TheVariants as kind
+use Rattle.inf_machine.specs.Machine.{fits}
+use Rattle.inf_grammar.specs.Language.{grammar, known}
+use Rattle.inf_unit.specs.Tokens.{Spelled, is_end, is_mark}
+use Rattle.inf_conditionals.specs.Atoms.{atom_of}
+use Rattle.inf_conditionals.specs.Condition.{Condition, condition_begun, condition_took}
+use Rattle.inf_conditionals.specs.declared.judged.Handed.TheVariants as handed
+use Rattle.inf_conditionals.specs.declared.open.Conditional.{Conditional}
+use Rattle.inf_conditionals.specs.declared.pending.Awaits.{Awaits}
+use Rattle.inf_conditionals.specs.declared.pending.Awaits.TheVariants as awaits
+use Rattle.inf_conditionals.specs.declared.pending.Effect.{Effect}
+use Rattle.inf_conditionals.specs.declared.pending.Effect.TheVariants as effect
+use Rattle.inf_conditionals.specs.declared.pending.Pending.{Pending}
+use Rattle.inf_conditionals.specs.declared.words.ConditionalWord.{ConditionalWord}
+use Rattle.inf_conditionals.specs.declared.words.ConditionalWord.TheVariants as word
+use Rattle.inf_conditionals.specs.Judging.{Behind, behind_sign, begun, is_none_pending, effected, is_kept, kept, held, named, none_handed, awaiting, passed, unfit, went_on}
+use Rattle.inf_conditionals.specs.Open.{Conditions, most_levels}
+use Rattle.inf_conditionals.proofs.Misfits.{end_fits_nothing}
+use Rattle.inf_laws.specs.KeptSides.{AddsNone, Answers, AreParts, Around, At, First, IsFirst, IsSignedPlain, NoneInside, Open, Parts, all_behind, all_handed_on, all_kept, all_lone_places, all_tokens, are_kept, asking, before_parts, begins, behind_name, behind_parts, closed, condition_behind, declared_behind, declared_first, declared_tokens, ended_behind, ended_in, first_tokens, judged_at, kept_sides, lone_parts, opening, placed_word, turned}
+use Rattle.inf_laws.specs.Unfinished.{Asked, AreBegun, AreCutBy, Closes, GoOn, IsBegun, IsCutBy, Named, Turns, Unfinished, Unnamed, all_begun_tokens, behind_all_begun, behind_begun, begun_tokens, condition_so, lone_all_begun, lone_begun}
+use Rattle.inf_laws.proofs.KeptSides.{AllStay, Holds, InnerLeft, Last, Leads, LeftLed, Led, OuterLeft, Reader, Reads, Stands, StandsAt, TakesAll, at, awaits_it, begins_kept, begun_asking, begun_opening, behind_both, both_kept, calm_open, closes_left, conditionals, declared_behind_first, declared_both, directive, ended_stands, fewer, hands_both, inner_not_kept, kept_at, last_at, last_behind, led, length_both, name_kept, not_kept, nothing_handed, passes, read_condition, read_on, reading, reads_none, relaxed, rests, sign_inner, stack_of, stands_at, state, takes_none, tells_both, told_so, turns_left, with_condition, within, within_led}
+
+-- what the innermost one waits for
+abbrev IsAwaited : Unfinished → Awaits → Type 0
+IsAwaited (Unnamed is_inner if_declared first before) a = a ≡ awaits.Name if_declared
+IsAwaited (Named is_inner if_declared first before name behind) a = (e : Effect) × (a ≡ awaits.End e)
+IsAwaited (Asked is_inner wanted first parts) a = a ≡ awaits.Condition wanted
+IsAwaited (Turns is_inner first parts) a = (e : Effect) × (a ≡ awaits.End e)
+IsAwaited (Closes is_inner first parts) a = (e : Effect) × (a ≡ awaits.End e)
+
+-- and its condition
+abbrev HasCondition : Answers → Around → Unfinished → List Condition → Type 0
+HasCondition d s (Asked is_inner wanted first parts) ks = (others : List Condition) × (ks ≡ condition_so first (kept_sides d s parts) ∷ others)
+HasCondition d s u ks = Unit {0}
+
+abbrev begun_last : Answers → Unfinished → Around → ℕ → ℕ → List (List Conditional) → Last
+begun_last d u s declared n v = last_at (behind_begun d s u) (declared_tokens (begun_tokens u) declared) (n + length (begun_tokens u)) v
+
+record Begun (d : Answers) (u : Unfinished) (s : Around) (last : Last) (toks : List At) (places : List Place) (c : Conditions) : Type 0 where
+  p : Pending
+  others : List Pending
+  ks : List Condition
+  led : Led (Reads p others ks) toks c [] places last
+  stays : all_kept last.around ≡ true
+  waits_for : IsAwaited u p.awaits
+  condition : HasCondition d s u ks
+
+-- where all is kept
+record KeptSo (r : Reader) (last : Last) (c : Conditions) : Type 0 where
+  base : Conditions
+  inside_kept : are_kept last.around.inside ≡ true
+  between_kept : are_kept last.around.between ≡ true
+  holds : Holds r base
+  waits : base.waiting ≡ last.waiting
+  is : c ≡ at base (conditionals last.around.inside) (conditionals last.around.between) None last.declared
+
+kept_so : (r : Reader) (last : Last) (c : Conditions) → StandsAt r last c → all_kept last.around ≡ true → KeptSo r last c
+kept_so r last c e all = go e.stand e.stack e.is
+  where
+    go : (st : Stands) → stack_of st ≡ last.around → c ≡ stands_at e.base st last.declared → KeptSo r last c
+    go (AllStay inside between si sb) stack is = record {
+      base = e.base;
+      inside_kept = ap (λ (x : Around). are_kept x.inside) (sym stack) ∙ si;
+      between_kept = ap (λ (x : Around). are_kept x.between) (sym stack) ∙ sb;
+      holds = e.holds;
+      waits = e.waits;
+      is = is ∙ ap (λ (x : Around). at e.base (conditionals x.inside) (conditionals x.between) None last.declared) stack;
+    }
+    go (InnerLeft deep x inside between left si sb) stack is =
+        absurd (let never : true ≡ false = sym all ∙ ap all_kept (sym stack) ∙ inner_not_kept deep x inside between left in cc)
+    go (OuterLeft deep x between left sb) stack is =
+        absurd (let never : true ≡ false = sym all ∙ ap all_kept (sym stack) ∙ not_kept deep x between left in cc)
+
+-- a name leaves it so
+name_stays : (e : Option ℕ) (s : Around) → all_kept s ≡ true → all_kept (ended_in e s) ≡ true
+name_stays None s all = all
+name_stays (Some now) s all = go (are_kept s.inside) all
+  where
+    go : (b : Bool) → b && are_kept s.between ≡ true → are_kept s.between ≡ true
+    go true e = e
+    go false e = cc
+
+-- parts that are read
+parts_read : (d : Answers) (parts : Parts) (p : Pending) (others : List Pending) (ks after : List Condition) (s : Around) (declared n : ℕ) (v : List (List Conditional)) (c : Conditions)
+    → StandsAt (Reads p others ks) (last_at s declared n v) c → AreParts d true s declared parts → TakesAll (Reads p others ks) (kept_sides d s parts)
+    → read_on (kept_sides d s parts) (Reads p others ks) ≡ Reads p others after → n + length (all_tokens parts) ≤ most_levels
+    → Led (Reads p others after) (all_tokens parts) c [] (lone_parts d s parts) (last_behind d parts s declared n v)
+parts_read d parts p others ks after s declared n v c e are takes read few =
+    let l = last_behind d parts s declared n v in
+    let is = led d parts (Reads p others ks) s declared n v c e are takes few in
+    record {
+      hands = is.hands ∙ nothing_handed (kept_sides d s parts) p others ks;
+      tells = is.tells;
+      ends = subst (λ (q : Reader). StandsAt q l (all_behind (all_tokens parts) c)) read is.ends;
+    }
+
+-- a condition so far
+read_so : (tokens : List Spelled) (k : Condition) (is_inner wanted : Bool) (place : Place) (others : List Pending) (ks : List Condition) → GoOn tokens k
+    → TakesAll (Reads (directive is_inner place (awaits.Condition wanted)) others (k ∷ ks)) tokens
+read_so [] k is_inner wanted place others ks on = tt
+read_so (t ∷ tokens) k is_inner wanted place others ks on = ((on.0, on.1.0), read_so tokens (condition_took t k) is_inner wanted place others ks on.1.1)
+
+begun_declared : (first : First) (tokens : List At) (declared : ℕ) → declared_tokens tokens (declared_first first declared) ≡ declared_tokens (first_tokens first tokens) declared
+begun_declared first tokens declared = declared_behind_first first tokens declared
+
+-- A directive begins that is kept, and these parts come.
+begun_kept : (d : Answers) (parts : Parts) (r : Reader) (is_inner : Bool) (w : ConditionalWord) (a : Awaits) (first : First) (ks after : List Condition) (s : Around) (declared n : ℕ) (v : List (List Conditional)) (c base : Conditions)
+    → let p = directive is_inner (begins first) a in
+    Holds r base → base.waiting ≡ v → are_kept s.inside ≡ true → are_kept s.between ≡ true → c ≡ at base (conditionals s.inside) (conditionals s.between) None declared
+    → IsFirst true is_inner (within r) w first → NoneInside is_inner s
+    → ((m : ℕ) → begun w first.word.token (begins first) is_inner (at base (conditionals s.inside) (conditionals s.between) None m)
+    ≡ passed (reading is_inner (begins first) a (record base { conditions = ks }) (conditionals s.inside) (conditionals s.between) m))
+    → AreParts d true s (declared_first first declared) parts → TakesAll (Reads p base.pending ks) (kept_sides d s parts)
+    → read_on (kept_sides d s parts) (Reads p base.pending ks) ≡ Reads p base.pending after → n + length (first_tokens first (all_tokens parts)) ≤ most_levels
+    → Led (Reads p base.pending after) (first_tokens first (all_tokens parts)) c [] (lone_parts d s parts)
+    (last_at (behind_parts d s parts) (declared_tokens (first_tokens first (all_tokens parts)) declared) (n + length (first_tokens first (all_tokens parts))) v)
+begun_kept d parts r is_inner w a first ks after s declared n v c base holds waits si sb is is_first none begins_so are takes read few =
+    let p = directive is_inner (begins first) a in
+    let q = Reads p base.pending after in
+    let now = declared_first first declared in
+    let inner = conditionals s.inside in
+    let among = conditionals s.between in
+    let toks = first_tokens first (all_tokens parts) in
+    let l = last_behind d parts s now n v in
+    let less = fewer first (all_tokens parts) in
+    let start : StandsAt (Reads p base.pending ks) (last_at s now n v) (reading is_inner (begins first) a (record base { conditions = ks }) inner among now) =
+    record { base = awaits_it is_inner (begins first) a (record base { conditions = ks }); stand = AllStay s.inside s.between si sb; holds = (refl, refl); waits = waits; is = refl; stack = refl; few = omega arith } in
+    subst (λ (x : Conditions). Led q toks x [] (lone_parts d s parts) (last_at l.around (declared_tokens toks declared) (n + length toks) v)) (sym is)
+    (relaxed q toks (at base inner among None declared) [] (lone_parts d s parts) l.around l.declared (declared_tokens toks declared) l.levels (n + length toks) v (begun_declared first (all_tokens parts) declared) (omega (arith, less))
+    (begins_kept r q is_inner w a first.sign first.word (all_tokens parts) base (record base { conditions = ks }) inner among declared (lone_parts d s parts) l holds is_first.begins is_first.is is_first.goes_on begins_so
+    (calm_open is_inner s.inside s.between none)
+    (parts_read d parts p base.pending ks after s now n v (reading is_inner (begins first) a (record base { conditions = ks }) inner among now) start are takes read (omega (arith, few, less)))))
+
+-- or its word ends a side that was left out
+begun_left : (w : ConditionalWord) (act : Around → Around) → LeftLed w act → (d : Answers) (parts : Parts) (r : Reader) (is_inner : Bool) (first : First) (s : Around) (declared n : ℕ) (v : List (List Conditional)) (c : Conditions)
+    → (e : StandsAt r (last_at s declared n v) c) → all_kept s ≡ false → all_kept (act s) ≡ true → IsFirst false is_inner (within r) w first → NoneInside is_inner s
+    → AreParts d true (act s) (declared_first first declared) parts → kept_sides d (act s) parts ≡ [] → n + length (first_tokens first (all_tokens parts)) ≤ most_levels
+    → Led (Reads (directive false (begins first) (awaits.End effect.Nothing)) e.base.pending e.base.conditions) (first_tokens first (all_tokens parts)) c [] (lone_parts d (act s) parts)
+    (last_at (behind_parts d (act s) parts) (declared_tokens (first_tokens first (all_tokens parts)) declared) (n + length (first_tokens first (all_tokens parts))) v)
+begun_left w act left_word d parts r is_inner first s declared n v c e left all is_first none are kept_none few =
+    let base = e.base in
+    let st = e.stand in
+    let a = awaits.End effect.Nothing in
+    let p = directive false (begins first) a in
+    let q = Reads p base.pending base.conditions in
+    let x = act s in
+    let now = declared_first first declared in
+    let toks = first_tokens first (all_tokens parts) in
+    let l = last_behind d parts x now n v in
+    let places = lone_parts d x parts in
+    let less = fewer first (all_tokens parts) in
+    let same : act (stack_of st) ≡ x = ap act e.stack in
+    let kept_so = kept_sides d x parts in
+    subst (λ (y : Conditions). Led q toks y [] places (last_at l.around (declared_tokens toks declared) (n + length toks) v)) (sym e.is)
+    (relaxed q toks (stands_at base st declared) [] places l.around l.declared (declared_tokens toks declared) l.levels (n + length toks) v (begun_declared first (all_tokens parts) declared) (omega (arith, less))
+    (left_word r q is_inner (within r) first (all_tokens parts) st declared n v base places l e.holds e.waits e.few (omega (arith, few, less)) (ap all_kept e.stack ∙ left) (subst (NoneInside is_inner) (sym e.stack) none) is_first
+    (λ gone. absurd (let never : true ≡ false = sym all ∙ ap all_kept (sym same) ∙ gone in cc))
+    (λ inside between si sb is.
+    let start : StandsAt q (last_at x now n v) (reading false (begins first) a base (conditionals inside) (conditionals between) now) =
+    record { base = awaits_it false (begins first) a base; stand = AllStay inside between si sb; holds = (refl, refl); waits = e.waits; is = refl; stack = is ∙ same; few = omega arith } in
+    parts_read d parts p base.pending base.conditions base.conditions x now n v (reading false (begins first) a base (conditionals inside) (conditionals between) now) start are (takes_none kept_so q kept_none) (reads_none kept_so q kept_none)
+    (omega (arith, few, less)))))
+
+-- An `Ifnot` or an `Endif`
+
+record EndingLed (d : Answers) (parts : Parts) (x : Around) (last : Last) (toks : List At) (c : Conditions) : Type 0 where
+  p : Pending
+  others : List Pending
+  ks : List Condition
+  led : Led (Reads p others ks) toks c [] (lone_parts d x parts) last
+  waits_for : (e : Effect) × (p.awaits ≡ awaits.End e)
+
+ending_begun : (w : ConditionalWord) (act : Around → Around) (e : Effect) → ((t : Spelled) (place : Place) (is_inner : Bool) (c : Conditions) → begun w t place is_inner c ≡ passed (awaiting place is_inner (awaits.End e) c)) → LeftLed w act
+    → (d : Answers) (parts : Parts) (r : Reader) (is_inner : Bool) (first : First) (s : Around) (declared n : ℕ) (v : List (List Conditional)) (c : Conditions)
+    → StandsAt r (last_at s declared n v) c → (k : Bool) → all_kept s ≡ k → IsFirst k is_inner (within r) w first → NoneInside is_inner s → all_kept (cond k s (act s)) ≡ true
+    → AreParts d true (cond k s (act s)) (declared_first first declared) parts → kept_sides d (cond k s (act s)) parts ≡ [] → n + length (first_tokens first (all_tokens parts)) ≤ most_levels
+    → EndingLed d parts (cond k s (act s)) (last_at (behind_parts d (cond k s (act s)) parts) (declared_tokens (first_tokens first (all_tokens parts)) declared) (n + length (first_tokens first (all_tokens parts))) v) (first_tokens first (all_tokens parts)) c
+ending_begun w act eff begins_so left_word d parts r is_inner first s declared n v c e true all is_first none stays are kept_none few =
+    let k = kept_so r (last_at s declared n v) c e all in
+    let a = awaits.End eff in
+    let p = directive is_inner (begins first) a in
+    let tokens = kept_sides d s parts in
+    record {
+      p = p;
+      others = k.base.pending;
+      ks = k.base.conditions;
+      led = begun_kept d parts r is_inner w a first k.base.conditions k.base.conditions s declared n v c k.base k.holds k.waits k.inside_kept k.between_kept k.is is_first none
+          (λ m. begins_so first.word.token (begins first) is_inner (at k.base (conditionals s.inside) (conditionals s.between) None m)) are
+          (takes_none tokens (Reads p k.base.pending k.base.conditions) kept_none) (reads_none tokens (Reads p k.base.pending k.base.conditions) kept_none) few;
+      waits_for = (eff, refl);
+    }
+ending_begun w act eff begins_so left_word d parts r is_inner first s declared n v c e false left is_first none stays are kept_none few = record {
+  p = directive false (begins first) (awaits.End effect.Nothing);
+  others = e.base.pending;
+  ks = e.base.conditions;
+  led = begun_left w act left_word d parts r is_inner first s declared n v c e left stays is_first none are kept_none few;
+  waits_for = (effect.Nothing, refl);
+}
+
+-- Any of them
+
+begun_led : (d : Answers) (u : Unfinished) (r : Reader) (s : Around) (declared n : ℕ) (v : List (List Conditional)) (c : Conditions) → StandsAt r (last_at s declared n v) c → IsBegun d (within r) s declared u
+    → n + length (begun_tokens u) ≤ most_levels → Begun d u s (begun_last d u s declared n v) (begun_tokens u) (lone_begun d s u) c
+begun_led d (Unnamed is_inner if_declared first before) r s declared n v c e are few =
+    let all = are.1.1.0 in
+    let k = kept_so r (last_at s declared n v) c e all in
+    let a = awaits.Name if_declared in
+    let p = directive is_inner (begins first) a in
+    let tokens = kept_sides d s before in
+    let adds = are.1.1.1.1 in
+    record {
+      p = p;
+      others = k.base.pending;
+      ks = k.base.conditions;
+      led = begun_kept d before r is_inner (opening if_declared) a first k.base.conditions k.base.conditions s declared n v c k.base k.holds k.waits k.inside_kept k.between_kept k.is are.0 are.1.0
+          (λ m. begun_opening is_inner if_declared first.word.token (begins first) (at k.base (conditionals s.inside) (conditionals s.between) None m)) are.1.1.1.0
+          (takes_none tokens (Reads p k.base.pending k.base.conditions) adds.1) (reads_none tokens (Reads p k.base.pending k.base.conditions) adds.1) few;
+      stays = adds.0 ∙ all;
+      waits_for = refl;
+      condition = tt;
+    }
+begun_led d (Named is_inner if_declared first before name behind) r s declared n v c e are few =
+    let all = are.1.1.0 in
+    let k = kept_so r (last_at s declared n v) c e all in
+    let base = k.base in
+    let place = begins first in
+    let a = awaits.Name if_declared in
+    let now = declared_first first declared in
+    let inner = conditionals s.inside in
+    let among = conditionals s.between in
+    let tokens = kept_sides d s before in
+    let l = last_behind d before s now n v in
+    let y = behind_name d before name s in
+    let later = declared_behind name l.declared in
+    let l2 = last_behind d behind y later l.levels v in
+    let adds = are.1.1.1.0.1 in
+    let is_so = is_kept if_declared name.out l.declared name.token.bytes in
+    let waits_end = awaits.End (effect.Opens is_so) in
+    let p = directive is_inner place a in
+    let p_end = directive is_inner place waits_end in
+    let q = Reads p_end base.pending base.conditions in
+    let toks = begun_tokens (Named is_inner if_declared first before name behind) in
+    let places_behind = lone_parts d y behind in
+    let places = lone_parts d s before ++ places_behind in
+    let adds_behind = are.1.1.1.1.1.1 in
+    let less = fewer first (all_tokens before ++ name ∷ all_tokens behind) in
+    let sum = length_both (all_tokens before) (name ∷ all_tokens behind) in
+    let start = reading is_inner place a base inner among now in
+    let rest : Led q (all_tokens before ++ name ∷ all_tokens behind) start [] places l2 =
+    within_led d before (led d before) q (name ∷ all_tokens behind) is_inner place a base base.conditions base.conditions s now n v start places_behind l2
+    (record { base = awaits_it is_inner place a base; stand = AllStay s.inside s.between k.inside_kept k.between_kept; holds = (refl, refl); waits = k.waits; is = refl; stack = refl; few = omega arith })
+    all are.1.1.1.0.0 adds.0 (takes_none tokens (Reads p base.pending base.conditions) adds.1) (reads_none tokens (Reads p base.pending base.conditions) adds.1) (omega (arith, few, less, sum))
+    (λ more bw bi bb.
+    let after = record more { pending = base.pending; conditions = base.conditions } in
+    let i = conditionals l.around.inside in
+    let b = conditionals l.around.between in
+    let named_so = reading is_inner place waits_end after i b l.declared in
+    let there = ended_behind name.ended named_so in
+    let kept_behind = kept_sides d y behind in
+    passes q name (all_tokens behind) (reading is_inner place a after i b l.declared) named_so there [] places_behind l2 (name_kept is_inner if_declared place name after i b l.declared are.1.1.1.1.0) refl
+    (parts_read d behind p_end base.pending base.conditions base.conditions y later l.levels v there
+    (ended_stands q name.ended (AllStay l.around.inside l.around.between bi bb) l.declared l.levels v (awaits_it is_inner place waits_end after) (refl, refl) bw (omega arith))
+    are.1.1.1.1.1.0 (takes_none kept_behind q adds_behind.1) (reads_none kept_behind q adds_behind.1) (omega (arith, few, less, sum)))) in
+    let declared_so : l2.declared ≡ declared_tokens toks declared =
+    sym (declared_both (all_tokens before) (name ∷ all_tokens behind) now) ∙ declared_behind_first first (all_tokens before ++ name ∷ all_tokens behind) declared in
+    let behind_kept = kept_at p base.pending base.conditions in
+    record {
+      p = p_end;
+      others = base.pending;
+      ks = base.conditions;
+      led = subst (λ (x : Conditions). Led q toks x [] places (last_at l2.around (declared_tokens toks declared) (n + length toks) v)) (sym k.is)
+          (relaxed q toks (at base inner among None declared) [] places l2.around l2.declared (declared_tokens toks declared) l2.levels (n + length toks) v declared_so (omega (arith, less, sum))
+          (begins_kept r q is_inner (opening if_declared) a first.sign first.word (all_tokens before ++ name ∷ all_tokens behind) base base inner among declared places l2 k.holds are.0.begins are.0.is are.0.goes_on
+          (λ m. begun_opening is_inner if_declared first.word.token place (at base inner among None m)) (calm_open is_inner s.inside s.between are.1.0) rest));
+      stays = adds_behind.0 ∙ name_stays name.ended (behind_parts d s before) (adds.0 ∙ all);
+      waits_for = (effect.Opens is_so, refl);
+      condition = tt;
+    }
+begun_led d (Asked is_inner wanted first parts) r s declared n v c e are few =
+    let all = are.1.1.0 in
+    let k = kept_so r (last_at s declared n v) c e all in
+    let a = awaits.Condition wanted in
+    let p = directive is_inner (begins first) a in
+    let tokens = kept_sides d s parts in
+    let begun_so = condition_took (placed_word first) condition_begun in
+    let so_far = are.1.1.1.1 in
+    let ks = k.base.conditions in
+    record {
+      p = p;
+      others = k.base.pending;
+      ks = condition_so first tokens ∷ ks;
+      led = begun_kept d parts r is_inner (asking wanted) a first (begun_so ∷ ks) (condition_so first tokens ∷ ks) s declared n v c k.base k.holds k.waits k.inside_kept k.between_kept k.is are.0 are.1.0
+          (λ m. begun_asking is_inner wanted first.word.token (begins first) k.base (conditionals s.inside) (conditionals s.between) m so_far.begins) are.1.1.1.0.0
+          (read_so tokens begun_so is_inner wanted (begins first) k.base.pending ks so_far.goes_on) (read_condition tokens p k.base.pending begun_so ks) few;
+      stays = are.1.1.1.0.1 ∙ all;
+      waits_for = refl;
+      condition = (ks, refl);
+    }
+begun_led d (Turns is_inner first parts) r s declared n v c e are few =
+    let x = before_parts turned s in
+    let is = ending_begun word.Ifnot turned effect.Turns (λ t place inner y. refl) turns_left d parts r is_inner first s declared n v c e (all_kept s) refl are.0 are.1.0 are.1.1.0 are.1.1.1.0 are.1.1.1.1.1 few in
+    record { p = is.p; others = is.others; ks = is.ks; led = is.led; stays = are.1.1.1.1.0 ∙ are.1.1.0; waits_for = is.waits_for; condition = tt }
+begun_led d (Closes is_inner first parts) r s declared n v c e are few =
+    let is = ending_begun word.Endif closed effect.Closes (λ t place inner y. refl) closes_left d parts r is_inner first s declared n v c e (all_kept s) refl are.0 are.1.0 are.1.1.0 are.1.1.1.0 are.1.1.1.1.1 few in
+    record { p = is.p; others = is.others; ks = is.ks; led = is.led; stays = are.1.1.1.1.0 ∙ are.1.1.0; waits_for = is.waits_for; condition = tt }
+
+-- One in the other
+
+abbrev HasAllCondition : Answers → Around → List Unfinished → Unfinished → List Condition → Type 0
+HasAllCondition d s [] u ks = HasCondition d s u ks
+HasAllCondition d s (x ∷ outer) u ks = HasAllCondition d (behind_begun d s x) outer u ks
+
+abbrev all_begun_last : Answers → List Unfinished → Unfinished → Around → ℕ → ℕ → List (List Conditional) → Last
+all_begun_last d outer u s declared n v = last_at (behind_all_begun d s outer u) (declared_tokens (all_begun_tokens outer u) declared) (n + length (all_begun_tokens outer u)) v
+
+pub record AllBegun (d : Answers) (outer : List Unfinished) (u : Unfinished) (s : Around) (last : Last) (toks : List At) (places : List Place) (c : Conditions) : Type 0 where
+  pub p : Pending
+  pub others : List Pending
+  pub ks : List Condition
+  pub led : Led (Reads p others ks) toks c [] places last
+  pub stays : all_kept last.around ≡ true
+  pub waits_for : IsAwaited u p.awaits
+  pub condition : HasAllCondition d s outer u ks
+
+pub all_begun_led : (d : Answers) (outer : List Unfinished) (u : Unfinished) (r : Reader) (s : Around) (declared n : ℕ) (v : List (List Conditional)) (c : Conditions) → StandsAt r (last_at s declared n v) c → AreBegun d (within r) s declared outer u
+    → n + length (all_begun_tokens outer u) ≤ most_levels → AllBegun d outer u s (all_begun_last d outer u s declared n v) (all_begun_tokens outer u) (lone_all_begun d s outer u) c
+all_begun_led d [] u r s declared n v c e are few =
+    let is = begun_led d u r s declared n v c e are few in
+    record { p = is.p; others = is.others; ks = is.ks; led = is.led; stays = is.stays; waits_for = is.waits_for; condition = is.condition }
+all_begun_led d (x ∷ outer) u r s declared n v c e are few =
+    let toks = begun_tokens x in
+    let more = all_begun_tokens outer u in
+    let sum = length_both toks more in
+    let first = begun_led d x r s declared n v c e are.0 (omega (arith, few, sum)) in
+    let l = begun_last d x s declared n v in
+    let there = all_behind toks c in
+    let rest = all_begun_led d outer u (Reads first.p first.others first.ks) l.around l.declared l.levels v there first.led.ends are.1 (omega (arith, few, sum)) in
+    let l2 = all_begun_last d outer u l.around l.declared l.levels v in
+    let q = Reads rest.p rest.others rest.ks in
+    let places = lone_begun d s x ++ lone_all_begun d l.around outer u in
+    let both : Led q (toks ++ more) c [] places l2 = record {
+      hands = hands_both toks more c ∙ ap (λ hs. hs ++ all_handed_on more there) first.led.hands ∙ rest.led.hands;
+      tells = tells_both toks more c ∙ ap (λ ps. ps ++ all_lone_places more there) first.led.tells ∙ ap (λ ps. lone_begun d s x ++ ps) rest.led.tells;
+      ends = subst (λ (y : Conditions). StandsAt q l2 y) (sym (behind_both toks more c)) rest.led.ends;
+    } in
+    record {
+      p = rest.p;
+      others = rest.others;
+      ks = rest.ks;
+      led = relaxed q (toks ++ more) c [] places l2.around l2.declared (declared_tokens (toks ++ more) declared) l2.levels (n + length (toks ++ more)) v (sym (declared_both toks more declared)) (omega (arith, sum)) both;
+      stays = rest.stays;
+      waits_for = rest.waits_for;
+      condition = rest.condition;
+    }
+
+-- What cuts them
+
+-- the token that does not fit
+abbrev pub unfit_so : Conditions → Behind
+unfit_so now = record { now = now; judged = record none_handed { token = Some handed.Unfit } }
+
+abbrev pub given_up_at : Conditions → Conditions
+given_up_at c = record c { pending = []; conditions = [] }
+
+no_name : (k : TokenKind) (bytes : List ℕ) (if_declared : Bool) (o : Out) (p : Pending) (c : Conditions) → (k ≡ kind.Name → ⊥) → named k bytes if_declared o p c ≡ unfit c
+no_name kind.Name bytes if_declared o p c other = absurd (other refl)
+no_name (kind.Number n) bytes if_declared o p c other = refl
+no_name kind.Text bytes if_declared o p c other = refl
+no_name (kind.Char x) bytes if_declared o p c other = refl
+no_name (kind.Word x) bytes if_declared o p c other = refl
+no_name (kind.Mark x) bytes if_declared o p c other = refl
+no_name (kind.Bad x) bytes if_declared o p c other = refl
+no_name kind.End bytes if_declared o p c other = refl
+
+abbrev IsUnfit : Pending → List Pending → List Condition → Conditions → List Conditional → List Conditional → ℕ → At → Type 0
+IsUnfit p others ks base inner among declared t =
+    judged_at t (at (record base { pending = p ∷ others; conditions = ks }) inner among None declared) ≡ unfit_so (at (given_up_at base) inner among None declared)
+
+cut_name : (is_inner if_declared : Bool) (place : Place) (others : List Pending) (ks : List Condition) (base : Conditions) (inner among : List Conditional) (declared : ℕ) (t : At) → is_mark mark.Hash t.token.kind ≡ false → (t.token.kind ≡ kind.Name → ⊥)
+    → IsUnfit (directive is_inner place (awaits.Name if_declared)) others ks base inner among declared t
+cut_name is_inner if_declared place others ks base inner among declared t no_hash other =
+    let c = record base { pending = others; conditions = ks } in
+    let here = at c inner among None declared in
+    let p = directive is_inner place (awaits.Name if_declared) in
+    ap (λ (b : Bool). cond b (passed (held (t.site.is_between && false) t.token.place (reading is_inner place (awaits.Name if_declared) c inner among declared))) (named t.token.kind t.token.bytes if_declared t.out p here)) no_hash
+    ∙ no_name t.token.kind t.token.bytes if_declared t.out p here other
+
+cut_end : (e : Effect) (is_inner : Bool) (place : Place) (others : List Pending) (ks : List Condition) (base : Conditions) (inner among : List Conditional) (declared : ℕ) (t : At) → is_mark mark.Hash t.token.kind ≡ false → is_mark mark.Semicolon t.token.kind ≡ false
+    → IsUnfit (directive is_inner place (awaits.End e)) others ks base inner among declared t
+cut_end e is_inner place others ks base inner among declared t no_hash other =
+    let c = record base { pending = others; conditions = ks } in
+    let here = at c inner among None declared in
+    let p = directive is_inner place (awaits.End e) in
+    let quiet = t.site.is_quiet in
+    ap (λ (b : Bool). cond b (passed (held (t.site.is_between && false) t.token.place (reading is_inner place (awaits.End e) c inner among declared))) (cond (is_mark mark.Semicolon t.token.kind) (effected e quiet p here) (unfit here))) no_hash
+    ∙ ap (λ (b : Bool). cond b (effected e quiet p here) (unfit here)) other
+
+cut_condition : (is_inner wanted : Bool) (place : Place) (others : List Pending) (k : Condition) (ks : List Condition) (base : Conditions) (inner among : List Conditional) (declared : ℕ) (t : At) → is_mark mark.Hash t.token.kind ≡ false
+    → fits grammar known (atom_of t.token) k.stack ≡ false → IsUnfit (directive is_inner place (awaits.Condition wanted)) others (k ∷ ks) base inner among declared t
+cut_condition is_inner wanted place others k ks base inner among declared t no_hash other =
+    let c = record base { pending = others; conditions = ks } in
+    let here = at c inner among None declared in
+    let a = awaits.Condition wanted in
+    let p = directive is_inner place a in
+    let then = went_on wanted t.site.is_quiet t.out t.token (condition_took t.token k) p here in
+    ap (λ (b : Bool). cond b (passed (held (t.site.is_between && false) t.token.place (reading is_inner place a (with_condition k c) inner among declared))) (cond (fits grammar known (atom_of t.token) k.stack) then (unfit here))) no_hash
+    ∙ ap (λ (b : Bool). cond b then (unfit here)) other
+
+cut_one : (d : Answers) (s : Around) (u : Unfinished) (p : Pending) (others : List Pending) (ks : List Condition) (base : Conditions) (inner among : List Conditional) (declared : ℕ) (t : At)
+    → IsAwaited u p.awaits → HasCondition d s u ks → is_mark mark.Hash t.token.kind ≡ false → IsCutBy d s u t → IsUnfit p others ks base inner among declared t
+cut_one d s (Unnamed is_inner if_declared first before) p others ks base inner among declared t waits condition no_hash cut =
+    subst (λ (a : Awaits). IsUnfit (directive p.is_inner p.place a) others ks base inner among declared t) (sym waits) (cut_name p.is_inner if_declared p.place others ks base inner among declared t no_hash cut)
+cut_one d s (Named is_inner if_declared first before name behind) p others ks base inner among declared t waits condition no_hash cut =
+    subst (λ (a : Awaits). IsUnfit (directive p.is_inner p.place a) others ks base inner among declared t) (sym waits.1) (cut_end waits.0 p.is_inner p.place others ks base inner among declared t no_hash cut)
+cut_one d s (Asked is_inner wanted first parts) p others ks base inner among declared t waits condition no_hash cut =
+    let k = condition_so first (kept_sides d s parts) in
+    subst (λ (a : Awaits). IsUnfit (directive p.is_inner p.place a) others ks base inner among declared t) (sym waits)
+    (subst (λ (cs : List Condition). IsUnfit (directive p.is_inner p.place (awaits.Condition wanted)) others cs base inner among declared t) (sym condition.1)
+    (cut_condition p.is_inner wanted p.place others k condition.0 base inner among declared t no_hash cut))
+cut_one d s (Turns is_inner first parts) p others ks base inner among declared t waits condition no_hash cut =
+    subst (λ (a : Awaits). IsUnfit (directive p.is_inner p.place a) others ks base inner among declared t) (sym waits.1) (cut_end waits.0 p.is_inner p.place others ks base inner among declared t no_hash cut)
+cut_one d s (Closes is_inner first parts) p others ks base inner among declared t waits condition no_hash cut =
+    subst (λ (a : Awaits). IsUnfit (directive p.is_inner p.place a) others ks base inner among declared t) (sym waits.1) (cut_end waits.0 p.is_inner p.place others ks base inner among declared t no_hash cut)
+
+pub cut_by : (d : Answers) (s : Around) (outer : List Unfinished) (u : Unfinished) (p : Pending) (others : List Pending) (ks : List Condition) (base : Conditions) (inner among : List Conditional) (declared : ℕ) (t : At)
+    → IsAwaited u p.awaits → HasAllCondition d s outer u ks → is_mark mark.Hash t.token.kind ≡ false → AreCutBy d s outer u t → IsUnfit p others ks base inner among declared t
+cut_by d s [] u p others ks base inner among declared t waits condition no_hash cut = cut_one d s u p others ks base inner among declared t waits condition no_hash cut
+cut_by d s (x ∷ outer) u p others ks base inner among declared t waits condition no_hash cut = cut_by d (behind_begun d s x) outer u p others ks base inner among declared t waits condition no_hash cut
+
+-- The end of the file cuts each.
+is_the_end : (k : TokenKind) → is_end k ≡ true → k ≡ kind.End
+is_the_end kind.End e = refl
+is_the_end kind.Name e = cc
+is_the_end (kind.Number n) e = cc
+is_the_end kind.Text e = cc
+is_the_end (kind.Char x) e = cc
+is_the_end (kind.Word x) e = cc
+is_the_end (kind.Mark x) e = cc
+is_the_end (kind.Bad x) e = cc
+
+end_cuts_one : (d : Answers) (s : Around) (u : Unfinished) (t : At) → is_end t.token.kind ≡ true → IsCutBy d s u t
+end_cuts_one d s (Unnamed is_inner if_declared first before) t is = λ name. let never : true ≡ false = sym is ∙ ap is_end name in cc
+end_cuts_one d s (Named is_inner if_declared first before name behind) t is = ap (is_mark mark.Semicolon) (is_the_end t.token.kind is)
+end_cuts_one d s (Asked is_inner wanted first parts) t is =
+    let k = condition_so first (kept_sides d s parts) in
+    ap (λ (x : TokenKind). fits grammar known (atom_of (record t.token { kind = x })) k.stack) (is_the_end t.token.kind is) ∙ end_fits_nothing k.stack
+end_cuts_one d s (Turns is_inner first parts) t is = ap (is_mark mark.Semicolon) (is_the_end t.token.kind is)
+end_cuts_one d s (Closes is_inner first parts) t is = ap (is_mark mark.Semicolon) (is_the_end t.token.kind is)
+
+pub end_cuts : (d : Answers) (s : Around) (outer : List Unfinished) (u : Unfinished) (t : At) → is_end t.token.kind ≡ true → AreCutBy d s outer u t
+end_cuts d s [] u t is = end_cuts_one d s u t is
+end_cuts d s (x ∷ outer) u t is = end_cuts d (behind_begun d s x) outer u t is
+
+-- a `#` and what is behind it
+pub sign_cut : (t : At) (base : Conditions) (p : Pending) (others : List Pending) (inner among : List Conditional) (declared : ℕ) → base.pending ≡ p ∷ others → is_mark mark.Hash t.token.kind ≡ true
+    → judged_at t (at base inner among None declared) ≡ passed (state base (Some t.token.place) inner among None declared)
+sign_cut t base p others inner among declared read hash =
+    sign_inner t base inner among declared (ap (λ ps. t.site.is_between && is_none_pending ps) read ∙ and-false t.site.is_between) hash
+
+pub sign_cut_so : (place : Place) (t : At) (base : Conditions) (p : Pending) (others : List Pending) (inner among : List Conditional) (declared : ℕ) → IsSignedPlain t
+    → judged_at t (state (record base { pending = p ∷ others }) (Some place) inner among None declared)
+    ≡ record { now = at (given_up_at base) inner among None declared; judged = record none_handed { sign = Some (record { place = place; handed = handed.Unfit }); token = Some handed.Kept } }
+sign_cut_so place t base p others inner among declared is =
+    let c = record base { pending = p ∷ others } in
+    let here = at (given_up_at base) inner among None declared in
+    let signed : Behind → Behind = λ b. record b { judged = record b.judged { sign = Some (record { place = place; handed = handed.Unfit }) } } in
+    ap (λ o. behind_sign o place t.site.is_quiet t.out t.token (state c (Some place) inner among None declared)) is.no_word
+    ∙ ap (λ (b : Bool). signed (cond b (passed (held false t.token.place here)) (kept here))) is.no_hash

@@ -1,0 +1,152 @@
+-- Conditional directives that are not whole: a token that does not fit cuts one, with those around it that are read, or the end of the file does.
+use Rattle.std.specs.Prelude.{◌≡◌, ◌≤◌, ◌+◌, ℕ, List, [], ◌∷◌, ◌++◌, length, Bool, true, false}
+use Rattle.inf_scanner.specs.declared.tokens.Mark.TheVariants as mark
+use Rattle.inf_scanner.specs.declared.tokens.Place.{Place}
+use Rattle.inf_scanner.specs.declared.tokens.TokenKind.TheVariants as kind
+use Rattle.inf_machine.specs.Machine.{fits}
+use Rattle.inf_grammar.specs.Language.{grammar, known}
+use Rattle.inf_unit.specs.Tokens.{Spelled, is_mark}
+use Rattle.inf_conditionals.specs.Atoms.{atom_of}
+use Rattle.inf_conditionals.specs.Condition.{Condition, condition_begun, condition_took, is_whole}
+use Rattle.inf_conditionals.specs.declared.judged.Handed.TheVariants as handed
+use Rattle.inf_conditionals.specs.declared.words.ConditionalWord.TheVariants as word
+use Rattle.inf_conditionals.specs.Open.{most_levels}
+use Rattle.inf_reader.specs.Handing.{hash}
+use Rattle.inf_laws.specs.KeptSides.{AddsNone, Answers, AreParts, Around, At, First, Handing, IsFirst, IsSign, IsSignedPlain, NoneInside, Parts, all_kept, all_tokens, as_kept, asking, before_parts, behind_name, behind_parts, closed, condition_behind, declared_behind, declared_first, declared_tokens, ended_in, first_tokens, kept_sides, lone_parts, opening, placed_word, turned}
+
+-- What is there of one
+
+-- A directive with a name up to where that must come, or up to its semicolon; one with a condition up to a further token of it; and an `Ifnot` and an
+-- `Endif` up to the semicolon.
+pub data Unfinished : Type 0 where
+  Unnamed : (is_inner if_declared : Bool) (first : First) (before : Parts) → Unfinished
+  Named : (is_inner if_declared : Bool) (first : First) (before : Parts) (name : At) (behind : Parts) → Unfinished
+  Asked : (is_inner wanted : Bool) (first : First) (within : Parts) → Unfinished
+  Turns : (is_inner : Bool) (first : First) (within : Parts) → Unfinished
+  Closes : (is_inner : Bool) (first : First) (within : Parts) → Unfinished
+
+abbrev pub begun_tokens : Unfinished → List At
+begun_tokens (Unnamed is_inner if_declared first before) = first_tokens first (all_tokens before)
+begun_tokens (Named is_inner if_declared first before name behind) = first_tokens first (all_tokens before ++ name ∷ all_tokens behind)
+begun_tokens (Asked is_inner wanted first within) = first_tokens first (all_tokens within)
+begun_tokens (Turns is_inner first within) = first_tokens first (all_tokens within)
+begun_tokens (Closes is_inner first within) = first_tokens first (all_tokens within)
+
+-- It has not acted, but for one whose word ended a side that was left out.
+abbrev pub behind_begun : Answers → Around → Unfinished → Around
+behind_begun answers s (Unnamed is_inner if_declared first before) = behind_parts answers s before
+behind_begun answers s (Named is_inner if_declared first before name behind) = behind_parts answers (behind_name answers before name s) behind
+behind_begun answers s (Asked is_inner wanted first within) = behind_parts answers s within
+behind_begun answers s (Turns is_inner first within) = behind_parts answers (before_parts turned s) within
+behind_begun answers s (Closes is_inner first within) = behind_parts answers (before_parts closed s) within
+
+-- where directives of its parts begin that have no conditional to turn or to end
+abbrev pub lone_begun : Answers → Around → Unfinished → List Place
+lone_begun answers s (Unnamed is_inner if_declared first before) = lone_parts answers s before
+lone_begun answers s (Named is_inner if_declared first before name behind) = lone_parts answers s before ++ lone_parts answers (behind_name answers before name s) behind
+lone_begun answers s (Asked is_inner wanted first within) = lone_parts answers s within
+lone_begun answers s (Turns is_inner first within) = lone_parts answers (before_parts turned s) within
+lone_begun answers s (Closes is_inner first within) = lone_parts answers (before_parts closed s) within
+
+-- the kept tokens of a condition so far, of which the grammar takes each, and none is the last
+abbrev pub GoOn : List Spelled → Condition → Type 0
+GoOn [] k = Unit {0}
+GoOn (t ∷ tokens) k = (fits grammar known (atom_of t) k.stack ≡ true) × ((is_whole (condition_took t k) ≡ false) × GoOn tokens (condition_took t k))
+
+abbrev pub condition_so : First → List Spelled → Condition
+condition_so first tokens = condition_behind tokens (condition_took (placed_word first) condition_begun)
+
+pub record IsBegunAsked (first : First) (tokens : List Spelled) : Type 0 where
+  pub begins : fits grammar known (atom_of (placed_word first)) condition_begun.stack ≡ true
+  pub goes_on : GoOn tokens (condition_took (placed_word first) condition_begun)
+
+-- It is read, and so it is kept; an `Ifnot` or `Endif` may begin in a side that its word ends.
+abbrev pub IsBegun : Answers → Bool → Around → ℕ → Unfinished → Type 0
+IsBegun answers is_within s declared (Unnamed is_inner if_declared first before) =
+    IsFirst true is_inner is_within (opening if_declared) first
+    × (NoneInside is_inner s × ((all_kept s ≡ true) × (AreParts answers true s (declared_first first declared) before × AddsNone answers s before)))
+IsBegun answers is_within s declared (Named is_inner if_declared first before name behind) =
+    let y = behind_name answers before name s in
+    let now = declared_first first declared in
+    IsFirst true is_inner is_within (opening if_declared) first
+    × (NoneInside is_inner s
+    × ((all_kept s ≡ true)
+    × ((AreParts answers true s now before × AddsNone answers s before)
+    × ((name.token.kind ≡ kind.Name) × (AreParts answers true y (declared_behind name (declared_tokens (all_tokens before) now)) behind × AddsNone answers y behind)))))
+IsBegun answers is_within s declared (Asked is_inner wanted first within) =
+    IsFirst true is_inner is_within (asking wanted) first
+    × (NoneInside is_inner s
+    × ((all_kept s ≡ true)
+    × ((AreParts answers true s (declared_first first declared) within × (all_kept (behind_parts answers s within) ≡ all_kept s)) × IsBegunAsked first (kept_sides answers s within))))
+IsBegun answers is_within s declared (Turns is_inner first within) =
+    let x = before_parts turned s in
+    IsFirst (all_kept s) is_inner is_within word.Ifnot first
+    × (NoneInside is_inner s × ((all_kept x ≡ true) × (AreParts answers true x (declared_first first declared) within × AddsNone answers x within)))
+IsBegun answers is_within s declared (Closes is_inner first within) =
+    let x = before_parts closed s in
+    IsFirst (all_kept s) is_inner is_within word.Endif first
+    × (NoneInside is_inner s × ((all_kept x ≡ true) × (AreParts answers true x (declared_first first declared) within × AddsNone answers x within)))
+
+-- One in the other
+
+-- those around it, from the outermost one on
+abbrev pub all_begun_tokens : List Unfinished → Unfinished → List At
+all_begun_tokens [] u = begun_tokens u
+all_begun_tokens (x ∷ outer) u = begun_tokens x ++ all_begun_tokens outer u
+
+abbrev pub behind_all_begun : Answers → Around → List Unfinished → Unfinished → Around
+behind_all_begun answers s [] u = behind_begun answers s u
+behind_all_begun answers s (x ∷ outer) u = behind_all_begun answers (behind_begun answers s x) outer u
+
+abbrev pub lone_all_begun : Answers → Around → List Unfinished → Unfinished → List Place
+lone_all_begun answers s [] u = lone_begun answers s u
+lone_all_begun answers s (x ∷ outer) u = lone_begun answers s x ++ lone_all_begun answers (behind_begun answers s x) outer u
+
+abbrev pub AreBegun : Answers → Bool → Around → ℕ → List Unfinished → Unfinished → Type 0
+AreBegun answers is_within s declared [] u = IsBegun answers is_within s declared u
+AreBegun answers is_within s declared (x ∷ outer) u =
+    IsBegun answers is_within s declared x × AreBegun answers true (behind_begun answers s x) (declared_tokens (begun_tokens x) declared) outer u
+
+-- behind so many tokens of its file
+pub record HaveBegun (answers : Answers) (s : Around) (declared before : ℕ) (outer : List Unfinished) (u : Unfinished) : Type 0 where
+  pub are : AreBegun answers false s declared outer u
+  pub few : before + length (all_begun_tokens outer u) ≤ most_levels
+
+-- The token that does not fit
+
+-- alone, or with the `#` before it, which then is the one
+pub data Misfit : Type 0 where
+  Bare : (token : At) → Misfit
+  Hashed : (sign token : At) → Misfit
+
+abbrev pub misfit_tokens : Misfit → List At
+misfit_tokens (Bare t) = t ∷ []
+misfit_tokens (Hashed sign t) = sign ∷ t ∷ []
+
+-- It is handed on as one that does not fit, and what is behind it as one that is kept.
+abbrev pub as_unfit : Spelled → Handing
+as_unfit t = record { handed = handed.Unfit; token = t }
+
+abbrev pub handed_misfit : Misfit → List Handing
+handed_misfit (Bare t) = as_unfit t.token ∷ []
+handed_misfit (Hashed sign t) = as_unfit (hash sign.token.place) ∷ as_kept t.token ∷ []
+
+abbrev pub behind_misfit : Misfit → Around → Around
+behind_misfit (Bare t) s = ended_in t.ended s
+behind_misfit (Hashed sign t) s = ended_in t.ended s
+
+-- no name, no semicolon, or not what the grammar takes
+abbrev pub IsCutBy : Answers → Around → Unfinished → At → Type 0
+IsCutBy answers s (Unnamed is_inner if_declared first before) t = t.token.kind ≡ kind.Name → ⊥
+IsCutBy answers s (Named is_inner if_declared first before name behind) t = is_mark mark.Semicolon t.token.kind ≡ false
+IsCutBy answers s (Asked is_inner wanted first within) t = fits grammar known (atom_of t.token) (condition_so first (kept_sides answers s within)).stack ≡ false
+IsCutBy answers s (Turns is_inner first within) t = is_mark mark.Semicolon t.token.kind ≡ false
+IsCutBy answers s (Closes is_inner first within) t = is_mark mark.Semicolon t.token.kind ≡ false
+
+abbrev pub AreCutBy : Answers → Around → List Unfinished → Unfinished → At → Type 0
+AreCutBy answers s [] u t = IsCutBy answers s u t
+AreCutBy answers s (x ∷ outer) u t = AreCutBy answers (behind_begun answers s x) outer u t
+
+abbrev pub IsMisfit : Answers → Around → List Unfinished → Unfinished → Misfit → Type 0
+IsMisfit answers s outer u (Bare t) = (is_mark mark.Hash t.token.kind ≡ false) × AreCutBy answers s outer u t
+IsMisfit answers s outer u (Hashed sign t) = IsSign true sign × IsSignedPlain t
