@@ -72,9 +72,9 @@ unended_by (x ∷ steps) c = told_behind x.passage (judged_at x.at c).now ++ une
 
 -- Files
 
--- What is still to come of a file: no more than parts; or parts and a conditional directive that the end of the file cuts; or parts, one that a token cuts, this
--- token, and what comes behind it; or parts, the token with which an included file is entered, what that has, the token at its end, and what comes
--- behind.
+-- What is still to come of a file: no more than parts; or parts and a conditional directive that the end of the file cuts; or parts, one that a
+-- token cuts, this token, and what comes behind it; or parts, the token with which an included file is entered, what that has, the token at its
+-- end, and what comes behind.
 pub data Files : Type 0 where
   Alone : (parts : Parts) → Files
   Cut : (parts : Parts) (outer : List Unfinished) (u : Unfinished) → Files
@@ -178,7 +178,8 @@ AreFiles answers s c (Including parts entering included leaving behind) =
     × AreFiles answers (around_behind (behind_parts answers s parts))
     (step_behind (record { at = leaving; passage = Leaves }) (steps_behind (steps included) (step_behind (record { at = entering; passage = Enters }) (all_behind (all_tokens parts) c)))) behind))
 
--- Just these tokens are handed on, each as one that is kept or as one that does not fit, and just these places are told; at the end of the outermost file those of what is open in it.
+-- Just these tokens are handed on, each as one that is kept or as one that does not fit, and just these places are told; at the end of the outermost
+-- file those of what is open in it.
 pub record KeepsFiles (answers : Answers) (files : Files) (c : Conditions) : Type 0 where
   pub handed_on : handed_by (steps files) c ≡ handed_files answers none_around files
   pub lone : lone_by (steps files) c ≡ lone_files answers none_around files

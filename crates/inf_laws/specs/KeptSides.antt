@@ -110,10 +110,10 @@ signed_tokens (Some sign) tokens = sign ∷ tokens
 abbrev pub first_tokens : First → List At → List At
 first_tokens first tokens = signed_tokens first.sign (first.word ∷ tokens)
 
--- A token that belongs to no conditional directive, alone or behind a `#`; a directive with a name, which opens a conditional, where the name is to be declared or not, and one
--- with a condition, which is to be true or not; and an `Ifnot` and an `Endif`, each with its semicolon. A directive stands inside another one or
--- between the others, and parts stand between the tokens of a conditional one: before and behind its name, among those of its condition, and before its
--- semicolon. In a side that is left out the word of a directive may stand alone, whatever comes behind it.
+-- A token that belongs to no conditional directive, alone or behind a `#`; a directive with a name, which opens a conditional, where the name is
+-- to be declared or not, and one with a condition, which is to be true or not; and an `Ifnot` and an `Endif`, each with its semicolon. A directive
+-- stands inside another one or between the others, and parts stand between the tokens of a conditional one: before and behind its name, among
+-- those of its condition, and before its semicolon. In a side that is left out the word of a directive may stand alone, whatever comes behind it.
 mutual
   pub data Part : Type 0 where
     Plain : (token : At) → Part
@@ -132,7 +132,8 @@ abbrev mutual
   pub part_tokens : Part → List At
   part_tokens (Plain t) = t ∷ []
   part_tokens (Signed is_inner sign t) = sign ∷ t ∷ []
-  part_tokens (Opening is_inner if_declared first before name behind end) = first_tokens first (all_tokens before ++ name ∷ (all_tokens behind ++ end ∷ []))
+  part_tokens (Opening is_inner if_declared first before name behind end) =
+      first_tokens first (all_tokens before ++ name ∷ (all_tokens behind ++ end ∷ []))
   part_tokens (Asking is_inner wanted first within end) = first_tokens first (all_tokens within ++ end ∷ [])
   part_tokens (Turning is_inner first within end) = first_tokens first (all_tokens within ++ end ∷ [])
   part_tokens (Closing is_inner first within end) = first_tokens first (all_tokens within ++ end ∷ [])
@@ -198,8 +199,8 @@ are_kept (x ∷ around) = x.stays && are_kept around
 abbrev pub all_kept : Around → Bool
 all_kept s = are_kept s.inside && are_kept s.between
 
--- One is opened more, whose first side stays where its name was declared or its condition is true, or where not. It belongs to the directive in which it was opened, unless that
--- stands in a side that is left out between directives.
+-- One is opened more, whose first side stays where its name was declared or its condition is true, or where not. It belongs to the directive in
+-- which it was opened, unless that stands in a side that is left out between directives.
 abbrev pub first_side : First → Bool → Bool → Open
 first_side first wanted is_so = record { place = begins first; is_second = false; stays = if wanted then is_so else not is_so }
 
@@ -260,10 +261,12 @@ abbrev mutual
   behind_part answers (Signed is_inner sign t) s = ended_in t.ended s
   behind_part answers (Opening is_inner if_declared first before name behind end) s =
       ended_in end.ended
-      (acted (opened_more is_inner (first_side first if_declared (answers.is_declared name))) (λ x. behind_parts answers (ended_in name.ended (behind_parts answers x before)) behind) s)
+      (acted (opened_more is_inner (first_side first if_declared (answers.is_declared name)))
+      (λ x. behind_parts answers (ended_in name.ended (behind_parts answers x before)) behind) s)
   behind_part answers (Asking is_inner wanted first within end) s =
       ended_in end.ended
-      (acted (opened_more is_inner (first_side first wanted (answers.is_true (whole_condition first (kept_sides answers s within) end) end))) (λ x. behind_parts answers x within) s)
+      (acted (opened_more is_inner (first_side first wanted (answers.is_true (whole_condition first (kept_sides answers s within) end) end)))
+      (λ x. behind_parts answers x within) s)
   behind_part answers (Turning is_inner first within end) s = ended_in end.ended (acted turned (λ x. behind_parts answers x within) s)
   behind_part answers (Closing is_inner first within end) s = ended_in end.ended (acted closed (λ x. behind_parts answers x within) s)
   behind_part answers (Passed is_inner w first) s = passed_by is_inner first w s
@@ -278,7 +281,8 @@ abbrev mutual
 
 -- the parts of a directive stand here
 abbrev pub opening_parts : Answers → Bool → Bool → First → At → Around → Around
-opening_parts answers is_inner if_declared first name s = before_parts (opened_more is_inner (first_side first if_declared (answers.is_declared name))) s
+opening_parts answers is_inner if_declared first name s =
+    before_parts (opened_more is_inner (first_side first if_declared (answers.is_declared name))) s
 
 abbrev pub asking_parts : Answers → Bool → Bool → First → Parts → At → Around → Around
 asking_parts answers is_inner wanted first within end s =
@@ -303,10 +307,13 @@ acting answers within s = if all_kept s then behind_parts answers s within else 
 abbrev mutual
   pub lone_of : Answers → Part → Around → List Place
   lone_of answers (Opening is_inner if_declared first before name behind end) s =
-      let x = opening_parts answers is_inner if_declared first name s in lone_parts answers x before ++ lone_parts answers (behind_name answers before name x) behind
+      let x = opening_parts answers is_inner if_declared first name s in
+      lone_parts answers x before ++ lone_parts answers (behind_name answers before name x) behind
   lone_of answers (Asking is_inner wanted first within end) s = lone_parts answers (asking_parts answers is_inner wanted first within end s) within
-  lone_of answers (Turning is_inner first within end) s = lone_parts answers (before_parts turned s) within ++ lone_at word.Ifnot first end (acting answers within s)
-  lone_of answers (Closing is_inner first within end) s = lone_parts answers (before_parts closed s) within ++ lone_at word.Endif first end (acting answers within s)
+  lone_of answers (Turning is_inner first within end) s =
+      lone_parts answers (before_parts turned s) within ++ lone_at word.Ifnot first end (acting answers within s)
+  lone_of answers (Closing is_inner first within end) s =
+      lone_parts answers (before_parts closed s) within ++ lone_at word.Endif first end (acting answers within s)
   lone_of answers _ s = []
 
   pub lone_parts : Answers → Around → Parts → List Place
@@ -345,8 +352,8 @@ pub record IsSignedPlain (t : At) : Type 0 where
   pub no_hash : is_mark mark.Hash t.token.kind ≡ false
   pub goes_on : is_end t.token.kind ≡ false
 
--- Where a directive is kept, between the others, it begins with a `#` or without, and inside of one with it. Among the tokens of a conditional one all
--- stand inside, wherever reading stands.
+-- Where a directive is kept, between the others, it begins with a `#` or without, and inside of one with it. Among the tokens of a conditional
+-- one all stand inside, wherever reading stands.
 abbrev pub Begins : Bool → Bool → Bool → Option At → At → Type 0
 Begins true false false None w = w.site.is_between ≡ true
 Begins true false false (Some sign) w = (sign.site.is_between ≡ true) × IsSign false sign
@@ -376,8 +383,8 @@ opening if_declared = if if_declared then word.Ifdef else word.Ifndef
 abbrev pub asking : Bool → ConditionalWord
 asking wanted = if wanted then word.Iftrue else word.Iffalse
 
--- Between directives no conditional is open that was opened inside one: none before a directive that stands there, and none behind it, where its first
--- side may be left out.
+-- Between directives no conditional is open that was opened inside one: none before a directive that stands there, and none behind it, where its
+-- first side may be left out.
 abbrev pub NoneInside : Bool → Around → Type 0
 NoneInside false s = s.inside ≡ []
 NoneInside true s = Unit {0}
@@ -389,7 +396,8 @@ NoneInsideBehind _ _ end s = Unit {0}
 -- a condition: the grammar takes its tokens, and the last one is the last of its directive
 abbrev pub AreTaken : List Spelled → At → Condition → Type 0
 AreTaken [] end k = (fits grammar known (atom_of end.token) k.stack ≡ true) × (is_whole (condition_took end.token k) ≡ true)
-AreTaken (t ∷ tokens) end k = (fits grammar known (atom_of t) k.stack ≡ true) × ((is_whole (condition_took t k) ≡ false) × AreTaken tokens end (condition_took t k))
+AreTaken (t ∷ tokens) end k =
+    (fits grammar known (atom_of t) k.stack ≡ true) × ((is_whole (condition_took t k) ≡ false) × AreTaken tokens end (condition_took t k))
 
 pub record IsCondition (answers : Answers) (first : First) (tokens : List Spelled) (end : At) (declared : ℕ) : Type 0 where
   pub begins : fits grammar known (atom_of (placed_word first)) condition_begun.stack ≡ true
@@ -427,25 +435,35 @@ abbrev mutual
       × (NoneInside is_inner s
       × ((AreParts answers (among is_within x) x now before × AddsNone answers x before)
       × ((IsName (all_kept s) name × ((declared_before name.token.bytes later name.out.names ≡ answers.is_declared name) × (all_kept y ≡ all_kept x)))
-      × ((AreParts answers (among is_within y) y (declared_behind name later) behind × AddsNone answers y behind) × (IsSemicolon end × NoneInsideBehind (all_kept s) is_inner end (behind_parts answers y behind))))))
+      × ((AreParts answers (among is_within y) y (declared_behind name later) behind × AddsNone answers y behind)
+      × (IsSemicolon end × NoneInsideBehind (all_kept s) is_inner end (behind_parts answers y behind))))))
   IsPart answers is_within s declared (Asking is_inner wanted first within end) =
       let x = asking_parts answers is_inner wanted first within end s in
       let now = declared_first first declared in
       IsFirst (all_kept s) is_inner is_within (asking wanted) first
       × (NoneInside is_inner s
       × ((AreParts answers (among is_within x) x now within × StayAs answers x within)
-      × (IsPlain (all_kept s) true end × (IsAsked (all_kept s) answers first (kept_sides answers x within) end (declared_tokens (all_tokens within) now) × NoneInsideBehind (all_kept s) is_inner end (behind_parts answers x within)))))
+      × (IsPlain (all_kept s) true end
+      × (IsAsked (all_kept s) answers first (kept_sides answers x within) end (declared_tokens (all_tokens within) now)
+      × NoneInsideBehind (all_kept s) is_inner end (behind_parts answers x within)))))
   IsPart answers is_within s declared (Turning is_inner first within end) =
-      IsFirst (all_kept s) is_inner is_within word.Ifnot first × (NoneInside is_inner s × ((AreParts answers (among is_within (before_parts turned s)) (before_parts turned s) (declared_first first declared) within × AddsNone answers (before_parts turned s) within) × IsSemicolon end))
+      let x = before_parts turned s in
+      IsFirst (all_kept s) is_inner is_within word.Ifnot first
+      × (NoneInside is_inner s
+      × ((AreParts answers (among is_within x) x (declared_first first declared) within × AddsNone answers x within) × IsSemicolon end))
   IsPart answers is_within s declared (Closing is_inner first within end) =
-      IsFirst (all_kept s) is_inner is_within word.Endif first × (NoneInside is_inner s × ((AreParts answers (among is_within (before_parts closed s)) (before_parts closed s) (declared_first first declared) within × AddsNone answers (before_parts closed s) within) × IsSemicolon end))
+      let x = before_parts closed s in
+      IsFirst (all_kept s) is_inner is_within word.Endif first
+      × (NoneInside is_inner s
+      × ((AreParts answers (among is_within x) x (declared_first first declared) within × AddsNone answers x within) × IsSemicolon end))
   IsPart answers is_within s declared (Passed is_inner w first) =
       IsFirst false is_inner is_within w first × (NoneInside is_inner s × ((all_kept s ≡ false) × (all_kept (passed_by is_inner first w s) ≡ false)))
 
   pub AreParts : Answers → Bool → Around → ℕ → Parts → Type 0
   AreParts answers is_within s declared NoParts = Unit {0}
   AreParts answers is_within s declared (Then part parts) =
-      IsPart answers is_within s declared part × AreParts answers is_within (behind_part answers part s) (declared_tokens (part_tokens part) declared) parts
+      IsPart answers is_within s declared part
+      × AreParts answers is_within (behind_part answers part s) (declared_tokens (part_tokens part) declared) parts
 
 -- The law
 

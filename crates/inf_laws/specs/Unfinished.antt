@@ -12,7 +12,7 @@ use Rattle.inf_conditionals.specs.declared.judged.Handed.TheVariants as handed
 use Rattle.inf_conditionals.specs.declared.words.ConditionalWord.TheVariants as word
 use Rattle.inf_conditionals.specs.Open.{most_levels}
 use Rattle.inf_reader.specs.Handing.{hash}
-use Rattle.inf_laws.specs.KeptSides.{AddsNone, Answers, AreParts, Around, At, First, Handing, IsFirst, IsSign, IsSignedPlain, NoneInside, Parts, all_kept, all_tokens, as_kept, asking, before_parts, behind_name, behind_parts, closed, condition_behind, declared_behind, declared_first, declared_tokens, ended_in, first_tokens, kept_sides, lone_parts, opening, placed_word, turned}
+use Rattle.inf_laws.specs.KeptSides.{AddsNone, Answers, AreParts, Around, At, First, Handing, IsFirst, IsSign, IsSignedPlain, NoneInside, Parts, StayAs, all_kept, all_tokens, as_kept, asking, before_parts, behind_name, behind_parts, closed, condition_behind, declared_behind, declared_first, declared_tokens, ended_in, first_tokens, kept_sides, lone_parts, opening, placed_word, turned}
 
 -- What is there of one
 
@@ -43,7 +43,8 @@ behind_begun answers s (Closes is_inner first within) = behind_parts answers (be
 -- where directives of its parts begin that have no conditional to turn or to end
 abbrev pub lone_begun : Answers → Around → Unfinished → List Place
 lone_begun answers s (Unnamed is_inner if_declared first before) = lone_parts answers s before
-lone_begun answers s (Named is_inner if_declared first before name behind) = lone_parts answers s before ++ lone_parts answers (behind_name answers before name s) behind
+lone_begun answers s (Named is_inner if_declared first before name behind) =
+    lone_parts answers s before ++ lone_parts answers (behind_name answers before name s) behind
 lone_begun answers s (Asked is_inner wanted first within) = lone_parts answers s within
 lone_begun answers s (Turns is_inner first within) = lone_parts answers (before_parts turned s) within
 lone_begun answers s (Closes is_inner first within) = lone_parts answers (before_parts closed s) within
@@ -72,12 +73,14 @@ IsBegun answers is_within s declared (Named is_inner if_declared first before na
     × (NoneInside is_inner s
     × ((all_kept s ≡ true)
     × ((AreParts answers true s now before × AddsNone answers s before)
-    × ((name.token.kind ≡ kind.Name) × (AreParts answers true y (declared_behind name (declared_tokens (all_tokens before) now)) behind × AddsNone answers y behind)))))
+    × ((name.token.kind ≡ kind.Name)
+    × (AreParts answers true y (declared_behind name (declared_tokens (all_tokens before) now)) behind × AddsNone answers y behind)))))
 IsBegun answers is_within s declared (Asked is_inner wanted first within) =
     IsFirst true is_inner is_within (asking wanted) first
     × (NoneInside is_inner s
     × ((all_kept s ≡ true)
-    × ((AreParts answers true s (declared_first first declared) within × (all_kept (behind_parts answers s within) ≡ all_kept s)) × IsBegunAsked first (kept_sides answers s within))))
+    × ((AreParts answers true s (declared_first first declared) within × StayAs answers s within)
+    × IsBegunAsked first (kept_sides answers s within))))
 IsBegun answers is_within s declared (Turns is_inner first within) =
     let x = before_parts turned s in
     IsFirst (all_kept s) is_inner is_within word.Ifnot first
@@ -139,7 +142,8 @@ behind_misfit (Hashed sign t) s = ended_in t.ended s
 abbrev pub IsCutBy : Answers → Around → Unfinished → At → Type 0
 IsCutBy answers s (Unnamed is_inner if_declared first before) t = t.token.kind ≡ kind.Name → ⊥
 IsCutBy answers s (Named is_inner if_declared first before name behind) t = is_mark mark.Semicolon t.token.kind ≡ false
-IsCutBy answers s (Asked is_inner wanted first within) t = fits grammar known (atom_of t.token) (condition_so first (kept_sides answers s within)).stack ≡ false
+IsCutBy answers s (Asked is_inner wanted first within) t =
+    fits grammar known (atom_of t.token) (condition_so first (kept_sides answers s within)).stack ≡ false
 IsCutBy answers s (Turns is_inner first within) t = is_mark mark.Semicolon t.token.kind ≡ false
 IsCutBy answers s (Closes is_inner first within) t = is_mark mark.Semicolon t.token.kind ≡ false
 
