@@ -1,0 +1,351 @@
+-- What each row of an expression does to what stands behind its tokens: a table of its rules, checked against the grammar by evaluation.
+use Rattle.std.proofs.Common.{◌≡◌, ℕ, suc, ◌≤◌, List, [], ◌∷◌, ◌++◌, Bool, true, false, not, ◌&&◌, ◌||◌, ◌==◌, Option, Some, None, refl, sym, ◌∙◌, ap, subst, append_assoc, arith, inl, inr, if◌then◌else◌}
+use Rattle.std.proofs.lemmas.Bool.{agree_below, agree_below_at, and_parts, cases_lt}
+use Rattle.std.proofs.lemmas.Option.{same_Some}
+use Rattle.inf_machine.specs.declared.symbols.Symbol.{Symbol}
+use Rattle.inf_machine.specs.declared.symbols.Symbol.TheVariants.{Token, Rule, Act}
+use Rattle.inf_machine.specs.Decided.{is_within}
+use Rattle.inf_machine.specs.Pieces.{all_rows}
+use Rattle.inf_machine.specs.Grammar.{Row, IsOneOf, first, later, has}
+use Rattle.inf_machine.proofs.Sets.{has_within}
+use Rattle.inf_scanner.specs.declared.tokens.Mark.TheVariants as mark
+use Rattle.inf_syntax.specs.declared.actions.Action.{Action}
+use Rattle.inf_syntax.specs.declared.actions.Action.TheVariants as action
+use Rattle.inf_syntax.specs.Atoms.{of_mark}
+use Rattle.inf_syntax.specs.Classes.{operand}
+use Rattle.inf_syntax.specs.Parts.{address_operator, address_tail, after_prim, after_unary, array_operator, array_tail, assign, assign_tail, assign_tail_1, bit, bracketed, call, call_1, call_2, expression, expression_tail, inc, inner_operator, logic, logic_operator, logic_tail, member_operator, neg, negated, operator, other_assign, other_operator, other_prim, outer_operator, plain_prim, post, post_tail, prefixed, prim, step_operator, step_prefix, step_tail, sum, sum_operator, sum_tail, term, term_operator, term_tail, test, test_tail, test_tail_1, tested, tested_1}
+use Rattle.inf_expressions.specs.declared.operators.Binary.{Binary}
+use Rattle.inf_expressions.specs.declared.operators.Binary.TheVariants as binary
+use Rattle.inf_expressions.specs.declared.operators.Unary.{Unary}
+use Rattle.inf_unit.specs.declared.steps.Step.{Step}
+use Rattle.inf_unit.specs.declared.steps.Step.TheVariants as step
+use Rattle.inf_unit.specs.Steps.{step_of}
+use Rattle.inf_grammar.specs.Language.{grammar}
+use Rattle.inf_grammar.specs.Evaluated.{rows_past}
+use Rattle.inf_expression_laws.specs.Precedence.{addresses, assignments, closing_sign, comma_sign, commas, complements, connections, denials, entries, members, negations, opening_sign, operands, or_sign, primaries, products, sign_behind, sign_between, sign_in_front, sign_of_test, steps_behind, steps_in_front, sums, tests}
+use Rattle.inf_expression_laws.specs.Laws.{Form, forms}
+use Rattle.inf_expression_laws.proofs.Items.{Item, Sign, Whole, Opened, Closing, NoneYet, Parts, Any, Within, all_fit, all_fit_sound, all_popped, all_popped_sound, and_then, fits_same, item, within_append, within_same, within_trans}
+
+-- What is taken from the top, and what is put there
+pub record Change : Type 0 where
+  pub old : List Item
+  pub now : List Item
+
+abbrev pub change : List Item → List Item → Change
+change old now = record { old = old; now = now }
+
+abbrev pub front_changes : Option (ℕ × ℕ) → List Change
+front_changes None = []
+front_changes (Some sign) = change (Whole sign.0 ∷ Sign sign.1 ∷ []) (Whole sign.0 ∷ []) ∷ []
+
+abbrev pub suffix_changes : Option (ℕ × ℕ) → List Change
+suffix_changes None = []
+suffix_changes (Some sign) = change (Sign sign.1 ∷ Whole sign.0 ∷ []) (Whole sign.0 ∷ []) ∷ []
+
+abbrev pub between_changes : Option (ℕ × ℕ) → List Change
+between_changes None = []
+between_changes (Some sign) = change (Whole (suc sign.0) ∷ Sign sign.1 ∷ Whole sign.0 ∷ []) (Whole sign.0 ∷ []) ∷ []
+
+abbrev pub two_changes : Binary → List Change
+two_changes binary.Comma = []
+two_changes binary.Assign = change (Whole assignments ∷ Sign (of_mark mark.Assign) ∷ Whole connections ∷ []) (Whole assignments ∷ []) ∷ []
+two_changes op = between_changes (sign_between op)
+
+abbrev pub test_changes : Option ℕ → List Change
+test_changes None = []
+test_changes (Some signs) = change (Parts sums or_sign ∷ Sign signs ∷ Whole sums ∷ []) (Whole tests ∷ []) ∷ []
+
+-- of an action, by what it gathers: one of these
+abbrev pub step_changes : Option Step → List Change
+step_changes None = []
+step_changes (Some step.Leaf) = change (Sign operands ∷ []) (Whole primaries ∷ []) ∷ []
+step_changes (Some step.Action) = change (Sign operand ∷ Sign (of_mark mark.DoubleHash) ∷ []) (Whole primaries ∷ []) ∷ []
+step_changes (Some (step.Prefix op)) = front_changes (sign_in_front op)
+step_changes (Some (step.Suffix op)) = suffix_changes (sign_behind op)
+step_changes (Some (step.Two op)) = two_changes op
+step_changes (Some step.Comma) = change (Whole assignments ∷ Sign comma_sign ∷ Whole commas ∷ []) (Whole commas ∷ []) ∷ []
+step_changes (Some step.List) = change [] (NoneYet ∷ []) ∷ []
+step_changes (Some step.Part) =
+    change (Whole sums ∷ NoneYet ∷ []) (Parts sums or_sign ∷ [])
+    ∷ change (Whole assignments ∷ NoneYet ∷ []) (Parts assignments comma_sign ∷ [])
+    ∷ change (Whole sums ∷ Sign or_sign ∷ Parts sums or_sign ∷ []) (Parts sums or_sign ∷ [])
+    ∷ change (Whole assignments ∷ Sign comma_sign ∷ Parts assignments comma_sign ∷ []) (Parts assignments comma_sign ∷ [])
+    ∷ []
+step_changes (Some step.Call) = change (Sign closing_sign ∷ Any assignments comma_sign ∷ Sign opening_sign ∷ Whole members ∷ []) (Whole members ∷ []) ∷ []
+step_changes (Some (step.Test op)) = test_changes (sign_of_test op)
+step_changes (Some step.Bracket) = change (Sign opening_sign ∷ []) (Opened ∷ []) ∷ []
+step_changes (Some step.Bracketed) = change (Whole commas ∷ Opened ∷ []) (Closing ∷ []) ∷ []
+
+-- of a rule
+pub record Typing : Type 0 where
+  pub rule : Symbol Action
+  pub change : Change
+
+abbrev typing : Symbol Action → List Item → List Item → Typing
+typing rule old now = record { rule = rule; change = change old now }
+
+abbrev typings : List Typing
+typings =
+    typing expression [] (Whole commas ∷ [])
+    ∷ typing expression_tail (Whole commas ∷ []) (Whole commas ∷ [])
+    ∷ typing assign [] (Whole assignments ∷ [])
+    ∷ typing other_assign [] (Whole assignments ∷ [])
+    ∷ typing prefixed [] (Whole assignments ∷ [])
+    ∷ typing assign_tail (Whole connections ∷ []) (Whole assignments ∷ [])
+    ∷ typing assign_tail_1 (Whole connections ∷ []) (Whole assignments ∷ [])
+    ∷ typing logic [] (Whole connections ∷ [])
+    ∷ typing logic_tail (Whole connections ∷ []) (Whole connections ∷ [])
+    ∷ typing logic_operator (Whole connections ∷ []) (Whole connections ∷ [])
+    ∷ typing negated [] (Whole denials ∷ [])
+    ∷ typing test_tail (Whole sums ∷ []) (Whole tests ∷ [])
+    ∷ typing test_tail_1 (Whole sums ∷ []) (Whole tests ∷ [])
+    ∷ typing test (Whole sums ∷ []) (Whole tests ∷ [])
+    ∷ typing tested [] (Parts sums or_sign ∷ [])
+    ∷ typing tested_1 (Parts sums or_sign ∷ []) (Parts sums or_sign ∷ [])
+    ∷ typing sum [] (Whole sums ∷ [])
+    ∷ typing sum_tail (Whole sums ∷ []) (Whole sums ∷ [])
+    ∷ typing sum_operator (Whole sums ∷ []) (Whole sums ∷ [])
+    ∷ typing term [] (Whole products ∷ [])
+    ∷ typing term_tail (Whole products ∷ []) (Whole products ∷ [])
+    ∷ typing term_operator (Whole products ∷ []) (Whole products ∷ [])
+    ∷ typing bit [] (Whole complements ∷ [])
+    ∷ typing array_tail (Whole entries ∷ []) (Whole entries ∷ [])
+    ∷ typing array_operator (Whole entries ∷ []) (Whole entries ∷ [])
+    ∷ typing neg [] (Whole negations ∷ [])
+    ∷ typing inc [] (Whole steps_in_front ∷ [])
+    ∷ typing step_prefix [] (Whole steps_in_front ∷ [])
+    ∷ typing step_tail (Whole steps_behind ∷ []) (Whole steps_behind ∷ [])
+    ∷ typing step_operator (Whole steps_behind ∷ []) (Whole steps_behind ∷ [])
+    ∷ typing address_tail (Whole addresses ∷ []) (Whole addresses ∷ [])
+    ∷ typing address_operator (Whole addresses ∷ []) (Whole addresses ∷ [])
+    ∷ typing post [] (Whole members ∷ [])
+    ∷ typing post_tail (Whole members ∷ []) (Whole members ∷ [])
+    ∷ typing call (Whole members ∷ []) (Whole members ∷ [])
+    ∷ typing call_1 (NoneYet ∷ []) (Any assignments comma_sign ∷ [])
+    ∷ typing call_2 (Parts assignments comma_sign ∷ []) (Parts assignments comma_sign ∷ [])
+    ∷ typing prim [] (Whole primaries ∷ [])
+    ∷ typing other_prim [] (Whole primaries ∷ [])
+    ∷ typing bracketed [] (Whole primaries ∷ [])
+    ∷ typing plain_prim [] (Whole primaries ∷ [])
+    ∷ typing after_prim (Whole members ∷ []) (Whole assignments ∷ [])
+    ∷ typing after_unary (Whole entries ∷ []) (Whole assignments ∷ [])
+    ∷ typing operator (Whole members ∷ []) (Whole assignments ∷ [])
+    ∷ typing other_operator (Whole members ∷ []) (Whole assignments ∷ [])
+    ∷ typing inner_operator (Whole members ∷ []) (Whole steps_behind ∷ [])
+    ∷ typing member_operator (Whole members ∷ []) (Whole steps_behind ∷ [])
+    ∷ typing outer_operator (Whole entries ∷ []) (Whole assignments ∷ [])
+    ∷ []
+
+abbrev is_rule : ℕ → Symbol Action → Bool
+is_rule number (Rule rule) = number == rule
+is_rule number (Token class) = false
+is_rule number (Act a) = false
+
+abbrev found_change : ℕ → List Typing → Option Change
+found_change number [] = None
+found_change number (t ∷ rest) = if is_rule number t.rule then Some t.change else found_change number rest
+
+abbrev pub rule_change : ℕ → Option Change
+rule_change number = found_change number typings
+
+-- Symbols are passed: what stands behind them, if each finds what it takes.
+
+abbrev pub changed : Change → List Item → Option (List Item)
+changed c items = and_then (λ rest. Some (c.now ++ rest)) (all_popped c.old items)
+
+abbrev or_else : Option (List Item) → Option (List Item) → Option (List Item)
+or_else (Some items) other = Some items
+or_else None other = other
+
+abbrev pub changed_by_one : List Change → List Item → Option (List Item)
+changed_by_one [] items = None
+changed_by_one (c ∷ changes) items = or_else (changed c items) (changed_by_one changes items)
+
+abbrev pub changed_by : Option Change → List Item → Option (List Item)
+changed_by None items = None
+changed_by (Some c) items = changed c items
+
+-- A closing bracket ends an expression in brackets. Every other token is put on the top.
+abbrev pub with_token : ℕ → List Item → List Item
+with_token set (Closing ∷ rest) = if is_within set closing_sign then Whole primaries ∷ rest else Sign set ∷ Closing ∷ rest
+with_token set items = Sign set ∷ items
+
+abbrev pub passed : List (Symbol Action) → List Item → Option (List Item)
+passed [] items = Some items
+passed (Token class ∷ symbols) items = passed symbols (with_token (grammar.atoms_of class) items)
+passed (Act a ∷ symbols) items = and_then (passed symbols) (changed_by_one (step_changes (step_of a)) items)
+passed (Rule rule ∷ symbols) items = and_then (passed symbols) (changed_by (rule_change rule) items)
+
+-- the same as a relation
+pub data Passes : List Item → List (Symbol Action) → List Item → Type 0 where
+  done : {items target : List Item} → Within items target → Passes items [] target
+  token : {class : ℕ} {items target : List Item} {symbols : List (Symbol Action)} → Passes (Sign (grammar.atoms_of class) ∷ items) symbols target → Passes items (Token class ∷ symbols) target
+  close : {class : ℕ} {items rest target : List Item} {symbols : List (Symbol Action)} → Within items (Closing ∷ rest) → is_within (grammar.atoms_of class) closing_sign ≡ true → Passes (Whole primaries ∷ rest) symbols target → Passes items (Token class ∷ symbols) target
+  act : {a : Action} {items target : List Item} {symbols : List (Symbol Action)} (c : Change) (rest : List Item) → IsOneOf c (step_changes (step_of a)) → Within items (c.old ++ rest) → Passes (c.now ++ rest) symbols target → Passes items (Act a ∷ symbols) target
+  rule : {r : ℕ} {items target : List Item} {symbols : List (Symbol Action)} (c : Change) (rest : List Item) → rule_change r ≡ Some c → Within items (c.old ++ rest) → Passes (c.now ++ rest) symbols target → Passes items (Rule r ∷ symbols) target
+
+-- what a change took from the top, and that the rest stays
+record Took (c : Change) (items next : List Item) : Type 0 where
+  rest : List Item
+  within : Within items (c.old ++ rest)
+  is : next ≡ c.now ++ rest
+
+changed_sound : (c : Change) (items next : List Item) → changed c items ≡ Some next → Took c items next
+changed_sound c items next e = by_rest (all_popped c.old items) refl e
+  where
+    by_rest : (o : Option (List Item)) → all_popped c.old items ≡ o → and_then (λ rest. Some (c.now ++ rest)) o ≡ Some next → Took c items next
+    by_rest None p q = cc
+    by_rest (Some rest) p q = record { rest = rest; within = all_popped_sound c.old items rest p; is = sym (same_Some (c.now ++ rest) next q) }
+
+record TookOne (changes : List Change) (items next : List Item) : Type 0 where
+  c : Change
+  one : IsOneOf c changes
+  took : Took c items next
+
+one_sound : (changes : List Change) (items next : List Item) → changed_by_one changes items ≡ Some next → TookOne changes items next
+one_sound [] items next e = cc
+one_sound (c ∷ changes) items next e = by_first (λ q. one_sound changes items next q) (changed c items) refl e
+  where
+    further : TookOne changes items next → TookOne (c ∷ changes) items next
+    further t = record { c = t.c; one = later t.one; took = t.took }
+
+    by_first : (changed_by_one changes items ≡ Some next → TookOne changes items next) → (o : Option (List Item)) → changed c items ≡ o → or_else o (changed_by_one changes items) ≡ Some next → TookOne (c ∷ changes) items next
+    by_first others None p q = further (others q)
+    by_first others (Some found) p q = record { c = c; one = first; took = changed_sound c items next (p ∙ q) }
+
+record TookBy (o : Option Change) (items next : List Item) : Type 0 where
+  c : Change
+  is : o ≡ Some c
+  took : Took c items next
+
+by_sound : (o : Option Change) (items next : List Item) → changed_by o items ≡ Some next → TookBy o items next
+by_sound None items next e = cc
+by_sound (Some c) items next e = record { c = c; is = refl; took = changed_sound c items next e }
+
+passed_token : (class : ℕ) (items target : List Item) (symbols : List (Symbol Action)) →
+    Passes (with_token (grammar.atoms_of class) items) symbols target → Passes items (Token class ∷ symbols) target
+passed_token class [] target symbols p = token p
+passed_token class (Closing ∷ rest) target symbols p = by_test (is_within (grammar.atoms_of class) closing_sign) refl p
+  where
+    by_test : (b : Bool) → is_within (grammar.atoms_of class) closing_sign ≡ b → Passes (if b then Whole primaries ∷ rest else Sign (grammar.atoms_of class) ∷ Closing ∷ rest) symbols target → Passes (Closing ∷ rest) (Token class ∷ symbols) target
+    by_test true e q = close (within_same (Closing ∷ rest)) e q
+    by_test false e q = token q
+passed_token class (Sign set ∷ rest) target symbols p = token p
+passed_token class (Whole level ∷ rest) target symbols p = token p
+passed_token class (Opened ∷ rest) target symbols p = token p
+passed_token class (NoneYet ∷ rest) target symbols p = token p
+passed_token class (Parts level signs ∷ rest) target symbols p = token p
+passed_token class (Any level signs ∷ rest) target symbols p = token p
+
+pub passed_sound : (symbols : List (Symbol Action)) (items target last : List Item) → passed symbols items ≡ Some last → Within last target → Passes items symbols target
+passed_sound [] items target last e w = done (subst (λ l. Within l target) (sym (same_Some items last e)) w)
+passed_sound (Token class ∷ symbols) items target last e w = passed_token class items target symbols (passed_sound symbols (with_token (grammar.atoms_of class) items) target last e w)
+passed_sound (Act a ∷ symbols) items target last e w =
+    by_next (λ next q. passed_sound symbols next target last q w) (changed_by_one (step_changes (step_of a)) items) refl e
+  where
+    by_next : ((next : List Item) → passed symbols next ≡ Some last → Passes next symbols target) → (o : Option (List Item)) → changed_by_one (step_changes (step_of a)) items ≡ o → and_then (passed symbols) o ≡ Some last → Passes items (Act a ∷ symbols) target
+    by_next on None p q = cc
+    by_next on (Some next) p q =
+        let t = one_sound (step_changes (step_of a)) items next p in
+        act t.c t.took.rest t.one t.took.within (subst (λ n. Passes n symbols target) t.took.is (on next q))
+passed_sound (Rule r ∷ symbols) items target last e w =
+    by_next (λ next q. passed_sound symbols next target last q w) (changed_by (rule_change r) items) refl e
+  where
+    by_next : ((next : List Item) → passed symbols next ≡ Some last → Passes next symbols target) → (o : Option (List Item)) → changed_by (rule_change r) items ≡ o → and_then (passed symbols) o ≡ Some last → Passes items (Rule r ∷ symbols) target
+    by_next on None p q = cc
+    by_next on (Some next) p q =
+        let t = by_sound (rule_change r) items next p in
+        rule t.c t.took.rest t.is t.took.within (subst (λ n. Passes n symbols target) t.took.is (on next q))
+
+-- Where fewer cases are left, and what stands below
+
+narrower : {items wider target : List Item} {symbols : List (Symbol Action)} → Within items wider → Passes wider symbols target → Passes items symbols target
+narrower w (done v) = done (within_trans w v)
+narrower {items = items} w (token {class = class} {items = wider} {target = target} {symbols = symbols} p) =
+    token (narrower {items = Sign (grammar.atoms_of class) ∷ items} (item (fits_same (Sign (grammar.atoms_of class))) w) p)
+narrower w (close v e p) = close (within_trans w v) e p
+narrower w (act c rest one v p) = act c rest one (within_trans w v) p
+narrower w (rule c rest is v p) = rule c rest is (within_trans w v) p
+
+pub joined : {items middle target : List Item} {symbols more : List (Symbol Action)} → Passes items symbols middle → Passes middle more target → Passes items (symbols ++ more) target
+joined (done w) q = narrower w q
+joined (token p) q = token (joined p q)
+joined (close w e p) q = close w e (joined p q)
+joined (act c rest one w p) q = act c rest one w (joined p q)
+joined (rule c rest is w p) q = rule c rest is w (joined p q)
+
+pub below : {items target : List Item} {symbols : List (Symbol Action)} (under : List Item) → Passes items symbols target → Passes (items ++ under) symbols (target ++ under)
+below under (done w) = done (within_append under w)
+below under (token p) = token (below under p)
+below under (close w e p) = close (within_append under w) e (below under p)
+below under (act {items = items} {target = target} {symbols = symbols} c rest one w p) =
+    act c (rest ++ under) one
+    (subst (λ xs. Within (items ++ under) xs) (append_assoc c.old rest under) (within_append under w))
+    (subst (λ xs. Passes xs symbols (target ++ under)) (append_assoc c.now rest under) (below under p))
+below under (rule {items = items} {target = target} {symbols = symbols} c rest is w p) =
+    rule c (rest ++ under) is
+    (subst (λ xs. Within (items ++ under) xs) (append_assoc c.old rest under) (within_append under w))
+    (subst (λ xs. Passes xs symbols (target ++ under)) (append_assoc c.now rest under) (below under p))
+
+-- By evaluation over the table: each row of a rule does what is said of the rule.
+
+abbrev fit_now : Change → Option (List Item) → Bool
+fit_now c None = false
+fit_now c (Some last) = all_fit last c.now
+
+abbrev row_fits : Change → List (Symbol Action) → Bool
+row_fits c parts = fit_now c (passed parts c.old)
+
+abbrev rows_fit : Option Change → List (Row Action) → Bool
+rows_fit None rows = true
+rows_fit (Some c) rows = all_rows (row_fits c) rows
+
+all_typed : agree_below (λ rule. rows_fit (rule_change rule) (grammar.rows_of rule)) (λ rule. true) 251 ≡ true
+unfolding grammar
+all_typed = refl
+
+typed_rule : (r : ℕ) → rows_fit (rule_change r) (grammar.rows_of r) ≡ true
+typed_rule r =
+    elim (cases_lt r 251) [
+      | inl l ↦ agree_below_at (λ rule. rows_fit (rule_change rule) (grammar.rows_of rule)) (λ rule. true) 251 r all_typed l
+      | inr l ↦ past (rule_change r) (grammar.rows_of r) (rows_past r l)
+    ]
+  where
+    past : (o : Option Change) (rows : List (Row Action)) → rows ≡ [] → rows_fit o rows ≡ true
+    past None rows e = refl
+    past (Some c) rows e = ap (all_rows (row_fits c)) e
+
+fit_sound : (c : Change) (parts : List (Symbol Action)) → row_fits c parts ≡ true → Passes c.old parts c.now
+fit_sound c parts e = by_last (passed parts c.old) refl e
+  where
+    by_last : (o : Option (List Item)) → passed parts c.old ≡ o → fit_now c o ≡ true → Passes c.old parts c.now
+    by_last None p q = cc
+    by_last (Some last) p q = passed_sound parts c.old c.now last p (all_fit_sound last c.now q)
+
+one_of_all : (passes : List (Symbol Action) → Bool) (rows : List (Row Action)) (r : Row Action) → IsOneOf r rows → all_rows passes rows ≡ true → passes r.parts ≡ true
+one_of_all passes [] r m h = elim m [ ]
+one_of_all passes (r ∷ rows) r' first h = (and_parts (passes r.parts) (all_rows passes rows) h).0
+one_of_all passes (y ∷ rows) r (later m) h = one_of_all passes rows r m (and_parts (passes y.parts) (all_rows passes rows) h).1
+
+pub row_passes : (r : ℕ) (c : Change) (row : Row Action) → rule_change r ≡ Some c → IsOneOf row (grammar.rows_of r) → Passes c.old row.parts c.now
+row_passes r c row e m =
+    fit_sound c row.parts (one_of_all (row_fits c) (grammar.rows_of r) row m (ap (λ o. rows_fit o (grammar.rows_of r)) (sym e) ∙ typed_rule r))
+
+abbrev all_forms : (Form → Bool) → List Form → Bool
+all_forms is [] = true
+all_forms is (form ∷ others) = is form && all_forms is others
+
+-- and so does each form in which an expression stands
+forms_typed : all_forms (λ form. row_fits (change [] (Whole form.level ∷ [])) form.symbols) forms ≡ true
+unfolding grammar
+forms_typed = refl
+
+of_all : (is : Form → Bool) (some : List Form) (form : Form) → IsOneOf form some → all_forms is some ≡ true → is form ≡ true
+of_all is [] form m h = elim m [ ]
+of_all is (form ∷ some) other first h = (and_parts (is form) (all_forms is some) h).0
+of_all is (y ∷ some) form (later m) h = of_all is some form m (and_parts (is y) (all_forms is some) h).1
+
+pub form_passes : (symbols : List (Symbol Action)) (level : ℕ) → IsOneOf (record { symbols = symbols; level = level }) forms → Passes [] symbols (Whole level ∷ [])
+form_passes symbols level m =
+    fit_sound (change [] (Whole level ∷ [])) symbols
+    (of_all (λ form. row_fits (change [] (Whole form.level ∷ [])) form.symbols) forms (record { symbols = symbols; level = level }) m forms_typed)

@@ -1,0 +1,106 @@
+-- What a unit has gathered of an expression once its tokens were taken.
+use Rattle.std.specs.Prelude.{◌≡◌, ℕ, suc, ◌+◌, ◌==◌, List, [], ◌∷◌, ◌++◌, length, Bool, true, false, ◌&&◌, if◌then◌else◌, Option, Some, None, ⊤}
+use Rattle.inf_machine.specs.Grammar.{Event, Took, Did}
+use Rattle.inf_scanner.specs.declared.tokens.Mark.{Mark}
+use Rattle.inf_scanner.specs.declared.tokens.Mark.TheVariants as mark
+use Rattle.inf_scanner.specs.declared.tokens.TokenKind.{TokenKind}
+use Rattle.inf_scanner.specs.declared.tokens.TokenKind.TheVariants as kind
+use Rattle.inf_syntax.specs.declared.actions.Action.{Action}
+use Rattle.inf_syntax.specs.Atoms.{mark_atom}
+use Rattle.inf_expressions.specs.declared.operators.Binary.{Binary}
+use Rattle.inf_expressions.specs.declared.operators.Binary.TheVariants as binary
+use Rattle.inf_expressions.specs.declared.symbols.Symbol.{Symbol}
+use Rattle.inf_expressions.specs.declared.symbols.Symbol.TheVariants as symbol
+use Rattle.inf_expressions.specs.Sources.{Source, Leaf, Brackets, Prefix, Suffix, Two, Then, Call, Alone}
+use Rattle.inf_gathering.specs.declared.gathering.Leaf.{Leaf as Gathered}
+use Rattle.inf_gathering.specs.declared.gathering.Leaf.TheVariants as leaf
+use Rattle.inf_gathering.specs.Gatherings.{Gathering, comma}
+use Rattle.inf_unit.specs.Tokens.{Spelled}
+use Rattle.inf_unit.specs.Units.{Unit, acted, is_first, is_some_mark, kind_at, leaf_of, taken, told_leaf}
+
+-- Tokens are taken and actions carried out, one behind the other.
+abbrev pub read_by : List (Event Action) → List Spelled → Unit → Unit
+read_by [] tokens u = u
+read_by (Did action ∷ events) tokens u = read_by events tokens (acted action u)
+read_by (Took atom ∷ events) [] u = u
+read_by (Took atom ∷ events) (t ∷ tokens) u = read_by events tokens (taken t u)
+
+-- A token whose atom is a mark's is that mark.
+abbrev pub IsSeen : ℕ → Spelled → Type 0
+IsSeen atom t = (m : Mark) → atom ≡ mark_atom m → t.kind ≡ kind.Mark m
+
+-- the tokens of some atoms
+abbrev pub AreSeen : List ℕ → List Spelled → Type 0
+AreSeen [] [] = ⊤
+AreSeen (atom ∷ atoms) (t ∷ tokens) = IsSeen atom t × AreSeen atoms tokens
+AreSeen [] (t ∷ tokens) = false ≡ true
+AreSeen (atom ∷ atoms) [] = false ≡ true
+
+-- How many joints a list has
+abbrev pub joints : Source → ℕ
+joints (Then a b) = suc (joints b)
+joints _ = 0
+
+-- What stands behind two expressions. A test is against a list, and a comma in no brackets is told apart.
+abbrev pub symbols_behind : Bool → Binary → Source → List Symbol
+symbols_behind in_brackets (binary.Test t) list = symbol.List (joints list) ∷ symbol.Two (binary.Test t) ∷ []
+symbols_behind in_brackets (binary.Fails t) list = symbol.List (joints list) ∷ symbol.Two (binary.Fails t) ∷ []
+symbols_behind in_brackets binary.Comma b = (if in_brackets then symbol.Two binary.Comma else symbol.Comma) ∷ []
+symbols_behind in_brackets op b = symbol.Two op ∷ []
+
+-- The symbols of an expression, each operator behind its parts, and those of a list one behind the other, where brackets are open
+-- around it or not.
+abbrev pub symbols_of : Bool → Source → List Symbol
+symbols_of in_brackets (Leaf first token place) = symbol.Leaf first token place ∷ []
+symbols_of in_brackets (Brackets order a) = symbols_of true a ++ symbol.Bracketed order ∷ []
+symbols_of in_brackets (Prefix order op a) = symbols_of in_brackets a ++ symbol.Prefix order op ∷ []
+symbols_of in_brackets (Suffix op a) = symbols_of in_brackets a ++ symbol.Suffix op ∷ []
+symbols_of in_brackets (Two op a b) = (symbols_of in_brackets a ++ symbols_of in_brackets b) ++ symbols_behind in_brackets op b
+symbols_of in_brackets (Then a b) = symbols_of in_brackets a ++ symbols_of in_brackets b
+symbols_of in_brackets (Call f list) = (symbols_of in_brackets f ++ symbols_of in_brackets list) ++ symbol.Call (suc (joints list)) ∷ []
+symbols_of in_brackets (Alone f) = symbols_of in_brackets f ++ symbol.Call 0 ∷ []
+
+-- Where its first token stands
+abbrev pub first_of : Source → ℕ
+first_of (Leaf first token place) = first
+first_of (Brackets order a) = order
+first_of (Prefix order op a) = order
+first_of (Suffix op a) = first_of a
+first_of (Two op a b) = first_of a
+first_of (Then a b) = first_of a
+first_of (Call f list) = first_of f
+first_of (Alone f) = first_of f
+
+-- What a leaf is, by the tokens of its unit: the name of an action behind its sign, else by its own token. An operand of an assembly line
+-- that is a name by itself is told apart.
+abbrev pub kind_in : Option TokenKind → TokenKind
+kind_in None = kind.Name
+kind_in (Some k) = k
+
+abbrev pub leaf_read : Option ℕ → ℕ → List Spelled → ℕ → ℕ → Gathered
+leaf_read outer begun tokens first at =
+    if first == at then told_leaf (is_first at outer && is_some_mark mark.At (kind_at tokens begun)) (leaf_of at (kind_in (kind_at tokens at))) else leaf.Action at
+
+-- The leaves of an expression or a list, in the order of their tokens
+abbrev pub leaves_of : Option ℕ → ℕ → List Spelled → Source → List Gathered
+leaves_of outer begun tokens (Leaf first token place) = leaf_read outer begun tokens first token ∷ []
+leaves_of outer begun tokens (Brackets order a) = leaves_of outer begun tokens a
+leaves_of outer begun tokens (Prefix order op a) = leaves_of outer begun tokens a
+leaves_of outer begun tokens (Suffix op a) = leaves_of outer begun tokens a
+leaves_of outer begun tokens (Two op a b) = leaves_of outer begun tokens a ++ leaves_of outer begun tokens b
+leaves_of outer begun tokens (Then a b) = leaves_of outer begun tokens a ++ leaves_of outer begun tokens b
+leaves_of outer begun tokens (Call f list) = leaves_of outer begun tokens f ++ leaves_of outer begun tokens list
+leaves_of outer begun tokens (Alone f) = leaves_of outer begun tokens f
+
+-- whether brackets are open
+abbrev pub is_open : List ℕ → Bool
+is_open [] = false
+is_open (bracket ∷ brackets) = true
+
+-- An expression more was gathered.
+abbrev pub with_source : Option ℕ → ℕ → List Spelled → Source → Gathering → Gathering
+with_source outer begun tokens a g = record g {
+  leaves = g.leaves ++ leaves_of outer begun tokens a;
+  symbols = g.symbols ++ symbols_of (is_open g.brackets) a;
+  firsts = first_of a ∷ g.firsts;
+}

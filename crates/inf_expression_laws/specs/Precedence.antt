@@ -1,0 +1,195 @@
+-- Expressions as they are written: which operator binds tighter than which, said without the rows of the grammar. Tokens are told by
+-- their atoms. Designer's Manual, fourth edition, section 1.6, and the table of operators in its appendix.
+use Rattle.std.specs.Prelude.{◌≡◌, ℕ, suc, ◌+◌, List, [], ◌∷◌, ◌++◌, length, codes, true, Option, Some, None}
+use Rattle.inf_machine.specs.Grammar.{has}
+use Rattle.inf_scanner.specs.declared.tokens.Mark.TheVariants as mark
+use Rattle.inf_syntax.specs.Atoms.{char, joined, number, of_mark, of_word, text, word_literal}
+use Rattle.inf_syntax.specs.Classes.{operand as operand_names}
+use Rattle.inf_expressions.specs.declared.operators.Binary.{Binary}
+use Rattle.inf_expressions.specs.declared.operators.Binary.TheVariants as binary
+use Rattle.inf_expressions.specs.declared.operators.Operation.TheVariants as operation
+use Rattle.inf_expressions.specs.declared.operators.PropertyPart.TheVariants as property
+use Rattle.inf_expressions.specs.declared.operators.Single.TheVariants as single
+use Rattle.inf_expressions.specs.declared.operators.Step.TheVariants as stepping
+use Rattle.inf_expressions.specs.declared.operators.Test.TheVariants as test
+use Rattle.inf_expressions.specs.declared.operators.Unary.{Unary}
+use Rattle.inf_expressions.specs.declared.operators.Unary.TheVariants as unary
+use Rattle.inf_expressions.specs.Sources.{Source, Leaf, Brackets, Prefix, Suffix, Two, Then, Call, Alone}
+
+-- How tight expressions are bound, from the loosest: those with commas, assignments, `&&` and `||`, `~~`, tests, sums, products, `~`,
+-- entries of arrays, signs, steps in front, steps behind, addresses and lengths of properties, properties and calls, and what has no
+-- operator outside of its brackets.
+abbrev pub commas : ℕ
+commas = 0
+
+abbrev pub assignments : ℕ
+assignments = 1
+
+abbrev pub connections : ℕ
+connections = 2
+
+abbrev pub denials : ℕ
+denials = 3
+
+abbrev pub tests : ℕ
+tests = 4
+
+abbrev pub sums : ℕ
+sums = 5
+
+abbrev pub products : ℕ
+products = 6
+
+abbrev pub complements : ℕ
+complements = 7
+
+abbrev pub entries : ℕ
+entries = 8
+
+abbrev pub negations : ℕ
+negations = 9
+
+abbrev pub steps_in_front : ℕ
+steps_in_front = 10
+
+abbrev pub steps_behind : ℕ
+steps_behind = 11
+
+abbrev pub addresses : ℕ
+addresses = 12
+
+abbrev pub members : ℕ
+members = 13
+
+abbrev pub primaries : ℕ
+primaries = 14
+
+-- Operators between two expressions that join from the left: how tight each binds, and its sign.
+abbrev pub sign_between : Binary → Option (ℕ × ℕ)
+sign_between binary.Comma = Some (commas, of_mark mark.Comma)
+sign_between binary.And = Some (connections, of_mark mark.LogicalAnd)
+sign_between binary.Or = Some (connections, of_mark mark.LogicalOr)
+sign_between (binary.Operation operation.Add) = Some (sums, of_mark mark.Plus)
+sign_between (binary.Operation operation.Subtract) = Some (sums, of_mark mark.Minus)
+sign_between (binary.Operation operation.Multiply) = Some (products, of_mark mark.Times)
+sign_between (binary.Operation operation.Divide) = Some (products, of_mark mark.Divide)
+sign_between (binary.Operation operation.Remainder) = Some (products, of_mark mark.Remainder)
+sign_between (binary.Operation operation.BitAnd) = Some (products, of_mark mark.BitAnd)
+sign_between (binary.Operation operation.BitOr) = Some (products, of_mark mark.BitOr)
+sign_between (binary.Operation operation.Byte) = Some (entries, of_mark mark.Arrow)
+sign_between (binary.Operation operation.Word) = Some (entries, of_mark mark.LongArrow)
+sign_between (binary.Property property.Address) = Some (addresses, of_mark mark.DotAnd)
+sign_between (binary.Property property.Length) = Some (addresses, of_mark mark.DotHash)
+sign_between (binary.Property property.Value) = Some (members, of_mark mark.Dot)
+sign_between _ = None
+
+-- those in front of one
+abbrev pub sign_in_front : Unary → Option (ℕ × ℕ)
+sign_in_front unary.Not = Some (denials, of_mark mark.LogicalNot)
+sign_in_front (unary.Single single.Complement) = Some (complements, of_mark mark.BitNot)
+sign_in_front unary.Negate = Some (negations, of_mark mark.Minus)
+sign_in_front (unary.Before stepping.Up) = Some (steps_in_front, of_mark mark.Increment)
+sign_in_front (unary.Before stepping.Down) = Some (steps_in_front, of_mark mark.Decrement)
+sign_in_front _ = None
+
+-- those behind one
+abbrev pub sign_behind : Unary → Option (ℕ × ℕ)
+sign_behind (unary.Behind stepping.Up) = Some (steps_behind, of_mark mark.Increment)
+sign_behind (unary.Behind stepping.Down) = Some (steps_behind, of_mark mark.Decrement)
+sign_behind _ = None
+
+-- Tests, which stand alone between two sums, or a sum and some with `or` between them.
+abbrev pub sign_of_test : Binary → Option ℕ
+sign_of_test (binary.Test test.Equal) = Some (of_mark mark.Equal)
+sign_of_test (binary.Fails test.Equal) = Some (of_mark mark.NotEqual)
+sign_of_test (binary.Test test.Less) = Some (of_mark mark.Less)
+sign_of_test (binary.Test test.Greater) = Some (of_mark mark.Greater)
+sign_of_test (binary.Test test.AtMost) = Some (of_mark mark.LessOrEqual)
+sign_of_test (binary.Test test.AtLeast) = Some (of_mark mark.GreaterOrEqual)
+sign_of_test (binary.Test test.Has) = Some (of_word (codes "has"))
+sign_of_test (binary.Fails test.Has) = Some (of_word (codes "hasnt"))
+sign_of_test (binary.Test test.In) = Some (of_word (codes "in"))
+sign_of_test (binary.Fails test.In) = Some (of_word (codes "notin"))
+sign_of_test (binary.Test test.OfClass) = Some (of_word (codes "ofclass"))
+sign_of_test (binary.Test test.Provides) = Some (of_word (codes "provides"))
+sign_of_test _ = None
+
+-- what is an operand by itself
+abbrev pub operands : ℕ
+operands = joined (operand_names ∷ number ∷ char ∷ word_literal ∷ text ∷ [])
+
+abbrev pub or_sign : ℕ
+or_sign = of_word (codes "or")
+
+abbrev pub comma_sign : ℕ
+comma_sign = of_mark mark.Comma
+
+abbrev pub opening_sign : ℕ
+opening_sign = of_mark mark.OpenParenthesis
+
+abbrev pub closing_sign : ℕ
+closing_sign = of_mark mark.CloseParenthesis
+
+-- How many leaves an expression or a list has
+abbrev pub leaf_count : Source → ℕ
+leaf_count (Leaf first token leaf) = 1
+leaf_count (Brackets order a) = leaf_count a
+leaf_count (Prefix order op a) = leaf_count a
+leaf_count (Suffix op a) = leaf_count a
+leaf_count (Two op a b) = leaf_count a + leaf_count b
+leaf_count (Then a b) = leaf_count a + leaf_count b
+leaf_count (Call f list) = leaf_count f + leaf_count list
+leaf_count (Alone f) = leaf_count f
+
+abbrev pub leaf_count_of_all : List Source → ℕ
+leaf_count_of_all [] = 0
+leaf_count_of_all (a ∷ sources) = leaf_count a + leaf_count_of_all sources
+
+-- an expression, and those that follow it, as a list
+abbrev pub list_of : Source → List Source → Source
+list_of a [] = a
+list_of a (b ∷ sources) = Then a (list_of b sources)
+
+-- Atoms are an expression that binds so tight at least. Its first token has an order, and its first leaf a place among those of its
+-- unit.
+mutual
+  pub data Written : ℕ → ℕ → ℕ → List ℕ → Source → Type 0 where
+    operand : {order place atom : ℕ} → has operands atom ≡ true → Written primaries order place (atom ∷ []) (Leaf order order place)
+    action : {order place sign atom : ℕ} → has (of_mark mark.DoubleHash) sign ≡ true → has operand_names atom ≡ true →
+        Written primaries order place (sign ∷ atom ∷ []) (Leaf order (suc order) place)
+    brackets : {order place left : ℕ} (right : ℕ) (atoms : List ℕ) {a : Source} → has opening_sign left ≡ true →
+        Written commas (suc order) place atoms a → has closing_sign right ≡ true →
+        Written primaries order place (left ∷ (atoms ++ right ∷ [])) (Brackets order a)
+    tighter : {level order place : ℕ} {atoms : List ℕ} {a : Source} → Written (suc level) order place atoms a → Written level order place atoms a
+    in_front : {level order place sign : ℕ} (signs : ℕ) {atoms : List ℕ} {op : Unary} {a : Source} → sign_in_front op ≡ Some (level, signs) →
+        has signs sign ≡ true → Written level (suc order) place atoms a →
+        Written level order place (sign ∷ atoms) (Prefix order op a)
+    behind : {level order place : ℕ} (signs sign : ℕ) (atoms : List ℕ) {op : Unary} {a : Source} → sign_behind op ≡ Some (level, signs) →
+        Written level order place atoms a → has signs sign ≡ true →
+        Written level order place (atoms ++ sign ∷ []) (Suffix op a)
+    between : {level order place : ℕ} (signs sign : ℕ) (left right : List ℕ) {op : Binary} {a b : Source} → sign_between op ≡ Some (level, signs) →
+        Written level order place left a → has signs sign ≡ true → Written (suc level) (suc (order + length left)) (place + leaf_count a) right b →
+        Written level order place (left ++ sign ∷ right) (Two op a b)
+    assigned : {order place : ℕ} (sign : ℕ) (left right : List ℕ) {a b : Source} → Written connections order place left a →
+        has (of_mark mark.Assign) sign ≡ true → Written assignments (suc (order + length left)) (place + leaf_count a) right b →
+        Written assignments order place (left ++ sign ∷ right) (Two binary.Assign a b)
+    tested : {order place : ℕ} (signs sign : ℕ) (left right : List ℕ) {op : Binary} {a : Source} (b : Source) (sources : List Source) →
+        sign_of_test op ≡ Some signs → Written sums order place left a → has signs sign ≡ true →
+        Listed sums or_sign (suc (order + length left)) (place + leaf_count a) right (b ∷ sources) →
+        Written tests order place (left ++ sign ∷ right) (Two op a (list_of b sources))
+    called : {order place : ℕ} (left right : ℕ) (atoms given : List ℕ) {f : Source} (b : Source) (sources : List Source) →
+        Written members order place atoms f → has opening_sign left ≡ true →
+        Listed assignments comma_sign (suc (order + length atoms)) (place + leaf_count f) given (b ∷ sources) → has closing_sign right ≡ true →
+        Written members order place (((atoms ++ left ∷ []) ++ given) ++ right ∷ []) (Call f (list_of b sources))
+    alone : {order place : ℕ} (left right : ℕ) (atoms : List ℕ) {f : Source} → Written members order place atoms f → has opening_sign left ≡ true →
+        has closing_sign right ≡ true →
+        Written members order place ((atoms ++ left ∷ []) ++ right ∷ []) (Alone f)
+
+  -- some of these, with one of some signs between two of them
+  pub data Listed : ℕ → ℕ → ℕ → ℕ → List ℕ → List Source → Type 0 where
+    one : {level signs order place : ℕ} {atoms : List ℕ} {a : Source} → Written level order place atoms a →
+        Listed level signs order place atoms (a ∷ [])
+    more : {level signs order place : ℕ} (sign : ℕ) (left right : List ℕ) (sources : List Source) (a : Source) →
+        Listed level signs order place left sources → has signs sign ≡ true →
+        Written level (suc (order + length left)) (place + leaf_count_of_all sources) right a →
+        Listed level signs order place (left ++ sign ∷ right) (sources ++ a ∷ [])
