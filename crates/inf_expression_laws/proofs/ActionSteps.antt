@@ -1,5 +1,5 @@
 -- What an action gathers of an expression is all that it does to the unit.
-use Rattle.std.proofs.Common.{◌≡◌, Some, refl, ap}
+use Rattle.std.proofs.Common.{◌≡◌, Bool, true, false, Some, refl, ap}
 use Rattle.inf_syntax.specs.declared.actions.Action.{Action}
 use Rattle.inf_syntax.specs.declared.actions.Action.TheVariants as action
 use Rattle.inf_unit.specs.declared.steps.Step.{Step}
@@ -111,3 +111,114 @@ acted_step action.OuterWord s u e = cc
 acted_step action.EndCase s u e = ap (λ o. stepped o u) e
 acted_step action.To s u e = ap (λ o. stepped o u) e
 acted_step action.MaybeDeeper s u e = ap (λ o. stepped o u) e
+
+-- the action that only tells that an expression surely is one
+abbrev pub is_sure : Action → Bool
+is_sure action.OuterSure = true
+is_sure _ = false
+
+pub only_sure : (a : Action) → is_sure a ≡ true → a ≡ action.OuterSure
+only_sure action.Routine e = cc
+only_sure action.EndLocals e = cc
+only_sure action.EndRoutine e = cc
+only_sure action.EndHeader e = cc
+only_sure action.EndText e = cc
+only_sure action.EndBody e = cc
+only_sure action.EndDirective e = cc
+only_sure action.Outer e = cc
+only_sure action.Name e = cc
+only_sure action.EndEntry e = cc
+only_sure action.EndAlone e = cc
+only_sure action.Hold e = cc
+only_sure action.EndClass e = cc
+only_sure action.EndProperty e = cc
+only_sure action.EndValue e = cc
+only_sure action.EndEmbedded e = cc
+only_sure action.Negate e = cc
+only_sure action.EndAttribute e = cc
+only_sure action.EndLine e = cc
+only_sure action.Comma e = cc
+only_sure action.Not e = cc
+only_sure action.BitNot e = cc
+only_sure action.Assign e = cc
+only_sure action.And e = cc
+only_sure action.Or e = cc
+only_sure action.Equal e = cc
+only_sure action.Unequal e = cc
+only_sure action.Less e = cc
+only_sure action.Greater e = cc
+only_sure action.LessOrEqual e = cc
+only_sure action.GreaterOrEqual e = cc
+only_sure action.Has e = cc
+only_sure action.HasNot e = cc
+only_sure action.In e = cc
+only_sure action.NotIn e = cc
+only_sure action.OfClass e = cc
+only_sure action.Provides e = cc
+only_sure action.Count e = cc
+only_sure action.Part e = cc
+only_sure action.Plus e = cc
+only_sure action.Minus e = cc
+only_sure action.Times e = cc
+only_sure action.Divide e = cc
+only_sure action.Remainder e = cc
+only_sure action.BitAnd e = cc
+only_sure action.BitOr e = cc
+only_sure action.ByteEntry e = cc
+only_sure action.WordEntry e = cc
+only_sure action.IncrementBefore e = cc
+only_sure action.DecrementBefore e = cc
+only_sure action.IncrementAfter e = cc
+only_sure action.DecrementAfter e = cc
+only_sure action.MemberAddress e = cc
+only_sure action.MemberLength e = cc
+only_sure action.Member e = cc
+only_sure action.Call e = cc
+only_sure action.Text e = cc
+only_sure action.Bracket e = cc
+only_sure action.Bracketed e = cc
+only_sure action.Number e = cc
+only_sure action.Char e = cc
+only_sure action.Word e = cc
+only_sure action.Action e = cc
+only_sure action.System e = cc
+only_sure action.Begin e = cc
+only_sure action.Deeper e = cc
+only_sure action.EndStatement e = cc
+only_sure action.OuterMaybe e = cc
+only_sure action.PrintText e = cc
+only_sure action.OuterSure e = refl
+only_sure action.OpenIf e = cc
+only_sure action.EndIf e = cc
+only_sure action.Else e = cc
+only_sure action.Close e = cc
+only_sure action.OpenWhile e = cc
+only_sure action.EndWhile e = cc
+only_sure action.OpenDo e = cc
+only_sure action.Until e = cc
+only_sure action.EndUntil e = cc
+only_sure action.OpenFor e = cc
+only_sure action.ForTop e = cc
+only_sure action.EndForStart e = cc
+only_sure action.EndForTest e = cc
+only_sure action.EndForStep e = cc
+only_sure action.OpenObjectloop e = cc
+only_sure action.EndObjectloop e = cc
+only_sure action.Loop e = cc
+only_sure action.OpenSwitch e = cc
+only_sure action.EndSwitch e = cc
+only_sure action.OuterEnd e = cc
+only_sure action.Set e = cc
+only_sure action.Clear e = cc
+only_sure action.AsmText e = cc
+only_sure action.Store e = cc
+only_sure action.Branch e = cc
+only_sure action.BranchNot e = cc
+only_sure action.PrintValue e = cc
+only_sure action.Rule e = cc
+only_sure action.PrintRule e = cc
+only_sure action.Default e = cc
+only_sure action.OuterWord e = cc
+only_sure action.EndCase e = cc
+only_sure action.To e = cc
+only_sure action.MaybeDeeper e = cc

@@ -1,13 +1,13 @@
 -- The tokens of an expression are read: what is gathered is the expression that they are.
-use Rattle.std.proofs.Common.{◌≡◌, ℕ, zero, suc, ◌+◌, ◌-◌, ◌≤◌, ◌<◌, List, [], ◌∷◌, ◌++◌, length, Bool, true, false, Option, Some, None, refl, sym, ◌∙◌, ap, subst, append_assoc, append-nil, arith, if◌then◌else◌}
+use Rattle.std.proofs.Common.{◌≡◌, ℕ, ◌+◌, ◌≤◌, ◌<◌, List, [], ◌∷◌, ◌++◌, length, true, false, Option, Some, None, refl, sym, ◌∙◌, ap, subst, append_assoc, append-nil, arith}
 use Rattle.std.specs.Prelude.{option_map, slice_get}
 use Rattle.std.proofs.lemmas.List.{length-append}
-use Rattle.std.proofs.lemmas.Bool.{both_ways, cond-false}
+use Rattle.std.proofs.lemmas.Bool.{cond-false}
 use Rattle.inf_machine.specs.declared.symbols.Symbol.{Symbol}
-use Rattle.inf_machine.specs.declared.symbols.Symbol.TheVariants.{Token, Rule, Act}
-use Rattle.inf_machine.specs.Grammar.{Event, IsOneOf, IsText, Leads, Took, Did, first, later, has, here, token, action, row}
+use Rattle.inf_machine.specs.Grammar.{Event, IsOneOf, Leads, first, later, here, token, action, row}
 use Rattle.inf_machine.proofs.Sets.{has_within}
 use Rattle.inf_syntax.specs.declared.actions.Action.{Action}
+use Rattle.inf_syntax.specs.declared.actions.Action.TheVariants as act
 use Rattle.inf_expressions.specs.declared.operators.Binary.{Binary}
 use Rattle.inf_expressions.specs.declared.operators.Binary.TheVariants as binary
 use Rattle.inf_expressions.specs.declared.operators.Unary.{Unary}
@@ -17,16 +17,16 @@ use Rattle.inf_unit.specs.declared.steps.Step.{Step}
 use Rattle.inf_unit.specs.declared.steps.Step.TheVariants as step
 use Rattle.inf_unit.specs.Steps.{step_of}
 use Rattle.inf_unit.specs.Tokens.{Spelled}
-use Rattle.inf_unit.specs.Units.{Unit, acted, depth_behind, kind_at, stepped, taken}
+use Rattle.inf_unit.specs.Units.{Unit, acted, depth_behind, stepped, taken}
 use Rattle.inf_grammar.specs.Language.{grammar}
-use Rattle.inf_expression_laws.specs.Precedence.{Written, closing_sign, primaries, sign_behind, sign_between, sign_in_front, sign_of_test}
-use Rattle.inf_expression_laws.specs.Gathered.{AreSeen, IsSeen, read_by, with_source}
+use Rattle.inf_expression_laws.specs.Precedence.{Written, sign_behind, sign_between, sign_in_front, sign_of_test}
+use Rattle.inf_expression_laws.specs.Gathered.{AreSeen, IsSeen, read_by}
 use Rattle.inf_expression_laws.specs.Laws.{ExpressionsAreRead}
 use Rattle.inf_expression_laws.proofs.ActionSteps.{acted_step}
-use Rattle.inf_expression_laws.proofs.Items.{Item, Closing, Sign, Whole}
+use Rattle.inf_expression_laws.proofs.Items.{Item, Whole}
 use Rattle.inf_expression_laws.proofs.Leaves.{At, action_stands, leaf_stands, opened_stands}
 use Rattle.inf_expression_laws.proofs.Standing.{Frame, gained, Known, Stands, moved, read, start, weakened, whole}
-use Rattle.inf_expression_laws.proofs.Steps.{assign_stands, call_stands, closed_stands, closing_stands, comma_stands, front_stands, list_stands, more_stands, one_stands, placed, suffix_stands, test_stands, two_stands}
+use Rattle.inf_expression_laws.proofs.Steps.{assign_stands, bracketed_stands, call_stands, closed_stands, closing_stands, comma_stands, front_stands, list_stands, more_stands, one_stands, suffix_stands, test_stands, two_stands}
 use Rattle.inf_expression_laws.proofs.Typed as typed
 use Rattle.inf_expression_laws.proofs.Typed.{Change, form_passes, Passes, below, between_changes, front_changes, joined, row_passes, step_changes, suffix_changes, test_changes, two_changes}
 
@@ -38,6 +38,9 @@ record Read (f : Frame) (items : List Item) (seen : List ℕ) (u : Unit) (tokens
 -- what is gathered changes nothing else
 at_gathered : {f : Frame} {u : Unit} {count : ℕ} {tokens : List Spelled} (g : Gathering) → At f u count tokens → At f (record u { gathering = g }) count tokens
 at_gathered g a = record { all = a.all; long = a.long; outer = a.outer; begun = a.begun; early = a.early; ready = a.ready; few = a.few }
+
+at_sure : {f : Frame} {u : Unit} {count : ℕ} {tokens : List Spelled} → At f u count tokens → At f (record u { is_sure = true }) count tokens
+at_sure a = record { all = a.all; long = a.long; outer = a.outer; begun = a.begun; early = a.early; ready = a.ready; few = a.few }
 
 few_seen : {f : Frame} {u : Unit} {count : ℕ} {tokens : List Spelled} → At f u count tokens → count < 4294967295
 few_seen {f} {u} {count} {tokens} a = omega (arith, a.few, ap length a.all, length-append u.tokens tokens, a.long)
@@ -106,8 +109,9 @@ stepped_stands rest (Some step.Call) c (later m) u tokens r = elim m [ ]
 stepped_stands rest (Some (step.Test op)) c m u tokens r = record { stands = test_by rest op c (sign_of_test op) refl m r.stands; at = at_gathered _ r.at }
 stepped_stands rest (Some step.Bracket) c first u tokens r = record { stands = opened_stands u tokens r.at r.stands; at = at_gathered _ r.at }
 stepped_stands rest (Some step.Bracket) c (later m) u tokens r = elim m [ ]
-stepped_stands rest (Some step.Bracketed) c first u tokens r = record { stands = closing_stands r.stands; at = at_gathered _ r.at }
-stepped_stands rest (Some step.Bracketed) c (later m) u tokens r = elim m [ ]
+stepped_stands rest (Some step.Bracketed) c first u tokens r = record { stands = bracketed_stands r.stands; at = at_gathered _ r.at }
+stepped_stands rest (Some step.Bracketed) c (later first) u tokens r = record { stands = closing_stands r.stands; at = at_gathered _ r.at }
+stepped_stands rest (Some step.Bracketed) c (later (later m)) u tokens r = elim m [ ]
 
 -- an action
 acts : {f : Frame} {seen : List ℕ} (rest : List Item) (a : Action) (c : Change) → IsOneOf c (step_changes (step_of a)) → (u : Unit) (tokens : List Spelled) →
@@ -129,29 +133,32 @@ taken_ready t u e = cond-false u.is_over (record u { is_over = false }) (record 
 with_token : {f : Frame} {items : List Item} {seen : List ℕ} {u : Unit} (t : Spelled) (tokens : List Spelled) (atom : ℕ) → IsSeen atom t → Read f items seen u (t ∷ tokens) →
     ((other : List Item) → Stands f other (seen ++ atom ∷ []) u.gathering → Read f other (seen ++ atom ∷ []) (taken t u) tokens) × Known f (f.order + length seen) atom
 with_token {f} {items} {seen} {u} t tokens atom is r =
-    let a = r.at in
-    (λ other s. subst (λ v. Read f other (seen ++ atom ∷ []) v tokens) (sym (taken_ready t u a.ready)) (record {
-      stands = s;
-      at = record {
-        all = a.all ∙ sym (append_assoc u.tokens (t ∷ []) tokens);
-        long = omega (arith, length-append u.tokens (t ∷ []), a.long, length-append seen (atom ∷ []));
-        outer = a.outer;
-        begun = a.begun;
-        early = a.early;
-        ready = a.ready;
-        few = a.few;
-      };
-    }), record {
-      seen = t.kind;
-      is = ap (option_map (λ (x : Spelled). x.kind)) (ap (λ n. slice_get f.all n) (sym a.long) ∙ ap (λ ts. slice_get ts (length u.tokens)) a.all ∙ last_of u.tokens tokens t);
-      mark = is;
-    })
+    let a = r.at in (
+      λ other s. subst (λ v. Read f other (seen ++ atom ∷ []) v tokens) (sym (taken_ready t u a.ready)) (record {
+        stands = s;
+        at = record {
+          all = a.all ∙ sym (append_assoc u.tokens (t ∷ []) tokens);
+          long = omega (arith, length-append u.tokens (t ∷ []), a.long, length-append seen (atom ∷ []));
+          outer = a.outer;
+          begun = a.begun;
+          early = a.early;
+          ready = a.ready;
+          few = a.few;
+        };
+      }),
+      record {
+        seen = t.kind;
+        is = ap (option_map (λ (x : Spelled). x.kind)) (ap (λ n. slice_get f.all n) (sym a.long) ∙ ap (λ ts. slice_get ts (length u.tokens)) a.all ∙ last_of u.tokens tokens t);
+        mark = is;
+      },
+    )
 
 -- where nothing is left to be read
 at_end : {f : Frame} {symbols : List (Symbol Action)} {items target : List Item} → symbols ≡ [] → Passes items symbols target → {seen : List ℕ} {g : Gathering} → Stands f items seen g → Stands f target seen g
 at_end e (typed.done w) s = weakened s w
 at_end e (typed.token p) s = cc
 at_end e (typed.close w h p) s = cc
+at_end e (typed.sure p) s = cc
 at_end e (typed.act c rest one w p) s = cc
 at_end e (typed.rule c rest is w p) s = cc
 
@@ -171,6 +178,8 @@ reads (token {atom = atom} {atoms = atoms} {events = events} h l) e {f = f} {tar
     let n = with_token t tokens atom a.0 r in
     subst (λ s. Read f target s (read_by events tokens (taken t u)) []) (append_assoc seen (atom ∷ []) atoms)
     (reads l e p (taken t u) tokens a.1 (n.0 _ (closed_stands atom (has_within _ _ atom i h) (weakened r.stands w))))
+reads (action l) e {f = f} {seen = seen} (typed.sure p) u tokens a r =
+    reads l e p (acted act.OuterSure u) tokens a (record { stands = r.stands; at = at_sure r.at })
 reads (action {a = does} l) e {f = f} {seen = seen} (typed.act c rest one w p) u tokens a r =
     reads l e p (acted does u) tokens a (acts rest does c one u tokens (record { stands = weakened r.stands w; at = r.at }))
 reads (row {rule = number} {r = way} one not l) e {f = f} {seen = seen} (typed.rule c rest is w p) u tokens a r =

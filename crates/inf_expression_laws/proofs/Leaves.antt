@@ -1,5 +1,5 @@
 -- Leaves and opening brackets: what the last token of a unit is.
-use Rattle.std.proofs.Common.{◌≡◌, ℕ, zero, suc, ◌+◌, ◌-◌, ◌≤◌, ◌<◌, List, [], ◌∷◌, ◌++◌, length, Bool, true, false, ◌&&◌, ◌==◌, min, Option, Some, None, refl, sym, ◌∙◌, ap, subst, append_assoc, append-nil, arith, if◌then◌else◌}
+use Rattle.std.proofs.Common.{◌≡◌, ℕ, zero, suc, ◌+◌, ◌-◌, ◌≤◌, ◌<◌, List, [], ◌∷◌, ◌++◌, length, Bool, true, false, ◌&&◌, ◌==◌, Some, refl, sym, ◌∙◌, ap, append_assoc, arith}
 use Rattle.std.specs.Prelude.{option_map, slice_get}
 use Rattle.std.proofs.lemmas.List.{length-append}
 use Rattle.std.proofs.lemmas.Bool.{both_ways, cond-true, cond-false, eq-eqb, eqb-false, eqb-true, ne_eqb}
@@ -12,15 +12,15 @@ use Rattle.inf_scanner.specs.declared.tokens.TokenKind.TheVariants as kind
 use Rattle.inf_syntax.specs.Atoms.{mark_atom, of_mark}
 use Rattle.inf_syntax.specs.Classes.{operand as operand_names}
 use Rattle.inf_expressions.specs.declared.symbols.Symbol.TheVariants as symbol
-use Rattle.inf_expressions.specs.Sources.{Source, Leaf}
+use Rattle.inf_expressions.specs.Sources.{Leaf}
 use Rattle.inf_gathering.specs.declared.gathering.Leaf.TheVariants as leaf
-use Rattle.inf_gathering.specs.Gatherings.{Gathering, with_bracket, with_leaf}
+use Rattle.inf_gathering.specs.Gatherings.{with_bracket, with_leaf}
 use Rattle.inf_unit.specs.Tokens.{Spelled}
-use Rattle.inf_unit.specs.Units.{Unit, is_alone, is_assembly, is_first, is_sign, is_some_mark, kind_at, last_leaf, leaf_of, marked_from, order, told_leaf, with_last}
-use Rattle.inf_expression_laws.specs.Precedence.{Written, operand, action, opening_sign, operands, primaries}
+use Rattle.inf_unit.specs.Units.{Unit, is_alone, is_first, is_sign, is_some_mark, kind_at, last_leaf, leaf_of, marked_from, order, told_leaf, with_last}
+use Rattle.inf_expression_laws.specs.Precedence.{operand, action, opening_sign, operands, primaries}
 use Rattle.inf_expression_laws.specs.Gathered.{kind_in, leaf_read}
 use Rattle.inf_expression_laws.proofs.Items.{Item, Sign, Whole, Opened}
-use Rattle.inf_expression_laws.proofs.Standing.{Frame, gained, Known, Stands, read, whole, opened, moved}
+use Rattle.inf_expression_laws.proofs.Standing.{Frame, gained, Stands, read, whole, opened}
 use Rattle.inf_expression_laws.proofs.Steps.{placed}
 
 -- A unit that has taken some tokens of those of a frame

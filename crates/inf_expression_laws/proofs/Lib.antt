@@ -6,3 +6,8 @@ pub mod Leaves
 pub mod ActionSteps
 pub mod ExpressionsRead
 pub mod TreesRead
+pub mod OneText
+pub mod Built
+pub mod OperatorRows
+pub mod Building
+pub mod Texts

@@ -1,5 +1,5 @@
 -- What stands behind the tokens of an expression that were read, and what was gathered of them.
-use Rattle.std.proofs.Common.{◌≡◌, ℕ, zero, suc, ◌+◌, ◌-◌, ◌≤◌, ◌<◌, List, [], ◌∷◌, ◌++◌, length, true, Option, Some, None, refl, sym, ◌∙◌, ap, subst, append_assoc, append-nil, arith}
+use Rattle.std.proofs.Common.{◌≡◌, ℕ, zero, suc, ◌+◌, ◌-◌, ◌≤◌, ◌<◌, List, [], ◌∷◌, ◌++◌, length, true, Option, Some, refl, ◌∙◌, ap, subst, append_assoc, arith}
 use Rattle.std.specs.Prelude.{drop}
 use Rattle.std.proofs.lemmas.List.{length-append}
 use Rattle.inf_machine.specs.Grammar.{has}
@@ -174,9 +174,10 @@ pub all_gained_list : (f : Frame) (a : Source) (sources : List Source) (g : Gath
     × ((all_gained f (a ∷ sources) g).symbols ≡ g.symbols ++ symbols_of (is_open g.brackets) (list_of a sources))
 all_gained_list f a [] g = (refl, refl)
 all_gained_list f a (b ∷ sources) g =
-    let rest = all_gained_list f b sources (gained f a g) in
-    (rest.0 ∙ append_assoc g.leaves (leaves_of f.outer f.begun f.all a) (leaves_of f.outer f.begun f.all (list_of b sources)),
-    rest.1 ∙ append_assoc g.symbols (symbols_of (is_open g.brackets) a) (symbols_of (is_open g.brackets) (list_of b sources)))
+    let rest = all_gained_list f b sources (gained f a g) in (
+      rest.0 ∙ append_assoc g.leaves (leaves_of f.outer f.begun f.all a) (leaves_of f.outer f.begun f.all (list_of b sources)),
+      rest.1 ∙ append_assoc g.symbols (symbols_of (is_open g.brackets) a) (symbols_of (is_open g.brackets) (list_of b sources)),
+    )
 
 abbrev are_no_lists : List Source → Type 0
 are_no_lists [] = 0 ≤ 0

@@ -1,6 +1,5 @@
 -- What each action of an expression makes of what stands behind its tokens.
-use Rattle.std.proofs.Common.{◌≡◌, ℕ, zero, suc, ◌+◌, ◌-◌, ◌≤◌, ◌<◌, List, [], ◌∷◌, ◌++◌, length, Bool, true, false, ◌&&◌, ◌==◌, min, Option, Some, None, refl, sym, ◌∙◌, ap, subst, append_assoc, append-nil, arith, if◌then◌else◌}
-use Rattle.std.specs.Prelude.{drop}
+use Rattle.std.proofs.Common.{◌≡◌, ℕ, suc, ◌+◌, ◌-◌, ◌<◌, List, [], ◌∷◌, ◌++◌, length, Bool, true, false, ◌==◌, Some, refl, sym, ◌∙◌, ap, subst, append_assoc, arith}
 use Rattle.std.proofs.lemmas.List.{length-append}
 use Rattle.std.proofs.lemmas.Bool.{cond-false, ne_eqb, both_ways}
 use Rattle.inf_machine.specs.Grammar.{has}
@@ -12,11 +11,11 @@ use Rattle.inf_expressions.specs.declared.operators.Unary.{Unary}
 use Rattle.inf_expressions.specs.declared.symbols.Symbol.{Symbol}
 use Rattle.inf_expressions.specs.declared.symbols.Symbol.TheVariants as symbol
 use Rattle.inf_expressions.specs.Sources.{Source, Brackets, Prefix, Suffix, Two, Call, Alone}
-use Rattle.inf_gathering.specs.Gatherings.{Gathering, beginning, comma, counted, latest, one_more, with_bracket, with_call, with_closed_bracket, with_comma, with_list, with_part, with_prefix, with_suffix, with_test, with_two}
-use Rattle.inf_expression_laws.specs.Precedence.{Written, in_front, behind, between, assigned, tested, called, alone, brackets, Listed, one, more, assignments, closing_sign, comma_sign, commas, connections, leaf_count, leaf_count_of_all, list_of, members, opening_sign, or_sign, primaries, sign_behind, sign_between, sign_in_front, sign_of_test, sums, tests}
+use Rattle.inf_gathering.specs.Gatherings.{Gathering, comma, counted, with_call, with_closed_bracket, with_comma, with_list, with_part, with_prefix, with_suffix, with_test, with_two}
+use Rattle.inf_expression_laws.specs.Precedence.{Written, in_front, behind, between, assigned, tested, called, alone, brackets, one, more, assignments, closing_sign, comma_sign, commas, connections, leaf_count, list_of, members, opening_sign, or_sign, primaries, sign_behind, sign_between, sign_in_front, sign_of_test, sums, tests}
 use Rattle.inf_expression_laws.specs.Gathered.{first_of, is_open, joints, leaves_of, symbols_behind, symbols_of}
 use Rattle.inf_expression_laws.proofs.Items.{Item, Sign, Whole, Opened, Closing, NoneYet, Parts, Any}
-use Rattle.inf_expression_laws.proofs.Standing.{Frame, gained, all_gained, with_parts, Known, Stands, start, read, whole, opened, closing, none_yet, parts, some, nothing, begins, leaves_count, gained_leaves, all_gained_leaves, all_gained_append, all_gained_rest, all_gained_firsts, all_gained_list, list_joints, listed_moved, moved, parts_have_tokens}
+use Rattle.inf_expression_laws.proofs.Standing.{Frame, gained, all_gained, with_parts, Stands, read, whole, opened, closing, none_yet, parts, some, nothing, begins, gained_leaves, all_gained_leaves, all_gained_append, all_gained_rest, all_gained_firsts, all_gained_list, list_joints, listed_moved, moved, parts_have_tokens}
 
 -- Lists one behind the other
 three : (xs ys : List ℕ) (z : ℕ) (zs : List ℕ) → xs ++ (ys ++ z ∷ zs) ≡ ((xs ++ ys) ++ z ∷ []) ++ zs
@@ -257,3 +256,8 @@ pub closed_stands : {f : Frame} {rest : List Item} {seen : List ℕ} {g : Gather
 closed_stands {f} right r (closing seen left atoms a g s h w) =
     placed (sym (append_assoc seen (left ∷ atoms) (right ∷ []))) refl
     (whole seen (left ∷ (atoms ++ right ∷ [])) (Brackets (f.order + length seen) a) g s (brackets right atoms h w r))
+
+-- where the closing one is taken first
+pub bracketed_stands : {f : Frame} {rest : List Item} {seen : List ℕ} {g : Gathering} →
+    Stands f (Sign closing_sign ∷ Whole commas ∷ Opened ∷ rest) seen g → Stands f (Whole primaries ∷ rest) seen (with_closed_bracket g)
+bracketed_stands (read _ right s r k) = closed_stands right r (closing_stands s)

@@ -1,22 +1,20 @@
 -- What each row of an expression does to what stands behind its tokens: a table of its rules, checked against the grammar by evaluation.
-use Rattle.std.proofs.Common.{◌≡◌, ℕ, suc, ◌≤◌, List, [], ◌∷◌, ◌++◌, Bool, true, false, not, ◌&&◌, ◌||◌, ◌==◌, Option, Some, None, refl, sym, ◌∙◌, ap, subst, append_assoc, arith, inl, inr, if◌then◌else◌}
+use Rattle.std.proofs.Common.{◌≡◌, ℕ, suc, List, [], ◌∷◌, ◌++◌, Bool, true, false, ◌&&◌, ◌==◌, Option, Some, None, refl, sym, ◌∙◌, ap, subst, append_assoc, inl, inr, if◌then◌else◌}
 use Rattle.std.proofs.lemmas.Bool.{agree_below, agree_below_at, and_parts, cases_lt}
 use Rattle.std.proofs.lemmas.Option.{same_Some}
 use Rattle.inf_machine.specs.declared.symbols.Symbol.{Symbol}
 use Rattle.inf_machine.specs.declared.symbols.Symbol.TheVariants.{Token, Rule, Act}
 use Rattle.inf_machine.specs.Decided.{is_within}
 use Rattle.inf_machine.specs.Pieces.{all_rows}
-use Rattle.inf_machine.specs.Grammar.{Row, IsOneOf, first, later, has}
-use Rattle.inf_machine.proofs.Sets.{has_within}
+use Rattle.inf_machine.specs.Grammar.{Row, IsOneOf, first, later}
 use Rattle.inf_scanner.specs.declared.tokens.Mark.TheVariants as mark
 use Rattle.inf_syntax.specs.declared.actions.Action.{Action}
 use Rattle.inf_syntax.specs.declared.actions.Action.TheVariants as action
 use Rattle.inf_syntax.specs.Atoms.{of_mark}
 use Rattle.inf_syntax.specs.Classes.{operand}
-use Rattle.inf_syntax.specs.Parts.{address_operator, address_tail, after_prim, after_unary, array_operator, array_tail, assign, assign_tail, assign_tail_1, bit, bracketed, call, call_1, call_2, expression, expression_tail, inc, inner_operator, logic, logic_operator, logic_tail, member_operator, neg, negated, operator, other_assign, other_operator, other_prim, outer_operator, plain_prim, post, post_tail, prefixed, prim, step_operator, step_prefix, step_tail, sum, sum_operator, sum_tail, term, term_operator, term_tail, test, test_tail, test_tail_1, tested, tested_1}
+use Rattle.inf_syntax.specs.Parts.{address_operator, address_tail, after_prim, after_unary, array_operator, array_tail, assign, assign_tail, assign_tail_1, bare_prim, bit, bracketed, call, call_1, call_2, entry, expression, expression_tail, inc, inner_operator, logic, logic_operator, logic_tail, member_operator, neg, negated, operator, other_assign, other_operator, other_prim, outer_operator, plain_prim, post, post_tail, prefixed, prim, step_operator, step_prefix, step_tail, sum, sum_operator, sum_tail, term, term_operator, term_tail, test, test_tail, test_tail_1, tested, tested_1}
 use Rattle.inf_expressions.specs.declared.operators.Binary.{Binary}
 use Rattle.inf_expressions.specs.declared.operators.Binary.TheVariants as binary
-use Rattle.inf_expressions.specs.declared.operators.Unary.{Unary}
 use Rattle.inf_unit.specs.declared.steps.Step.{Step}
 use Rattle.inf_unit.specs.declared.steps.Step.TheVariants as step
 use Rattle.inf_unit.specs.Steps.{step_of}
@@ -24,6 +22,7 @@ use Rattle.inf_grammar.specs.Language.{grammar}
 use Rattle.inf_grammar.specs.Evaluated.{rows_past}
 use Rattle.inf_expression_laws.specs.Precedence.{addresses, assignments, closing_sign, comma_sign, commas, complements, connections, denials, entries, members, negations, opening_sign, operands, or_sign, primaries, products, sign_behind, sign_between, sign_in_front, sign_of_test, steps_behind, steps_in_front, sums, tests}
 use Rattle.inf_expression_laws.specs.Laws.{Form, forms}
+use Rattle.inf_expression_laws.proofs.ActionSteps.{is_sure, only_sure}
 use Rattle.inf_expression_laws.proofs.Items.{Item, Sign, Whole, Opened, Closing, NoneYet, Parts, Any, Within, all_fit, all_fit_sound, all_popped, all_popped_sound, and_then, fits_same, item, within_append, within_same, within_trans}
 
 -- What is taken from the top, and what is put there
@@ -74,7 +73,8 @@ step_changes (Some step.Part) =
 step_changes (Some step.Call) = change (Sign closing_sign ∷ Any assignments comma_sign ∷ Sign opening_sign ∷ Whole members ∷ []) (Whole members ∷ []) ∷ []
 step_changes (Some (step.Test op)) = test_changes (sign_of_test op)
 step_changes (Some step.Bracket) = change (Sign opening_sign ∷ []) (Opened ∷ []) ∷ []
-step_changes (Some step.Bracketed) = change (Whole commas ∷ Opened ∷ []) (Closing ∷ []) ∷ []
+step_changes (Some step.Bracketed) =
+    change (Sign closing_sign ∷ Whole commas ∷ Opened ∷ []) (Whole primaries ∷ []) ∷ change (Whole commas ∷ Opened ∷ []) (Closing ∷ []) ∷ []
 
 -- of a rule
 pub record Typing : Type 0 where
@@ -89,6 +89,8 @@ typings =
     typing expression [] (Whole commas ∷ [])
     ∷ typing expression_tail (Whole commas ∷ []) (Whole commas ∷ [])
     ∷ typing assign [] (Whole assignments ∷ [])
+    ∷ typing entry [] (Whole negations ∷ [])
+    ∷ typing bare_prim [] (Whole primaries ∷ [])
     ∷ typing other_assign [] (Whole assignments ∷ [])
     ∷ typing prefixed [] (Whole assignments ∷ [])
     ∷ typing assign_tail (Whole connections ∷ []) (Whole assignments ∷ [])
@@ -173,7 +175,7 @@ with_token set items = Sign set ∷ items
 abbrev pub passed : List (Symbol Action) → List Item → Option (List Item)
 passed [] items = Some items
 passed (Token class ∷ symbols) items = passed symbols (with_token (grammar.atoms_of class) items)
-passed (Act a ∷ symbols) items = and_then (passed symbols) (changed_by_one (step_changes (step_of a)) items)
+passed (Act a ∷ symbols) items = if is_sure a then passed symbols items else and_then (passed symbols) (changed_by_one (step_changes (step_of a)) items)
 passed (Rule rule ∷ symbols) items = and_then (passed symbols) (changed_by (rule_change rule) items)
 
 -- the same as a relation
@@ -181,6 +183,7 @@ pub data Passes : List Item → List (Symbol Action) → List Item → Type 0 wh
   done : {items target : List Item} → Within items target → Passes items [] target
   token : {class : ℕ} {items target : List Item} {symbols : List (Symbol Action)} → Passes (Sign (grammar.atoms_of class) ∷ items) symbols target → Passes items (Token class ∷ symbols) target
   close : {class : ℕ} {items rest target : List Item} {symbols : List (Symbol Action)} → Within items (Closing ∷ rest) → is_within (grammar.atoms_of class) closing_sign ≡ true → Passes (Whole primaries ∷ rest) symbols target → Passes items (Token class ∷ symbols) target
+  sure : {items target : List Item} {symbols : List (Symbol Action)} → Passes items symbols target → Passes items (Act action.OuterSure ∷ symbols) target
   act : {a : Action} {items target : List Item} {symbols : List (Symbol Action)} (c : Change) (rest : List Item) → IsOneOf c (step_changes (step_of a)) → Within items (c.old ++ rest) → Passes (c.now ++ rest) symbols target → Passes items (Act a ∷ symbols) target
   rule : {r : ℕ} {items target : List Item} {symbols : List (Symbol Action)} (c : Change) (rest : List Item) → rule_change r ≡ Some c → Within items (c.old ++ rest) → Passes (c.now ++ rest) symbols target → Passes items (Rule r ∷ symbols) target
 
@@ -241,13 +244,17 @@ pub passed_sound : (symbols : List (Symbol Action)) (items target last : List It
 passed_sound [] items target last e w = done (subst (λ l. Within l target) (sym (same_Some items last e)) w)
 passed_sound (Token class ∷ symbols) items target last e w = passed_token class items target symbols (passed_sound symbols (with_token (grammar.atoms_of class) items) target last e w)
 passed_sound (Act a ∷ symbols) items target last e w =
-    by_next (λ next q. passed_sound symbols next target last q w) (changed_by_one (step_changes (step_of a)) items) refl e
+    by_sure (λ q. passed_sound symbols items target last q w) (λ next q. passed_sound symbols next target last q w) (is_sure a) refl e
   where
     by_next : ((next : List Item) → passed symbols next ≡ Some last → Passes next symbols target) → (o : Option (List Item)) → changed_by_one (step_changes (step_of a)) items ≡ o → and_then (passed symbols) o ≡ Some last → Passes items (Act a ∷ symbols) target
     by_next on None p q = cc
     by_next on (Some next) p q =
         let t = one_sound (step_changes (step_of a)) items next p in
         act t.c t.took.rest t.one t.took.within (subst (λ n. Passes n symbols target) t.took.is (on next q))
+
+    by_sure : (passed symbols items ≡ Some last → Passes items symbols target) → ((next : List Item) → passed symbols next ≡ Some last → Passes next symbols target) → (b : Bool) → is_sure a ≡ b → (if b then passed symbols items else and_then (passed symbols) (changed_by_one (step_changes (step_of a)) items)) ≡ Some last → Passes items (Act a ∷ symbols) target
+    by_sure same on true f q = subst (λ x. Passes items (Act x ∷ symbols) target) (sym (only_sure a f)) (sure (same q))
+    by_sure same on false f q = by_next on (changed_by_one (step_changes (step_of a)) items) refl q
 passed_sound (Rule r ∷ symbols) items target last e w =
     by_next (λ next q. passed_sound symbols next target last q w) (changed_by (rule_change r) items) refl e
   where
@@ -264,6 +271,7 @@ narrower w (done v) = done (within_trans w v)
 narrower {items = items} w (token {class = class} {items = wider} {target = target} {symbols = symbols} p) =
     token (narrower {items = Sign (grammar.atoms_of class) ∷ items} (item (fits_same (Sign (grammar.atoms_of class))) w) p)
 narrower w (close v e p) = close (within_trans w v) e p
+narrower w (sure p) = sure (narrower w p)
 narrower w (act c rest one v p) = act c rest one (within_trans w v) p
 narrower w (rule c rest is v p) = rule c rest is (within_trans w v) p
 
@@ -271,6 +279,7 @@ pub joined : {items middle target : List Item} {symbols more : List (Symbol Acti
 joined (done w) q = narrower w q
 joined (token p) q = token (joined p q)
 joined (close w e p) q = close w e (joined p q)
+joined (sure p) q = sure (joined p q)
 joined (act c rest one w p) q = act c rest one w (joined p q)
 joined (rule c rest is w p) q = rule c rest is w (joined p q)
 
@@ -278,6 +287,7 @@ pub below : {items target : List Item} {symbols : List (Symbol Action)} (under :
 below under (done w) = done (within_append under w)
 below under (token p) = token (below under p)
 below under (close w e p) = close (within_append under w) e (below under p)
+below under (sure p) = sure (below under p)
 below under (act {items = items} {target = target} {symbols = symbols} c rest one w p) =
     act c (rest ++ under) one
     (subst (λ xs. Within (items ++ under) xs) (append_assoc c.old rest under) (within_append under w))

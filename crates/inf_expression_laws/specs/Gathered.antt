@@ -1,5 +1,5 @@
 -- What a unit has gathered of an expression once its tokens were taken.
-use Rattle.std.specs.Prelude.{◌≡◌, ℕ, suc, ◌+◌, ◌==◌, List, [], ◌∷◌, ◌++◌, length, Bool, true, false, ◌&&◌, if◌then◌else◌, Option, Some, None, ⊤}
+use Rattle.std.specs.Prelude.{◌≡◌, ℕ, suc, ◌==◌, List, [], ◌∷◌, ◌++◌, Bool, true, false, ◌&&◌, if◌then◌else◌, Option, Some, None, ⊤}
 use Rattle.inf_machine.specs.Grammar.{Event, Took, Did}
 use Rattle.inf_scanner.specs.declared.tokens.Mark.{Mark}
 use Rattle.inf_scanner.specs.declared.tokens.Mark.TheVariants as mark
@@ -14,7 +14,7 @@ use Rattle.inf_expressions.specs.declared.symbols.Symbol.TheVariants as symbol
 use Rattle.inf_expressions.specs.Sources.{Source, Leaf, Brackets, Prefix, Suffix, Two, Then, Call, Alone}
 use Rattle.inf_gathering.specs.declared.gathering.Leaf.{Leaf as Gathered}
 use Rattle.inf_gathering.specs.declared.gathering.Leaf.TheVariants as leaf
-use Rattle.inf_gathering.specs.Gatherings.{Gathering, comma}
+use Rattle.inf_gathering.specs.Gatherings.{Gathering}
 use Rattle.inf_unit.specs.Tokens.{Spelled}
 use Rattle.inf_unit.specs.Units.{Unit, acted, is_first, is_some_mark, kind_at, leaf_of, taken, told_leaf}
 

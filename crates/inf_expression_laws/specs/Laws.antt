@@ -3,7 +3,7 @@ use Rattle.std.specs.Prelude.{◌≡◌, ℕ, ◌≤◌, ◌<◌, List, [], ◌�
 use Rattle.inf_machine.specs.declared.symbols.Symbol.{Symbol}
 use Rattle.inf_machine.specs.Grammar.{Event, IsOneOf, IsText}
 use Rattle.inf_syntax.specs.declared.actions.Action.{Action}
-use Rattle.inf_syntax.specs.Parts.{!name, !negate, 'minus', BEGINNAME, OPERAND, after_prim, after_unary, assign, bracketed, expression, expression_tail, logic, neg, plain_prim, post, prefixed, prim}
+use Rattle.inf_syntax.specs.Parts.{ !bracket, !bracketed, !comma, !name, !negate, !outer_sure, !text, 'close_parenthesis', 'comma', 'minus', 'open_parenthesis', BEGINNAME, CASENAME, NOTALIAS, OPERAND, TEXT, after_prim, after_unary, assign, bare_prim, bracketed, entry, expression, expression_tail, inner_operator, logic, neg, operator, other_assign, other_operator, outer_operator, plain_prim, post, prefixed, prim, step_prefix}
 use Rattle.inf_expressions.specs.declared.operators.Operand.{Operand}
 use Rattle.inf_expressions.specs.declared.units.Wanted.{Wanted}
 use Rattle.inf_expressions.specs.declared.units.Wanted.TheVariants as wanted
@@ -14,7 +14,7 @@ use Rattle.inf_expressions.specs.Units.{judged, trees_of}
 use Rattle.inf_grammar.specs.Language.{grammar}
 use Rattle.inf_unit.specs.Tokens.{Spelled}
 use Rattle.inf_unit.specs.Units.{Unit}
-use Rattle.inf_expression_laws.specs.Precedence.{Written, assignments, commas, connections, members, primaries}
+use Rattle.inf_expression_laws.specs.Precedence.{Written, assignments, commas, connections, members, negations, primaries}
 use Rattle.inf_expression_laws.specs.Gathered.{AreSeen, read_by, symbols_of, with_source}
 
 -- Symbols of the grammar that stand for an expression, and how tight it binds at least
@@ -25,8 +25,10 @@ pub record Form : Type 0 where
 abbrev form : List (Symbol Action) → ℕ → Form
 form symbols level = record { symbols = symbols; level = level }
 
--- Those of conditions and other expressions in brackets, of values, of the conditions of directives, and of operands; then those with
--- which statements and what is printed begin: with a name, with another operand, with an operator.
+-- Where an expression stands by itself: in brackets and behind `return` and the like, as a value or a condition of a directive, as an
+-- operand. Then as a statement, which begins with a name, another operand, a text or an operator; where a `switch` is over a statement or a
+-- case may begin, which parts the operators by those that bind tighter than a sign; and as what is printed, where a name in brackets may be
+-- a print rule.
 abbrev pub forms : List Form
 forms =
     form (expression ∷ []) commas
@@ -34,15 +36,40 @@ forms =
     ∷ form (logic ∷ []) connections
     ∷ form (post ∷ []) members
     ∷ form (prim ∷ []) primaries
+    ∷ form (entry ∷ []) negations
+    ∷ form (bare_prim ∷ []) primaries
+    ∷ form ('minus' ∷ bare_prim ∷ !negate ∷ []) negations
+    ∷ form (NOTALIAS ∷ !name ∷ after_prim ∷ []) assignments
+    ∷ form (other_assign ∷ []) assignments
     ∷ form (BEGINNAME ∷ !name ∷ after_prim ∷ expression_tail ∷ []) commas
     ∷ form (plain_prim ∷ after_prim ∷ expression_tail ∷ []) commas
     ∷ form (bracketed ∷ after_prim ∷ expression_tail ∷ []) commas
     ∷ form (prefixed ∷ expression_tail ∷ []) commas
     ∷ form ('minus' ∷ neg ∷ !negate ∷ after_unary ∷ expression_tail ∷ []) commas
+    ∷ form (TEXT ∷ !outer_sure ∷ !text ∷ operator ∷ expression_tail ∷ []) commas
+    ∷ form (TEXT ∷ !outer_sure ∷ !text ∷ 'comma' ∷ assign ∷ !comma ∷ expression_tail ∷ []) commas
+    ∷ form (CASENAME ∷ !name ∷ []) primaries
+    ∷ form (CASENAME ∷ !name ∷ operator ∷ expression_tail ∷ []) commas
+    ∷ form (CASENAME ∷ !name ∷ inner_operator ∷ after_unary ∷ expression_tail ∷ []) commas
+    ∷ form (CASENAME ∷ !name ∷ outer_operator ∷ expression_tail ∷ []) commas
+    ∷ form (plain_prim ∷ inner_operator ∷ after_unary ∷ expression_tail ∷ []) commas
+    ∷ form (plain_prim ∷ outer_operator ∷ expression_tail ∷ []) commas
+    ∷ form (bracketed ∷ inner_operator ∷ after_unary ∷ expression_tail ∷ []) commas
+    ∷ form (bracketed ∷ outer_operator ∷ expression_tail ∷ []) commas
+    ∷ form ('minus' ∷ prim ∷ inner_operator ∷ !negate ∷ after_unary ∷ expression_tail ∷ []) commas
+    ∷ form ('minus' ∷ prim ∷ !negate ∷ outer_operator ∷ expression_tail ∷ []) commas
+    ∷ form ('minus' ∷ 'minus' ∷ neg ∷ !negate ∷ !negate ∷ after_unary ∷ expression_tail ∷ []) commas
+    ∷ form ('minus' ∷ step_prefix ∷ !negate ∷ after_unary ∷ expression_tail ∷ []) commas
     ∷ form (OPERAND ∷ !name ∷ after_prim ∷ []) assignments
     ∷ form (plain_prim ∷ after_prim ∷ []) assignments
     ∷ form (prefixed ∷ []) assignments
     ∷ form ('minus' ∷ neg ∷ !negate ∷ after_unary ∷ []) assignments
+    ∷ form (TEXT ∷ !outer_sure ∷ !text ∷ operator ∷ []) assignments
+    ∷ form ('open_parenthesis' ∷ !bracket ∷ !outer_sure ∷ other_assign ∷ expression_tail ∷ !bracketed ∷ 'close_parenthesis' ∷ after_prim ∷ []) assignments
+    ∷ form ('open_parenthesis' ∷ !bracket ∷ OPERAND ∷ !name ∷ 'close_parenthesis' ∷ !outer_sure ∷ !bracketed ∷ []) primaries
+    ∷ form ('open_parenthesis' ∷ !bracket ∷ OPERAND ∷ !name ∷ 'close_parenthesis' ∷ !outer_sure ∷ !bracketed ∷ other_operator ∷ []) assignments
+    ∷ form ('open_parenthesis' ∷ !bracket ∷ OPERAND ∷ !name ∷ !outer_sure ∷ operator ∷ expression_tail ∷ !bracketed ∷ 'close_parenthesis' ∷ after_prim ∷ []) assignments
+    ∷ form ('open_parenthesis' ∷ !bracket ∷ OPERAND ∷ !name ∷ !outer_sure ∷ 'comma' ∷ assign ∷ !comma ∷ expression_tail ∷ !bracketed ∷ 'close_parenthesis' ∷ after_prim ∷ []) assignments
     ∷ []
 
 -- Whatever the tokens of a text of such a form are, they are an expression by the levels of its operators; and taking them, with the
@@ -71,3 +98,14 @@ SymbolsComeToTheirTree =
     Written level order place atoms a → (in_brackets || joins_commas w) ≡ true →
     (trees_of w unit operands (symbols_of in_brackets a) ≡ meant operands a ∷ [])
     × (judged w unit operands (symbols_of in_brackets a) ≡ root_finding w unit (seen (meant operands a)) (found_in unit operands a None))
+
+-- Every expression by the levels of its operators is a text of the grammar's rule of expressions.
+abbrev pub ExpressionsAreTexts : Type 0
+ExpressionsAreTexts =
+    (order place : ℕ) (atoms : List ℕ) (a : Source) → Written commas order place atoms a →
+    (events : List (Event Action)) × IsText grammar (expression ∷ []) atoms events
+
+-- No tokens are two expressions.
+abbrev pub TextsAreOneExpression : Type 0
+TextsAreOneExpression =
+    (level order place : ℕ) (atoms : List ℕ) (a b : Source) → Written level order place atoms a → Written level order place atoms b → a ≡ b
