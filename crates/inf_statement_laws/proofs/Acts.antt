@@ -1,0 +1,389 @@
+-- What each action leaves of the statements that are open.
+use Rattle.std.proofs.Common.{◌≡◌, ℕ, List, [], ◌∷◌, Bool, true, false, ◌&&◌, Option, Some, None, refl, ◌∙◌, ap}
+use Rattle.std.specs.Prelude.{unwrap_or}
+use Rattle.std.proofs.lemmas.Bool.{and_parts}
+use Rattle.inf_scanner.specs.declared.tokens.Place.{Place}
+use Rattle.inf_expressions.specs.declared.findings.Finding.{Finding}
+use Rattle.inf_expressions.specs.Questions.{children_of}
+use Rattle.inf_expressions.specs.Rooted.{Rooted}
+use Rattle.inf_expressions.specs.Trees.{Tree}
+use Rattle.inf_syntax.specs.declared.actions.Action.{Action}
+use Rattle.inf_syntax.specs.declared.actions.Action.TheVariants as action
+use Rattle.inf_output.specs.declared.items.Item.{Item}
+use Rattle.inf_output.specs.Output.{Out}
+use Rattle.inf_unit.specs.Messages.{FileNames}
+use Rattle.inf_unit.specs.Tokens.{Spelled}
+use Rattle.inf_unit.specs.Units.{acted as unit_acted, long_at, taken as unit_taken}
+use Rattle.inf_unit.proofs.Cases.{of_both}
+use Rattle.inf_statements.specs.Constructs.{are_cases, are_own, cases_begun, changed, entered, entered_by, looped, looped_by, looped_over, opened, with_step}
+use Rattle.inf_statements.specs.declared.constructs.Case.TheVariants as case
+use Rattle.inf_statements.specs.declared.constructs.Construct.{Construct}
+use Rattle.inf_statements.specs.declared.constructs.Kind.{Kind}
+use Rattle.inf_statements.specs.declared.constructs.Kind.TheVariants as kind
+use Rattle.inf_work.specs.Acting.{act}
+use Rattle.inf_work.specs.Actions.{Work, is_deep, named, nested, opens, passed, settled_of, sized, stopped, took, trees_at}
+use Rattle.inf_work.specs.Parts.{actions_named, case_prepared, constructs_laid, found_in, has_last, is_default, order_of, part_begun, part_carried, part_effect, part_ended, part_finished, part_prepared, place_of, statement_at, wanted_of}
+use Rattle.inf_work.specs.declared.parts.Part.{Part}
+use Rattle.inf_work.specs.declared.parts.Part.TheVariants as part
+use Rattle.inf_statement_laws.specs.Happenings.{Acts, Happening, Takes, happen_quietly, happens_quietly, is_quiet}
+use Rattle.inf_statement_laws.specs.Laid.{happens, run}
+
+-- the same are open, and as many are closed ahead
+abbrev pub SameOpen : Work → Work → Type 0
+SameOpen w v = (v.constructs ≡ w.constructs) × (v.closed ≡ w.closed)
+
+pub same_then : (a b c : Work) → SameOpen a b → SameOpen b c → SameOpen a c
+same_then a b c first second = (second.0 ∙ first.0, second.1 ∙ first.1)
+
+-- Tokens
+
+nested_same : (files : FileNames) (place : Place) (b : Bool) (w : Work) → SameOpen w (nested files place b w)
+nested_same files place true w = (refl, refl)
+nested_same files place false w = (refl, refl)
+
+stopped_same : (files : FileNames) (place : Option Place) (w : Work) → SameOpen w (stopped files place w)
+stopped_same files None w = (refl, refl)
+stopped_same files (Some place) w = (refl, refl)
+
+sized_same : (files : FileNames) (w : Work) → SameOpen w (sized files w)
+sized_same files w = stopped_same files (long_at w.longest w.unit) w
+
+took_same : (files : FileNames) (t : Spelled) (w : Work) → SameOpen w (took files t w)
+took_same files t w =
+    let u = record w { unit = unit_taken t w.unit } in
+    let s = sized files u in
+    same_then w s (took files t w) (sized_same files u) (nested_same files t.place (opens t.kind && is_deep s 0) s)
+
+-- Units
+
+-- that change no statement which is open
+abbrev is_quiet_part : Part → Bool
+is_quiet_part part.Step = false
+is_quiet_part part.Loop = false
+is_quiet_part part.Case = false
+is_quiet_part _ = true
+
+quiet_carried : (files : FileNames) (first : Place) (p : Part) (f : Option Finding) (w : Work) → is_quiet_part p ≡ true
+    → SameOpen w (part_carried files first p f w)
+unfolding part_effect
+quiet_carried files first p (Some f) w q = (refl, refl)
+quiet_carried files first (part.Statement s) None w q = (refl, refl)
+quiet_carried files first part.Condition None w q = (refl, refl)
+quiet_carried files first part.Start None w q = (refl, refl)
+quiet_carried files first part.Switched None w q = (refl, refl)
+quiet_carried files first part.Step None w q = cc
+quiet_carried files first part.Loop None w q = cc
+quiet_carried files first part.Case None w q = cc
+
+quiet_finished : (files : FileNames) (first : Place) (p : Part) (w : Work) → is_quiet_part p ≡ true
+    → SameOpen w (part_finished files first p w)
+quiet_finished files first (part.Statement s) w q = quiet_carried files first (part.Statement s) (found_in (part.Statement s) w)
+    (named w) refl
+quiet_finished files first part.Condition w q = quiet_carried files first part.Condition (found_in part.Condition w) (named w) refl
+quiet_finished files first part.Start w q = quiet_carried files first part.Start (found_in part.Start w) (named w) refl
+quiet_finished files first part.Switched w q = quiet_carried files first part.Switched (found_in part.Switched w) (named w) refl
+quiet_finished files first part.Step w q = cc
+quiet_finished files first part.Loop w q = cc
+quiet_finished files first part.Case w q = cc
+
+quiet_prepared : (p : Part) (w : Work) → is_quiet_part p ≡ true → SameOpen w (case_prepared p w)
+quiet_prepared part.Case w q = cc
+quiet_prepared _ w q = (refl, refl)
+
+quiet_part : (files : FileNames) (place : Place) (p : Part) (w : Work) → is_quiet_part p ≡ true → SameOpen w (part_ended files place p w)
+quiet_part files place p w q =
+    let ready = case_prepared p (part_prepared w) in
+    of_both (SameOpen w) w.is_passed_over (passed (has_last p) w) (part_finished files (place_of p place ready) p ready)
+    (λ _. (refl, refl))
+    (λ _. same_then w ready (part_finished files (place_of p place ready) p ready) (quiet_prepared p (part_prepared w) q)
+    (quiet_finished files (place_of p place ready) p ready q))
+
+-- Actions
+
+quiet_act : (files : FileNames) (place : Place) (a : Action) (w : Work) → is_quiet a ≡ true → SameOpen w (act files place a w)
+quiet_act files place action.Routine w q = (refl, refl)
+quiet_act files place action.EndLocals w q = cc
+quiet_act files place action.EndRoutine w q = cc
+quiet_act files place action.EndHeader w q = cc
+quiet_act files place action.EndText w q = (refl, refl)
+quiet_act files place action.EndBody w q = cc
+quiet_act files place action.EndDirective w q = cc
+quiet_act files place action.Outer w q = (refl, refl)
+quiet_act files place action.Name w q = (refl, refl)
+quiet_act files place action.EndEntry w q = cc
+quiet_act files place action.EndAlone w q = cc
+quiet_act files place action.Hold w q = (refl, refl)
+quiet_act files place action.EndClass w q = cc
+quiet_act files place action.EndProperty w q = cc
+quiet_act files place action.EndValue w q = cc
+quiet_act files place action.EndEmbedded w q = cc
+quiet_act files place action.Negate w q = (refl, refl)
+quiet_act files place action.EndAttribute w q = cc
+quiet_act files place action.EndLine w q = cc
+quiet_act files place action.Comma w q = (refl, refl)
+quiet_act files place action.Not w q = (refl, refl)
+quiet_act files place action.BitNot w q = (refl, refl)
+quiet_act files place action.Assign w q = (refl, refl)
+quiet_act files place action.And w q = (refl, refl)
+quiet_act files place action.Or w q = (refl, refl)
+quiet_act files place action.Equal w q = (refl, refl)
+quiet_act files place action.Unequal w q = (refl, refl)
+quiet_act files place action.Less w q = (refl, refl)
+quiet_act files place action.Greater w q = (refl, refl)
+quiet_act files place action.LessOrEqual w q = (refl, refl)
+quiet_act files place action.GreaterOrEqual w q = (refl, refl)
+quiet_act files place action.Has w q = (refl, refl)
+quiet_act files place action.HasNot w q = (refl, refl)
+quiet_act files place action.In w q = (refl, refl)
+quiet_act files place action.NotIn w q = (refl, refl)
+quiet_act files place action.OfClass w q = (refl, refl)
+quiet_act files place action.Provides w q = (refl, refl)
+quiet_act files place action.Count w q = (refl, refl)
+quiet_act files place action.Part w q = (refl, refl)
+quiet_act files place action.Plus w q = (refl, refl)
+quiet_act files place action.Minus w q = (refl, refl)
+quiet_act files place action.Times w q = (refl, refl)
+quiet_act files place action.Divide w q = (refl, refl)
+quiet_act files place action.Remainder w q = (refl, refl)
+quiet_act files place action.BitAnd w q = (refl, refl)
+quiet_act files place action.BitOr w q = (refl, refl)
+quiet_act files place action.ByteEntry w q = (refl, refl)
+quiet_act files place action.WordEntry w q = (refl, refl)
+quiet_act files place action.IncrementBefore w q = (refl, refl)
+quiet_act files place action.DecrementBefore w q = (refl, refl)
+quiet_act files place action.IncrementAfter w q = (refl, refl)
+quiet_act files place action.DecrementAfter w q = (refl, refl)
+quiet_act files place action.MemberAddress w q = (refl, refl)
+quiet_act files place action.MemberLength w q = (refl, refl)
+quiet_act files place action.Member w q = (refl, refl)
+quiet_act files place action.Call w q = (refl, refl)
+quiet_act files place action.Text w q = (refl, refl)
+quiet_act files place action.Bracket w q = (refl, refl)
+quiet_act files place action.Bracketed w q = (refl, refl)
+quiet_act files place action.Number w q = (refl, refl)
+quiet_act files place action.Char w q = (refl, refl)
+quiet_act files place action.Word w q = (refl, refl)
+quiet_act files place action.Action w q = (refl, refl)
+quiet_act files place action.System w q = (refl, refl)
+quiet_act files place action.Begin w q = (refl, refl)
+quiet_act files place action.Deeper w q = nested_same files place (is_deep w 1) w
+quiet_act files place action.EndStatement w q = quiet_part files place (part.Statement (statement_at w)) w refl
+quiet_act files place action.OuterMaybe w q = (refl, refl)
+quiet_act files place action.PrintText w q = (refl, refl)
+quiet_act files place action.OuterSure w q = sized_same files (record w { unit = unit_acted action.OuterSure w.unit })
+quiet_act files place action.OpenIf w q = cc
+quiet_act files place action.EndIf w q = quiet_part files place part.Condition w refl
+quiet_act files place action.Else w q = cc
+quiet_act files place action.Close w q = cc
+quiet_act files place action.OpenWhile w q = cc
+quiet_act files place action.EndWhile w q = quiet_part files place part.Condition w refl
+quiet_act files place action.OpenDo w q = cc
+quiet_act files place action.Until w q = cc
+quiet_act files place action.EndUntil w q = quiet_part files place part.Condition w refl
+quiet_act files place action.OpenFor w q = cc
+quiet_act files place action.ForTop w q = cc
+quiet_act files place action.EndForStart w q = quiet_part files place part.Start w refl
+quiet_act files place action.EndForTest w q = quiet_part files place part.Condition w refl
+quiet_act files place action.EndForStep w q = cc
+quiet_act files place action.OpenObjectloop w q = cc
+quiet_act files place action.EndObjectloop w q = cc
+quiet_act files place action.Loop w q = cc
+quiet_act files place action.OpenSwitch w q = cc
+quiet_act files place action.EndSwitch w q = quiet_part files place part.Switched w refl
+quiet_act files place action.OuterEnd w q = (refl, refl)
+quiet_act files place action.Set w q = (refl, refl)
+quiet_act files place action.Clear w q = (refl, refl)
+quiet_act files place action.AsmText w q = (refl, refl)
+quiet_act files place action.Store w q = (refl, refl)
+quiet_act files place action.Branch w q = (refl, refl)
+quiet_act files place action.BranchNot w q = (refl, refl)
+quiet_act files place action.PrintValue w q = (refl, refl)
+quiet_act files place action.Rule w q = (refl, refl)
+quiet_act files place action.PrintRule w q = (refl, refl)
+quiet_act files place action.Default w q = (refl, refl)
+quiet_act files place action.OuterWord w q = sized_same files (record w { unit = unit_acted action.OuterWord w.unit })
+quiet_act files place action.EndCase w q = cc
+quiet_act files place action.To w q = (refl, refl)
+quiet_act files place action.MaybeDeeper w q = (refl, refl)
+
+-- Happenings
+
+quiet_happens : (files : FileNames) (h : Happening) (w : Work) → happens_quietly h ≡ true → SameOpen w (happens files h w)
+quiet_happens files (Acts place a) w q = quiet_act files place a w q
+quiet_happens files (Takes t) w q = took_same files t w
+
+pub quiet_run : (files : FileNames) (hs : List Happening) (w : Work) → happen_quietly hs ≡ true → SameOpen w (run files hs w)
+quiet_run files [] w q = (refl, refl)
+quiet_run files (h ∷ hs) w q =
+    let both = and_parts (happens_quietly h) (happen_quietly hs) q in
+    let v = happens files h w in
+    same_then w v (run files hs v) (quiet_happens files h w both.0) (quiet_run files hs v both.1)
+
+-- Units that change the innermost
+
+-- It is of some kind, or has some step: its labels are the same.
+abbrev pub KindIn : Construct → List Construct → List Construct → Type 0
+KindIn c around after = (k : Kind) × (after ≡ record c { kind = k } ∷ around)
+
+abbrev pub StepIn : Construct → List Construct → List Construct → Type 0
+StepIn c around after = (s : Option (List Item)) × (after ≡ record c { step = s } ∷ around)
+
+-- the step of a `for`
+step_carried : (files : FileNames) (first : Place) (f : Option Finding) (w : Work) (c : Construct) (around : List Construct)
+    → w.constructs ≡ c ∷ around
+    → StepIn c around (part_carried files first part.Step f w).constructs × ((part_carried files first part.Step f w).closed ≡ w.closed)
+unfolding part_effect
+step_carried files first (Some f) w c around e = ((c.step, e), refl)
+step_carried files first None w c around e = ((_, ap (with_step _) e), refl)
+
+pub step_ends : (files : FileNames) (place : Place) (w : Work) (c : Construct) (around : List Construct) → w.constructs ≡ c ∷ around
+    → StepIn c around (act files place action.EndForStep w).constructs × ((act files place action.EndForStep w).closed ≡ w.closed)
+step_ends files place w c around e =
+    let ready = part_prepared w in
+    of_both (λ (v : Work). StepIn c around v.constructs × (v.closed ≡ w.closed)) w.is_passed_over (passed (has_last part.Step) w)
+    (part_finished files (place_of part.Step place ready) part.Step ready)
+    (λ _. ((c.step, e), refl)) (λ _. step_carried files (place_of part.Step place ready) (found_in part.Step ready) (named ready) c
+    around e)
+
+-- what a loop over objects goes over
+looped_kind_by : (parent : Option Tree) (e : Tree) (v : ℕ) (c : Construct) (o : Out)
+    → (k : Kind) × ((looped_by parent e v c o).0 ≡ record c { kind = k })
+looped_kind_by None e v c o = (_, refl)
+looped_kind_by (Some parent) e v c o = (_, refl)
+
+looped_kind : (r : Rooted) (c : Construct) (o : Out) → (k : Kind) × ((looped r c o).0 ≡ record c { kind = k })
+unfolding looped
+looped_kind r c o = looped_kind_by (children_of r.tree) r.tree (unwrap_or r.origin.lead.variable 0) c o
+
+looped_over_kind : (trees : List Rooted) (constructs : List Construct) (o : Out) (c : Construct) (around : List Construct)
+    → constructs ≡ c ∷ around → KindIn c around (looped_over trees constructs o).0
+looped_over_kind [] constructs o c around e = (c.kind, e)
+looped_over_kind (r ∷ trees) constructs o c around e =
+    let k = looped_kind r c o in
+    (k.0, ap (λ l. (changed (looped r) l o).0) e ∙ ap (λ d. d ∷ around) k.1)
+
+loop_carried : (files : FileNames) (first : Place) (f : Option Finding) (w : Work) (c : Construct) (around : List Construct)
+    → w.constructs ≡ c ∷ around
+    → KindIn c around (part_carried files first part.Loop f w).constructs × ((part_carried files first part.Loop f w).closed ≡ w.closed)
+unfolding part_effect
+loop_carried files first (Some f) w c around e = ((c.kind, e), refl)
+loop_carried files first None w c around e =
+    let s = settled_of w in (
+      looped_over_kind (trees_at (order_of part.Loop w) (wanted_of part.Loop) s.operands w) w.constructs (record s.out { first = first })
+          c around e,
+      refl,
+    )
+
+pub loop_ends : (files : FileNames) (place : Place) (w : Work) (c : Construct) (around : List Construct) → w.constructs ≡ c ∷ around
+    → KindIn c around (act files place action.EndObjectloop w).constructs × ((act files place action.EndObjectloop w).closed ≡ w.closed)
+loop_ends files place w c around e =
+    let ready = part_prepared w in
+    of_both (λ (v : Work). KindIn c around v.constructs × (v.closed ≡ w.closed)) w.is_passed_over (passed (has_last part.Loop) w)
+    (part_finished files (place_of part.Loop place ready) part.Loop ready)
+    (λ _. ((c.kind, e), refl)) (λ _. loop_carried files (place_of part.Loop place ready) (found_in part.Loop ready) (named ready) c
+    around e)
+
+-- a case
+entered_kind_by : (k : Kind) (b : Bool) (c : Construct) (o : Out) → (after : Kind) × ((entered_by k b c o).0 ≡ record c { kind = after })
+entered_kind_by (kind.Switch old had_default) true c o = (_, refl)
+entered_kind_by (kind.Switch old had_default) false c o = (_, refl)
+entered_kind_by (kind.Cases old had_default) true c o = (_, refl)
+entered_kind_by (kind.Cases old had_default) false c o = (_, refl)
+entered_kind_by _ b c o = (c.kind, refl)
+
+entered_kind : (b : Bool) (c : Construct) (o : Out) → (after : Kind) × ((entered b c o).0 ≡ record c { kind = after })
+unfolding entered
+entered_kind b c o = entered_kind_by c.kind b c o
+
+actions_named_same : (b : Bool) (w : Work) → SameOpen w (actions_named b w)
+actions_named_same true w = (refl, refl)
+actions_named_same false w = (refl, refl)
+
+case_ready : (w : Work) (c : Construct) (around : List Construct) → w.constructs ≡ c ∷ around
+    → ((case_prepared part.Case w).constructs ≡ c ∷ around) × ((case_prepared part.Case w).closed ≡ w.closed)
+case_ready w c around e =
+    let begun = constructs_laid (cases_begun w.constructs) w in
+    let same = actions_named_same (are_own begun.constructs) begun in
+    (same.0 ∙ ap (λ l. (cases_begun l w.output).0) e, same.1)
+
+case_carried : (files : FileNames) (first : Place) (f : Option Finding) (w : Work) → SameOpen w (part_carried files first part.Case f w)
+unfolding part_effect
+case_carried files first (Some f) w = (refl, refl)
+case_carried files first None w = (refl, refl)
+
+case_finished : (files : FileNames) (first : Place) (w : Work) (c : Construct) (around : List Construct) → w.constructs ≡ c ∷ around
+    → KindIn c around (part_finished files first part.Case w).constructs × ((part_finished files first part.Case w).closed ≡ w.closed)
+case_finished files first w c around e =
+    let begun = part_begun part.Case w in
+    let same = case_carried files first (found_in part.Case w) (named begun) in
+    let k = entered_kind (is_default w.unit.items) c w.output in
+    ((k.0, same.0 ∙ (ap (λ l. (changed (entered (is_default w.unit.items)) l w.output).0) e ∙ ap (λ d. d ∷ around) k.1)), same.1)
+
+pub case_ends : (files : FileNames) (place : Place) (w : Work) (c : Construct) (around : List Construct) → w.constructs ≡ c ∷ around
+    → KindIn c around (act files place action.EndCase w).constructs
+case_ends files place w c around e =
+    let before = part_prepared w in
+    let ready = case_prepared part.Case before in
+    of_both (λ (v : Work). KindIn c around v.constructs) w.is_passed_over (passed (has_last part.Case) w)
+    (part_finished files (place_of part.Case place ready) part.Case ready)
+    (λ _. (c.kind, e)) (λ _. (case_finished files (place_of part.Case place ready) ready c around (case_ready before c around e).0).0)
+
+-- the number of those that are closed ahead stays, whatever is open
+pub case_none_ahead : (files : FileNames) (place : Place) (w : Work) → (act files place action.EndCase w).closed ≡ w.closed
+case_none_ahead files place w =
+    let before = part_prepared w in
+    let ready = case_prepared part.Case before in
+    let begun = constructs_laid (cases_begun before.constructs) before in
+    of_both (λ (v : Work). v.closed ≡ w.closed) w.is_passed_over (passed (has_last part.Case) w)
+    (part_finished files (place_of part.Case place ready) part.Case ready)
+    (λ _. refl)
+    (λ _. (case_carried files (place_of part.Case place ready) (found_in part.Case ready) (named (part_begun part.Case ready))).1
+    ∙ (actions_named_same (are_own begun.constructs) begun).1)
+
+-- The routine's own cases
+
+-- nothing is open but these
+abbrev pub own_alone : List Construct → Bool
+own_alone [] = true
+own_alone (c ∷ []) = are_cases c.kind
+own_alone (c ∷ d ∷ constructs) = false
+
+begun_own : (k : Kind) (o : Out) → are_cases (opened k o).0.kind ≡ are_cases k
+unfolding opened
+begun_own k o = refl
+
+begun_alone : (constructs : List Construct) (o : Out) → own_alone constructs ≡ true → own_alone (cases_begun constructs o).0 ≡ true
+begun_alone [] o h = begun_own (kind.Cases case.Nothing false) o
+begun_alone (c ∷ constructs) o h = h
+
+entered_own_by : (k : Kind) (b : Bool) (c : Construct) (o : Out) → are_cases k ≡ true → are_cases c.kind ≡ true
+    → are_cases (entered_by k b c o).0.kind ≡ true
+entered_own_by (kind.Cases old had_default) true c o h e = refl
+entered_own_by (kind.Cases old had_default) false c o h e = refl
+entered_own_by (kind.Switch old had_default) b c o h e = cc
+entered_own_by _ b c o h e = e
+
+entered_own : (b : Bool) (c : Construct) (o : Out) → are_cases c.kind ≡ true → are_cases (entered b c o).0.kind ≡ true
+unfolding entered
+entered_own b c o h = entered_own_by c.kind b c o h h
+
+entered_alone : (b : Bool) (constructs : List Construct) (o : Out) → own_alone constructs ≡ true
+    → own_alone (changed (entered b) constructs o).0 ≡ true
+entered_alone b [] o h = refl
+entered_alone b (c ∷ []) o h = entered_own b c o h
+entered_alone b (c ∷ d ∷ constructs) o h = cc
+
+pub case_alone : (files : FileNames) (place : Place) (w : Work) → own_alone w.constructs ≡ true
+    → own_alone (act files place action.EndCase w).constructs ≡ true
+case_alone files place w h =
+    let before = part_prepared w in
+    let ready = case_prepared part.Case before in
+    let at = place_of part.Case place ready in
+    let begun = constructs_laid (cases_begun before.constructs) before in
+    let entering = part_begun part.Case ready in
+    of_both (λ (v : Work). own_alone v.constructs ≡ true) w.is_passed_over (passed (has_last part.Case) w)
+    (part_finished files at part.Case ready)
+    (λ _. h)
+    (λ _. ap own_alone (case_carried files at (found_in part.Case ready) (named entering)).0
+    ∙ entered_alone (is_default ready.unit.items) ready.constructs ready.output
+    (ap own_alone (actions_named_same (are_own begun.constructs) begun).0 ∙ begun_alone before.constructs before.output h))

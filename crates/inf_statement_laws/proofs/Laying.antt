@@ -1,0 +1,524 @@
+-- Nested statements are laid as a whole.
+use Rattle.std.proofs.Common.{◌≡◌, ℕ, suc, ◌-◌, List, [], ◌∷◌, ◌++◌, Bool, true, false, if◌then◌else◌, Option, Some, None, refl, sym, ◌∙◌, ap, subst, arith}
+use Rattle.std.proofs.lemmas.Bool.{lt-ltb}
+use Rattle.std.specs.Prelude.{length, max, nat_lt}
+use Rattle.inf_scanner.specs.declared.tokens.Place.{Place}
+use Rattle.inf_machine.specs.declared.symbols.Symbol.{Symbol}
+use Rattle.inf_machine.specs.Grammar.{IsOneOf, first, later}
+use Rattle.inf_machine.specs.Machine.{events_of}
+use Rattle.inf_syntax.specs.declared.actions.Action.{Action}
+use Rattle.inf_syntax.specs.declared.actions.Action.TheVariants as action
+use Rattle.inf_output.specs.Output.{Out}
+use Rattle.inf_unit.specs.Messages.{FileNames}
+use Rattle.inf_unit.specs.Tokens.{Spelled}
+use Rattle.inf_unit.specs.Units.{last_place}
+use Rattle.inf_unit.proofs.Cases.{of_both}
+use Rattle.inf_statements.specs.Constructs.{all_ended, are_cases, begun, between, changed, depth, depth_by, ended, opened, outermost}
+use Rattle.inf_statements.specs.declared.constructs.Case.TheVariants as case
+use Rattle.inf_statements.specs.declared.constructs.Construct.{Construct}
+use Rattle.inf_statements.specs.declared.constructs.Kind.{Kind}
+use Rattle.inf_statements.specs.declared.constructs.Kind.TheVariants as kind
+use Rattle.inf_statements.specs.declared.constructs.Over.TheVariants as over
+use Rattle.inf_work.specs.Acting.{act, acted}
+use Rattle.inf_work.specs.Actions.{Work, begun_at, is_deep, nested, took}
+use Rattle.inf_work.specs.Parts.{closed_ahead, construct_closed, construct_ended, construct_joined, construct_opened, constructs_laid}
+use Rattle.inf_statement_laws.specs.Happenings.{Acts, AreOf, Happening, IsRead, Quiet, bodies, rests}
+use Rattle.inf_statement_laws.specs.Nested.{Case, Do, For, If, IfElse, Nested, NoStep, Objectloop, Plain, Step, StepEnds, Switch, Then, While, happenings, step_happenings}
+use Rattle.inf_statement_laws.specs.Laid.{ended_as, happens, holding, laid, next_comes, opened_at, run, with_kind_in, with_step_in}
+use Rattle.inf_statement_laws.specs.Laws.{ClosingAheadIsClosing, EndsOpen, IsWhole, LeavesOpen, RoutinesAreLaidWhole, StatementsAreLaidWhole, StatementsLeaveWhatIsOpen, TokensHappen, endings, token_happenings}
+use Rattle.inf_statement_laws.proofs.Acts.{KindIn, StepIn, case_alone, case_ends, case_none_ahead, loop_ends, own_alone, quiet_run, step_ends}
+use Rattle.inf_statement_laws.proofs.Nesting.{Compound, body_is_nested, do_is_nested, embedded_is_nested, for_is_nested, if_is_nested, objectloop_is_nested, statement_is_nested, switch_is_nested, while_is_nested}
+
+-- Happenings behind others
+
+run_then : (files : FileNames) (xs ys : List Happening) (w : Work) → run files (xs ++ ys) w ≡ run files ys (run files xs w)
+run_then files [] ys w = refl
+run_then files (x ∷ xs) ys w = run_then files xs ys (happens files x w)
+
+-- The innermost of those that are open, with none closed ahead
+
+record At (c : Construct) (around : List Construct) (w : Work) : Type 0 where
+  is : w.constructs ≡ c ∷ around
+  none_ahead : w.closed ≡ 0
+
+at_quiet : (files : FileNames) (q : Quiet) (c : Construct) (around : List Construct) (w : Work) → At c around w
+    → At c around (run files q.all w)
+at_quiet files q c around w at =
+    let same = quiet_run files q.all w q.are in record { is = same.0 ∙ at.is; none_ahead = same.1 ∙ at.none_ahead }
+
+at_holding : (c : Construct × Out) (around : List Construct) (w : Work) → w.closed ≡ 0 → At c.0 around (holding c around w)
+at_holding c around w e = record { is = refl; none_ahead = e }
+
+nested_is : (files : FileNames) (place : Place) (b : Bool) (w : Work)
+    → nested files place b w ≡ record w { report = (nested files place b w).report }
+nested_is files place true w = refl
+nested_is files place false w = refl
+
+opening_is : (files : FileNames) (place : Place) (k : Kind) (w : Work)
+    → construct_opened files place k w ≡ opened_at files place (opened k w.output) w
+opening_is files place k w =
+    ap (λ (told : Work). constructs_laid (begun k told.constructs) told) (nested_is files (last_place w.unit.tokens place) (is_deep w 1) w)
+
+joining_is : (c : Construct) (around : List Construct) (w : Work) → At c around w
+    → construct_joined w ≡ holding (between c w.output) around w
+joining_is c around w at = ap (λ l. constructs_laid (changed between l) w) at.is
+
+closing_open : (w : Work) → w.closed ≡ 0 → construct_closed w ≡ construct_ended w
+closing_open w e = ap (λ n. if nat_lt 0 n then record w { closed = n - 1 } else construct_ended w) e
+
+closing_is : (c : Construct) (around : List Construct) (w : Work) → At c around w → construct_closed w ≡ ended_as c around w
+closing_is c around w at = closing_open w at.none_ahead ∙ ap (λ l. constructs_laid (ended l) w) at.is
+
+-- What is open behind something: the same, and in a `switch` its innermost may be of another kind.
+abbrev Holds : Bool → List Construct → List Construct → Type 0
+Holds false before after = after ≡ before
+Holds true before after = (c : Construct) (around : List Construct) → before ≡ c ∷ around → KindIn c around after
+
+holds_same : (b : Bool) (before after : List Construct) → after ≡ before → Holds b before after
+holds_same false before after e = e
+holds_same true before after e = λ c around is. (c.kind, e ∙ is)
+
+holds_then : (b : Bool) (x y z : List Construct) → Holds b x y → Holds b y z → Holds b x z
+holds_then false x y z f g = g ∙ f
+holds_then true x y z f g = λ c around is. let k = f c around is in let l = g (record c { kind = k.0 }) around k.1 in (l.0, l.1)
+
+record IsLaid {b : Bool} (files : FileNames) (n : Nested b) (w : Work) : Type 0 where
+  runs : run files (happenings n) w ≡ laid files n w
+  holds : Holds b w.constructs (laid files n w).constructs
+  none_ahead : (laid files n w).closed ≡ 0
+
+abbrev Inner : {b : Bool} → FileNames → Nested b → Type 0
+Inner files n = (w : Work) → w.closed ≡ 0 → IsLaid files n w
+
+at_body : (files : FileNames) (body : Nested false) → Inner files body → (c : Construct) (around : List Construct) (w : Work)
+    → At c around w → At c around (laid files body w)
+at_body files body inner c around w at =
+    let i = inner w at.none_ahead in record { is = i.holds ∙ at.is; none_ahead = i.none_ahead }
+
+-- the closing behind something that ran
+abbrev close : Place → List Happening
+close place = Acts place action.Close ∷ []
+
+-- It ends where what ran has it as the innermost.
+record Ends (files : FileNames) (hs : List Happening) (v : Work) (c : Construct) (around : List Construct) (w : Work) : Type 0 where
+  runs : run files hs v ≡ ended_as c around w
+  none_ahead : w.closed ≡ 0
+
+closed_behind : (files : FileNames) (c : Construct) (around : List Construct) (closes : Place) (xs : List Happening) (v w : Work)
+    → run files xs v ≡ w → At c around w
+    → Ends files (xs ++ close closes) v c around w
+closed_behind files c around closes xs v w e at = record {
+  runs = run_then files xs (close closes) v ∙ (ap (run files (close closes)) e ∙ closing_is c around w at);
+  none_ahead = at.none_ahead;
+}
+
+-- a body, and the closing
+body_closed : (files : FileNames) (body : Nested false) → Inner files body
+    → (c : Construct) (around : List Construct) (closes : Place) (v : Work) → At c around v
+    → Ends files (happenings body ++ close closes) v c around (laid files body v)
+body_closed files body inner c around closes v at =
+    closed_behind files c around closes (happenings body) v (laid files body v) (inner v at.none_ahead).runs
+    (at_body files body inner c around v at)
+
+-- what is quiet, a body, and the closing
+quiet_body_closed : (files : FileNames) (q : Quiet) (body : Nested false) → Inner files body
+    → (c : Construct) (around : List Construct) (closes : Place) (v : Work) → At c around v
+    → Ends files (q.all ++ (happenings body ++ close closes)) v c around (laid files body (run files q.all v))
+quiet_body_closed files q body inner c around closes v at =
+    let ends = body_closed files body inner c around closes (run files q.all v) (at_quiet files q c around v at) in
+    record { runs = run_then files q.all (happenings body ++ close closes) v ∙ ends.runs; none_ahead = ends.none_ahead }
+
+-- behind the word of one
+abbrev word_read : FileNames → Place → Kind → Work → Work
+word_read files opens k w = opened_at files opens (opened k w.output) w
+
+at_word : (files : FileNames) (opens : Place) (k : Kind) (w : Work) → w.closed ≡ 0
+    → At (opened k w.output).0 w.constructs (word_read files opens k w)
+at_word files opens k w e = record { is = refl; none_ahead = e }
+
+-- One that is laid as a whole
+record Whole {b : Bool} (files : FileNames) (n : Nested b) (w : Work) : Type 0 where
+  runs : run files (happenings n) w ≡ laid files n w
+  none_ahead : (laid files n w).closed ≡ 0
+
+if_is : {b : Bool} (files : FileNames) (opens : Place) (test : Quiet) (body : Nested false) (closes : Place) (w : Work) → w.closed ≡ 0
+    → Inner files body → Whole files (If {b = b} opens test body closes) w
+if_is files opens test body closes w e inner =
+    let end = quiet_body_closed files test body inner (opened kind.If w.output).0 w.constructs closes (word_read files opens kind.If w)
+    (at_word files opens kind.If w e) in
+    record {
+      runs =
+          ap (run files (test.all ++ (happenings body ++ close closes))) (opening_is files opens kind.If w)
+          ∙ end.runs;
+      none_ahead = end.none_ahead;
+    }
+
+while_is : {b : Bool} (files : FileNames) (opens : Place) (test : Quiet) (body : Nested false) (closes : Place) (w : Work) → w.closed ≡ 0
+    → Inner files body → Whole files (While {b = b} opens test body closes) w
+while_is files opens test body closes w e inner =
+    let end = quiet_body_closed files test body inner (opened kind.While w.output).0 w.constructs closes
+    (word_read files opens kind.While w) (at_word files opens kind.While w e) in
+    record {
+      runs =
+          ap (run files (test.all ++ (happenings body ++ close closes))) (opening_is files opens kind.While w)
+          ∙ end.runs;
+      none_ahead = end.none_ahead;
+    }
+
+else_is : {b : Bool} (files : FileNames) (opens : Place) (test : Quiet) (body : Nested false) (joins : Place) (word : Quiet)
+    (other : Nested false) (closes : Place) (w : Work) → w.closed ≡ 0
+    → Inner files body → Inner files other → Whole files (IfElse {b = b} opens test body joins word other closes) w
+else_is files opens test body joins word other closes w e inner inner_other =
+    let rest : List Happening = word.all ++ (happenings other ++ close closes) in
+    let c = opened kind.If w.output in
+    let v = word_read files opens kind.If w in
+    let tested = run files test.all v in
+    let at_test = at_quiet files test c.0 w.constructs v (at_word files opens kind.If w e) in
+    let first = laid files body tested in
+    let at = at_body files body inner c.0 w.constructs tested at_test in
+    let joined = between c.0 first.output in
+    let end = quiet_body_closed files word other inner_other joined.0 w.constructs closes (holding joined w.constructs first)
+    (at_holding joined w.constructs first at.none_ahead) in
+    record {
+      runs =
+          ap (run files (test.all ++ (happenings body ++ Acts joins action.Else ∷ rest))) (opening_is files opens kind.If w)
+          ∙ (run_then files test.all (happenings body ++ Acts joins action.Else ∷ rest) v
+          ∙ (run_then files (happenings body) (Acts joins action.Else ∷ rest) tested
+          ∙ (ap (run files (Acts joins action.Else ∷ rest)) (inner tested at_test.none_ahead).runs
+          ∙ (ap (run files rest) (joining_is c.0 w.constructs first at)
+          ∙ end.runs))));
+      none_ahead = end.none_ahead;
+    }
+
+do_is : {b : Bool} (files : FileNames) (opens : Place) (body : Nested false) (word : Quiet) (joins : Place) (test : Quiet)
+    (closes : Place) (w : Work) → w.closed ≡ 0 → Inner files body
+    → Whole files (Do {b = b} opens body word joins test closes) w
+do_is files opens body word joins test closes w e inner =
+    let rest : List Happening = test.all ++ close closes in
+    let c = opened kind.Do w.output in
+    let v = word_read files opens kind.Do w in
+    let at_v = at_word files opens kind.Do w e in
+    let done = laid files body v in
+    let first = run files word.all done in
+    let at = at_quiet files word c.0 w.constructs done (at_body files body inner c.0 w.constructs v at_v) in
+    let joined = between c.0 first.output in
+    let behind = holding joined w.constructs first in
+    let at_behind = at_holding joined w.constructs first at.none_ahead in
+    let end = closed_behind files joined.0 w.constructs closes test.all behind (run files test.all behind) refl
+    (at_quiet files test joined.0 w.constructs behind at_behind) in
+    record {
+      runs =
+          ap (run files (happenings body ++ (word.all ++ Acts joins action.Until ∷ rest))) (opening_is files opens kind.Do w)
+          ∙ (run_then files (happenings body) (word.all ++ Acts joins action.Until ∷ rest) v
+          ∙ (ap (run files (word.all ++ Acts joins action.Until ∷ rest)) (inner v at_v.none_ahead).runs
+          ∙ (run_then files word.all (Acts joins action.Until ∷ rest) done
+          ∙ (ap (run files rest) (joining_is c.0 w.constructs first at)
+          ∙ end.runs))));
+      none_ahead = end.none_ahead;
+    }
+
+-- The step of a `for`
+
+kept_step : (c : Construct) (around constructs : List Construct) → StepIn c around constructs
+    → constructs ≡ with_step_in constructs c ∷ around
+kept_step c around constructs k = k.1 ∙ ap (λ d. d ∷ around) (sym (ap (λ l. with_step_in l c) k.1))
+
+at_step : (files : FileNames) (step : Step) (c : Construct) (around : List Construct) (w : Work) → At c around w
+    → At (with_step_in (run files (step_happenings step) w).constructs c) around (run files (step_happenings step) w)
+at_step files NoStep c around w at = record { is = kept_step c around w.constructs (c.step, at.is); none_ahead = at.none_ahead }
+at_step files (StepEnds step ends) c around w at =
+    let front = run files step.all w in
+    let at_front = at_quiet files step c around w at in
+    let s = step_ends files ends front c around at_front.is in
+    let same = run_then files step.all (Acts ends action.EndForStep ∷ []) w in
+    subst (λ v. At (with_step_in v.constructs c) around v) (sym same)
+    (record { is = kept_step c around (act files ends action.EndForStep front).constructs s.0; none_ahead = s.1 ∙ at_front.none_ahead })
+
+-- what is open already is held
+held : (c : Construct) (around : List Construct) (w : Work) → At c around w → w ≡ holding (c, w.output) around w
+held c around w at = ap (λ l. record w { constructs = l }) at.is
+
+for_is : {b : Bool} (files : FileNames) (opens : Place) (start : Quiet) (joins : Place) (test : Quiet) (step : Step) (bracket : Quiet)
+    (body : Nested false) (closes : Place) (w : Work)
+    → w.closed ≡ 0 → Inner files body → Whole files (For {b = b} opens start joins test step bracket body closes) w
+for_is files opens start joins test step bracket body closes w e inner =
+    let last : List Happening = bracket.all ++ (happenings body ++ close closes) in
+    let rest : List Happening = test.all ++ (step_happenings step ++ last) in
+    let c = opened kind.For w.output in
+    let v = word_read files opens kind.For w in
+    let started = run files start.all v in
+    let at = at_quiet files start c.0 w.constructs v (at_word files opens kind.For w e) in
+    let top = between c.0 started.output in
+    let behind = holding top w.constructs started in
+    let at_top = at_holding top w.constructs started at.none_ahead in
+    let tested = run files test.all behind in
+    let stepped = run files (step_happenings step) tested in
+    let own = with_step_in stepped.constructs top.0 in
+    let at_own = at_step files step top.0 w.constructs tested (at_quiet files test top.0 w.constructs behind at_top) in
+    let ready = holding (own, stepped.output) w.constructs stepped in
+    let end = quiet_body_closed files bracket body inner own w.constructs closes ready (at_holding (own, stepped.output) w.constructs
+    stepped at_own.none_ahead) in
+    record {
+      runs =
+          ap (run files (start.all ++ Acts joins action.ForTop ∷ rest)) (opening_is files opens kind.For w)
+          ∙ (run_then files start.all (Acts joins action.ForTop ∷ rest) v
+          ∙ (ap (run files rest) (joining_is c.0 w.constructs started at)
+          ∙ (run_then files test.all (step_happenings step ++ last) behind
+          ∙ (run_then files (step_happenings step) last tested
+          ∙ (ap (run files last) (held own w.constructs stepped at_own)
+          ∙ end.runs)))));
+      none_ahead = end.none_ahead;
+    }
+
+-- What is of another kind
+
+kept_kind : (c : Construct) (around constructs : List Construct) → KindIn c around constructs
+    → constructs ≡ with_kind_in constructs c ∷ around
+kept_kind c around constructs k = k.1 ∙ ap (λ d. d ∷ around) (sym (ap (λ l. with_kind_in l c) k.1))
+
+loop_is : {b : Bool} (files : FileNames) (opens : Place) (loop : Quiet) (ends joins : Place) (bracket : Quiet) (body : Nested false)
+    (closes : Place) (w : Work) → w.closed ≡ 0 → Inner files body
+    → Whole files (Objectloop {b = b} opens loop ends joins bracket body closes) w
+loop_is files opens loop ends joins bracket body closes w e inner =
+    let rest : List Happening = bracket.all ++ (happenings body ++ close closes) in
+    let k = kind.Objects over.Nothing 0 in
+    let c = opened k w.output in
+    let v = word_read files opens k w in
+    let unit = run files loop.all v in
+    let at = at_quiet files loop c.0 w.constructs v (at_word files opens k w e) in
+    let looped = act files ends action.EndObjectloop unit in
+    let l = loop_ends files ends unit c.0 w.constructs at.is in
+    let own = with_kind_in looped.constructs c.0 in
+    let none : looped.closed ≡ 0 = l.1 ∙ at.none_ahead in
+    let joined = between own looped.output in
+    let end = quiet_body_closed files bracket body inner joined.0 w.constructs closes (holding joined w.constructs looped)
+    (at_holding joined w.constructs looped none) in
+    record {
+      runs =
+          ap (run files (loop.all ++ Acts ends action.EndObjectloop ∷ Acts joins action.Loop ∷ rest)) (opening_is files opens k w)
+          ∙ (run_then files loop.all (Acts ends action.EndObjectloop ∷ Acts joins action.Loop ∷ rest) v
+          ∙ (ap (run files rest) (joining_is own w.constructs looped
+          (record { is = kept_kind c.0 w.constructs looped.constructs l.0; none_ahead = none }))
+          ∙ end.runs));
+      none_ahead = end.none_ahead;
+    }
+
+switch_is : {b : Bool} (files : FileNames) (opens : Place) (value : Quiet) (cases : Nested true) (brace : Quiet) (closes : Place)
+    (w : Work) → w.closed ≡ 0 → Inner files cases
+    → Whole files (Switch {b = b} opens value cases brace closes) w
+switch_is files opens value cases brace closes w e inner =
+    let k = kind.Switch case.Nothing false in
+    let c = opened k w.output in
+    let v = word_read files opens k w in
+    let valued = run files value.all v in
+    let at = at_quiet files value c.0 w.constructs v (at_word files opens k w e) in
+    let done = laid files cases valued in
+    let i = inner valued at.none_ahead in
+    let h = i.holds c.0 w.constructs at.is in
+    let inside = run files brace.all done in
+    let at_inside = at_quiet files brace (record c.0 { kind = h.0 }) w.constructs done (record { is = h.1; none_ahead = i.none_ahead }) in
+    let own = with_kind_in inside.constructs c.0 in
+    let at_own : At own w.constructs inside = record {
+      is = kept_kind c.0 w.constructs inside.constructs (h.0, at_inside.is);
+      none_ahead = at_inside.none_ahead;
+    } in
+    let end = closed_behind files own w.constructs closes brace.all done inside refl at_own in
+    record {
+      runs =
+          ap (run files (value.all ++ (happenings cases ++ (brace.all ++ close closes)))) (opening_is files opens k w)
+          ∙ (run_then files value.all (happenings cases ++ (brace.all ++ close closes)) v
+          ∙ (run_then files (happenings cases) (brace.all ++ close closes) valued
+          ∙ (ap (run files (brace.all ++ close closes)) i.runs
+          ∙ end.runs)));
+      none_ahead = end.none_ahead;
+    }
+
+-- Each nested statement
+
+laid_as : {b : Bool} (files : FileNames) (n : Nested b) → Inner files n
+laid_as files (Plain {b} plain) w e =
+    let same = quiet_run files plain.all w plain.are in
+    record { runs = refl; holds = holds_same b w.constructs (run files plain.all w).constructs same.0; none_ahead = same.1 ∙ e }
+laid_as files (Then {b} before behind) w e =
+    let one = laid_as files before w e in
+    let v = laid files before w in
+    let two = laid_as files behind v one.none_ahead in
+    record {
+      runs = run_then files (happenings before) (happenings behind) w ∙ (ap (run files (happenings behind)) one.runs ∙ two.runs);
+      holds = holds_then b w.constructs v.constructs (laid files behind v).constructs one.holds two.holds;
+      none_ahead = two.none_ahead;
+    }
+laid_as files (Case values ends) w e =
+    let v = run files values.all w in
+    let same = quiet_run files values.all w values.are in
+    record {
+      runs = run_then files values.all (Acts ends action.EndCase ∷ []) w;
+      holds = λ c around is. case_ends files ends v c around (same.0 ∙ is);
+      none_ahead = case_none_ahead files ends v ∙ (same.1 ∙ e);
+    }
+laid_as files (If {b} opens test body closes) w e =
+    let whole = if_is {b = b} files opens test body closes w e (laid_as files body) in
+    record { runs = whole.runs; holds = holds_same b w.constructs w.constructs refl; none_ahead = whole.none_ahead }
+laid_as files (IfElse {b} opens test body joins word other closes) w e =
+    let whole = else_is {b = b} files opens test body joins word other closes w e (laid_as files body) (laid_as files other) in
+    record { runs = whole.runs; holds = holds_same b w.constructs w.constructs refl; none_ahead = whole.none_ahead }
+laid_as files (While {b} opens test body closes) w e =
+    let whole = while_is {b = b} files opens test body closes w e (laid_as files body) in
+    record { runs = whole.runs; holds = holds_same b w.constructs w.constructs refl; none_ahead = whole.none_ahead }
+laid_as files (Do {b} opens body word joins test closes) w e =
+    let whole = do_is {b = b} files opens body word joins test closes w e (laid_as files body) in
+    record { runs = whole.runs; holds = holds_same b w.constructs w.constructs refl; none_ahead = whole.none_ahead }
+laid_as files (For {b} opens start joins test step bracket body closes) w e =
+    let whole = for_is {b = b} files opens start joins test step bracket body closes w e (laid_as files body) in
+    record { runs = whole.runs; holds = holds_same b w.constructs w.constructs refl; none_ahead = whole.none_ahead }
+laid_as files (Objectloop {b} opens loop ends joins bracket body closes) w e =
+    let whole = loop_is {b = b} files opens loop ends joins bracket body closes w e (laid_as files body) in
+    record { runs = whole.runs; holds = holds_same b w.constructs w.constructs refl; none_ahead = whole.none_ahead }
+laid_as files (Switch {b} opens value cases brace closes) w e =
+    let whole = switch_is {b = b} files opens value cases brace closes w e (laid_as files cases) in
+    record { runs = whole.runs; holds = holds_same b w.constructs w.constructs refl; none_ahead = whole.none_ahead }
+
+-- The laws
+
+whole_of : {b : Bool} (files : FileNames) (s : Nested b) (hs : List Happening) → happenings s ≡ hs → IsWhole files s hs
+whole_of files s hs same = record { same = same; lays = λ w e. sym (ap (λ l. run files l w) same) ∙ (laid_as files s w e).runs }
+
+leaves_open : (files : FileNames) (s : Nested false) (hs : List Happening) → happenings s ≡ hs → LeavesOpen files hs
+leaves_open files s hs same w e =
+    let i = laid_as files s w e in
+    let runs = sym (ap (λ l. run files l w) same) ∙ i.runs in
+    record { same = ap (λ (v : Work). v.constructs) runs ∙ i.holds; none_ahead = ap (λ (v : Work). v.closed) runs ∙ i.none_ahead }
+
+rest_nested : (rest : Symbol Action) (hs : List Happening) → IsOneOf rest rests → IsRead rest hs → Compound false rest hs
+rest_nested rest hs first is = if_is_nested hs is
+rest_nested rest hs (later first) is = while_is_nested hs is
+rest_nested rest hs (later (later first)) is = do_is_nested hs is
+rest_nested rest hs (later (later (later first))) is = for_is_nested hs is
+rest_nested rest hs (later (later (later (later first)))) is = objectloop_is_nested hs is
+rest_nested rest hs (later (later (later (later (later first))))) is = switch_is_nested hs is
+rest_nested rest hs (later (later (later (later (later (later m)))))) is = elim m [ ]
+
+pub statements_leave_what_is_open : StatementsLeaveWhatIsOpen
+statements_leave_what_is_open = record {
+  of_statements = λ files hs is. let n = statement_is_nested hs is in leaves_open files n.0 hs n.1;
+  of_rests = λ files rest hs m is. let n = rest_nested rest hs m is in leaves_open files n.nested hs n.same;
+}
+
+pub statements_are_laid_whole : StatementsAreLaidWhole
+statements_are_laid_whole = record {
+  of_statements = λ files hs is. let n = statement_is_nested hs is in (n.0, whole_of files n.0 hs n.1);
+  of_rests = λ files rest hs m is. let n = rest_nested rest hs m is in (n.nested, n.is, whole_of files n.nested hs n.same);
+}
+
+-- Routines
+
+alone_behind : {b : Bool} (files : FileNames) (n : Nested b) (w : Work) → w.closed ≡ 0 → own_alone w.constructs ≡ true
+    → own_alone (laid files n w).constructs ≡ true
+alone_behind files (Plain plain) w e h = ap own_alone (quiet_run files plain.all w plain.are).0 ∙ h
+alone_behind files (Then before behind) w e h =
+    let one = laid_as files before w e in alone_behind files behind (laid files before w) one.none_ahead (alone_behind files before w e h)
+alone_behind files (Case values ends) w e h =
+    case_alone files ends (run files values.all w) (ap own_alone (quiet_run files values.all w values.are).0 ∙ h)
+alone_behind files (If opens test body closes) w e h = h
+alone_behind files (IfElse opens test body joins word other closes) w e h = h
+alone_behind files (While opens test body closes) w e h = h
+alone_behind files (Do opens body word joins test closes) w e h = h
+alone_behind files (For opens start joins test step bracket body closes) w e h = h
+alone_behind files (Objectloop opens loop ends joins bracket body closes) w e h = h
+alone_behind files (Switch opens value cases brace closes) w e h = h
+
+-- no depth is that of nothing but the routine's own cases
+more_by : (k : Option Kind) (n : ℕ) → depth_by k (suc (suc n)) ≡ 0 → ⊥
+more_by None n e = omega (arith, e)
+more_by (Some k) n e = of_both (λ m. m ≡ 0 → ⊥) (are_cases k) (suc (suc n) - 1) (suc (suc n)) (λ _ f. omega (arith, f))
+    (λ _ f. omega (arith, f)) e
+
+one_by : (b : Bool) → (if b then 1 - 1 else 1) ≡ 0 → b ≡ true
+one_by true e = refl
+one_by false e = absurd (omega (arith, e))
+
+alone_of : (constructs : List Construct) → depth constructs ≡ 0 → own_alone constructs ≡ true
+alone_of [] e = refl
+alone_of (c ∷ []) e = one_by (are_cases c.kind) e
+alone_of (c ∷ d ∷ constructs) e = absurd (more_by (outermost (c ∷ d ∷ constructs)) (length constructs) e)
+
+depth_of : (constructs : List Construct) → own_alone constructs ≡ true → depth constructs ≡ 0
+depth_of [] h = refl
+depth_of (c ∷ []) h = ap (λ b. if b then 1 - 1 else 1) h
+depth_of (c ∷ d ∷ constructs) h = cc
+
+body_nested : (body : Symbol Action) (hs : List Happening) → IsOneOf body bodies → IsRead body hs → (s : Nested true) × (happenings s ≡ hs)
+body_nested body hs first is = body_is_nested hs is
+body_nested body hs (later first) is = embedded_is_nested hs is
+body_nested body hs (later (later m)) is = elim m [ ]
+
+ends_open : (files : FileNames) (s : Nested true) (hs : List Happening) → happenings s ≡ hs → EndsOpen files hs
+ends_open files s hs same w e h =
+    let i = laid_as files s w e in
+    let runs = sym (ap (λ l. run files l w) same) ∙ i.runs in (
+      ap (λ (v : Work). depth v.constructs) runs
+          ∙ depth_of (laid files s w).constructs (alone_behind files s w e (alone_of w.constructs h)),
+      ap (λ (v : Work). v.closed) runs ∙ i.none_ahead,
+    )
+
+pub routines_are_laid_whole : RoutinesAreLaidWhole
+routines_are_laid_whole = record {
+  whole = λ files body hs m is. let n = body_nested body hs m is in (n.0, whole_of files n.0 hs n.1);
+  ends = λ files body hs m is. let n = body_nested body hs m is in ends_open files n.0 hs n.1;
+}
+
+-- Tokens
+
+actions_happen : (files : FileNames) (t : Spelled) (actions : List Action) (w : Work)
+    → next_comes (took files t (acted files t.place actions w)) ≡ run files (token_happenings t actions) w
+actions_happen files t [] w = refl
+actions_happen files t (a ∷ actions) w = actions_happen files t actions (act files t.place a w)
+
+happen_as_events : (t : Spelled) (actions : List Action) (atom : ℕ) → AreOf (events_of actions atom) (token_happenings t actions)
+happen_as_events t [] atom = tt
+happen_as_events t (a ∷ actions) atom = (refl, happen_as_events t actions atom)
+
+pub tokens_happen : TokensHappen
+tokens_happen = record { runs = λ files t actions w. actions_happen files t actions (next_comes w); are = happen_as_events }
+
+-- Closing ahead
+
+abbrev ahead : ℕ → Work → Work
+ahead count w = record (constructs_laid (all_ended count w.constructs) w) { closed = count }
+
+ahead_is : (count : ℕ) (w : Work) → w.closed ≡ 0 → closed_ahead count w ≡ ahead count w
+ahead_is count w e =
+    let all : count - 0 ≡ count = omega arith in
+    let most : max 0 count ≡ count = omega arith in
+    ap (λ n. record (constructs_laid (all_ended (count - n) w.constructs) w) { closed = max n count }) e
+    ∙ (ap (λ n. record (constructs_laid (all_ended n w.constructs) w) { closed = max 0 count }) all
+    ∙ ap (λ n. record (constructs_laid (all_ended count w.constructs) w) { closed = n }) most)
+
+next_ahead : (count : ℕ) (w : Work) → construct_closed (ahead (suc count) w) ≡ ahead count (construct_ended w)
+next_ahead count w =
+    let some : nat_lt 0 (suc count) ≡ true = lt-ltb 0 (suc count) (omega arith) in
+    let one_less : suc count - 1 ≡ count = omega arith in
+    ap (λ b. if b then record (ahead (suc count) w) { closed = suc count - 1 } else construct_ended (ahead (suc count) w)) some
+    ∙ ap (λ n. record (ahead count (construct_ended w)) { closed = n }) one_less
+
+-- a directive before the next end, and behind it
+next_begun : (files : FileNames) (place : Place) (count : ℕ) (w : Work)
+    → construct_closed (begun_at files place (ahead (suc count) w)) ≡ begun_at files place (construct_closed (ahead (suc count) w))
+next_begun files place count w =
+    let some : nat_lt 0 (suc count) ≡ true = lt-ltb 0 (suc count) (omega arith) in
+    let v = begun_at files place (ahead (suc count) w) in
+    ap (λ b. if b then record v { closed = suc count - 1 } else construct_ended v) some
+    ∙ sym (ap (λ b. begun_at files place (if b then record (ahead (suc count) w) { closed = suc count - 1 } else construct_ended
+    (ahead (suc count) w))) some)
+
+all_ahead : (files : FileNames) (place : Place) (places : List Place) (w : Work) → w.closed ≡ 0
+    → run files (endings places) (begun_at files place (ahead (length places) w)) ≡ begun_at files place (run files (endings places) w)
+all_ahead files place [] w e = ap (λ n. begun_at files place (record w { closed = n })) (sym e)
+all_ahead files place (p ∷ places) w e =
+    ap (run files (endings places)) (next_begun files place (length places) w ∙ ap (begun_at files place) (next_ahead (length places) w))
+    ∙ (all_ahead files place places (construct_ended w) e ∙ ap (λ v. begun_at files place (run files (endings places) v))
+    (sym (closing_open w e)))
+
+pub closing_ahead_is_closing : ClosingAheadIsClosing
+closing_ahead_is_closing files place places w e =
+    ap (λ v. run files (endings places) (begun_at files place v)) (ahead_is (length places) w e) ∙ all_ahead files place places w e

@@ -1,0 +1,5 @@
+pub mod Texts
+pub mod Rules
+pub mod Nesting
+pub mod Acts
+pub mod Laying

@@ -1,0 +1,82 @@
+-- What happens to a compilation while a text of the grammar is read: actions act, each before a token at a place, and tokens are taken.
+use Rattle.std.specs.Prelude.{◌≡◌, ℕ, ◌&&◌, Bool, true, false, List, [], ◌∷◌}
+use Rattle.inf_scanner.specs.declared.tokens.Place.{Place}
+use Rattle.inf_machine.specs.declared.symbols.Symbol.{Symbol}
+use Rattle.inf_machine.specs.Grammar.{Event, Took, Did, IsText}
+use Rattle.inf_syntax.specs.declared.actions.Action.{Action}
+use Rattle.inf_syntax.specs.declared.actions.Action.TheVariants as action
+use Rattle.inf_syntax.specs.Parts.{directive_2, do_rest, for_rest, if_rest, objectloop_rest, switch_rest, value_3, while_rest}
+use Rattle.inf_grammar.specs.Language.{grammar}
+use Rattle.inf_unit.specs.Tokens.{Spelled}
+
+pub data Happening : Type 0 where
+  Acts : (place : Place) (action : Action) → Happening
+  Takes : (token : Spelled) → Happening
+
+-- They are those of some events of the grammar, in order: the same actions, at any places, and for each token that was taken one, whichever
+-- it is.
+abbrev pub AreOf : List (Event Action) → List Happening → Type 0
+AreOf [] [] = Unit {0}
+AreOf (Did a ∷ events) (Acts place b ∷ happenings) = (b ≡ a) × AreOf events happenings
+AreOf (Took atom ∷ events) (Takes t ∷ happenings) = AreOf events happenings
+AreOf _ _ = ⊥
+
+-- They are those of a text of a symbol.
+pub record IsRead (symbol : Symbol Action) (happenings : List Happening) : Type 0 where
+  pub atoms : List ℕ
+  pub events : List (Event Action)
+  pub is_text : IsText grammar (symbol ∷ []) atoms events
+  pub are : AreOf events happenings
+
+-- what stands behind the words of the statements that hold others
+abbrev pub rests : List (Symbol Action)
+rests = if_rest ∷ while_rest ∷ do_rest ∷ for_rest ∷ objectloop_rest ∷ switch_rest ∷ []
+
+-- what stands between the header and the end of a routine, and of one that is a value of a property
+abbrev pub bodies : List (Symbol Action)
+bodies = directive_2 ∷ value_3 ∷ []
+
+-- Whether an action neither opens a statement that holds others nor goes on with one nor ends one, whatever unit it may end. Those that
+-- stand outside of statements count as ones that do.
+abbrev pub is_quiet : Action → Bool
+is_quiet action.OpenIf = false
+is_quiet action.OpenWhile = false
+is_quiet action.OpenDo = false
+is_quiet action.OpenFor = false
+is_quiet action.OpenObjectloop = false
+is_quiet action.OpenSwitch = false
+is_quiet action.Else = false
+is_quiet action.Until = false
+is_quiet action.ForTop = false
+is_quiet action.Loop = false
+is_quiet action.EndForStep = false
+is_quiet action.EndObjectloop = false
+is_quiet action.EndCase = false
+is_quiet action.Close = false
+is_quiet action.EndRoutine = false
+is_quiet action.EndLocals = false
+is_quiet action.EndDirective = false
+is_quiet action.EndHeader = false
+is_quiet action.EndBody = false
+is_quiet action.EndClass = false
+is_quiet action.EndAttribute = false
+is_quiet action.EndProperty = false
+is_quiet action.EndValue = false
+is_quiet action.EndEmbedded = false
+is_quiet action.EndLine = false
+is_quiet action.EndEntry = false
+is_quiet action.EndAlone = false
+is_quiet _ = true
+
+abbrev pub happens_quietly : Happening → Bool
+happens_quietly (Acts place a) = is_quiet a
+happens_quietly (Takes t) = true
+
+abbrev pub happen_quietly : List Happening → Bool
+happen_quietly [] = true
+happen_quietly (h ∷ happenings) = happens_quietly h && happen_quietly happenings
+
+-- Tokens and actions by which no statement that holds others is opened, goes on or ends
+pub record Quiet : Type 0 where
+  pub all : List Happening
+  pub are : happen_quietly all ≡ true

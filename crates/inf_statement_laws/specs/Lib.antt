@@ -1,0 +1,4 @@
+pub mod Happenings
+pub mod Nested
+pub mod Laid
+pub mod Laws

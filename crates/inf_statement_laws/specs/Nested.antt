@@ -1,0 +1,70 @@
+-- Statements as they are nested, each with the happenings of its parts in order. Designer's Manual, fourth edition, sections 1.7 to 1.9.
+use Rattle.std.specs.Prelude.{Bool, true, false, List, [], ◌∷◌, ◌++◌, Option, Some, None}
+use Rattle.inf_scanner.specs.declared.tokens.Place.{Place}
+use Rattle.inf_machine.specs.declared.symbols.Symbol.{Symbol}
+use Rattle.inf_syntax.specs.declared.actions.Action.{Action}
+use Rattle.inf_syntax.specs.declared.actions.Action.TheVariants as action
+use Rattle.inf_syntax.specs.Parts.{do_rest, for_rest, if_rest, objectloop_rest, switch_rest, while_rest}
+use Rattle.inf_statement_laws.specs.Happenings.{Happening, Acts, Quiet}
+
+-- the step of a `for`, which may lack
+pub data Step : Type 0 where
+  NoStep : Step
+  StepEnds : (step : Quiet) (ends : Place) → Step
+
+abbrev pub step_happenings : Step → List Happening
+step_happenings NoStep = []
+step_happenings (StepEnds step ends) = step.all ++ Acts ends action.EndForStep ∷ []
+
+-- Statements one behind the other, or what stands in one; in a `switch`, and at the top of a routine, cases may be among them. What holds
+-- others begins where its word was read, and has its own actions, each before a token at a place, between its parts.
+pub data Nested : (has_cases : Bool) → Type 0 where
+  Plain : {b : Bool} (plain : Quiet) → Nested b
+  Then : {b : Bool} (first second : Nested b) → Nested b
+  Case : (values : Quiet) (ends : Place) → Nested true
+  If : {b : Bool} (opens : Place) (test : Quiet) (body : Nested false) (closes : Place) → Nested b
+  IfElse : {b : Bool} (opens : Place) (test : Quiet) (body : Nested false) (joins : Place) (word : Quiet) (other : Nested false)
+      (closes : Place) → Nested b
+  While : {b : Bool} (opens : Place) (test : Quiet) (body : Nested false) (closes : Place) → Nested b
+  Do : {b : Bool} (opens : Place) (body : Nested false) (word : Quiet) (joins : Place) (test : Quiet) (closes : Place) → Nested b
+  For : {b : Bool} (opens : Place) (start : Quiet) (joins : Place) (test : Quiet) (step : Step) (bracket : Quiet) (body : Nested false)
+      (closes : Place) → Nested b
+  Objectloop : {b : Bool} (opens : Place) (loop : Quiet) (ends joins : Place) (bracket : Quiet) (body : Nested false) (closes : Place)
+      → Nested b
+  Switch : {b : Bool} (opens : Place) (value : Quiet) (cases : Nested true) (brace : Quiet) (closes : Place) → Nested b
+
+-- what happens while it is read
+abbrev pub happenings : {b : Bool} → Nested b → List Happening
+happenings (Plain plain) = plain.all
+happenings (Then first second) = happenings first ++ happenings second
+happenings (Case values ends) = values.all ++ Acts ends action.EndCase ∷ []
+happenings (If opens test body closes) =
+    Acts opens action.OpenIf ∷ (test.all ++ (happenings body ++ Acts closes action.Close ∷ []))
+happenings (IfElse opens test body joins word other closes) =
+    Acts opens action.OpenIf
+    ∷ (test.all ++ (happenings body ++ Acts joins action.Else ∷ (word.all ++ (happenings other ++ Acts closes action.Close ∷ []))))
+happenings (While opens test body closes) =
+    Acts opens action.OpenWhile ∷ (test.all ++ (happenings body ++ Acts closes action.Close ∷ []))
+happenings (Do opens body word joins test closes) =
+    Acts opens action.OpenDo ∷ (happenings body ++ (word.all ++ Acts joins action.Until ∷ (test.all ++ Acts closes action.Close ∷ [])))
+happenings (For opens start joins test step bracket body closes) =
+    Acts opens action.OpenFor
+    ∷ (start.all ++ Acts joins action.ForTop
+    ∷ (test.all ++ (step_happenings step ++ (bracket.all ++ (happenings body ++ Acts closes action.Close ∷ [])))))
+happenings (Objectloop opens loop ends joins bracket body closes) =
+    Acts opens action.OpenObjectloop
+    ∷ (loop.all ++ Acts ends action.EndObjectloop
+    ∷ Acts joins action.Loop ∷ (bracket.all ++ (happenings body ++ Acts closes action.Close ∷ [])))
+happenings (Switch opens value cases brace closes) =
+    Acts opens action.OpenSwitch ∷ (value.all ++ (happenings cases ++ (brace.all ++ Acts closes action.Close ∷ [])))
+
+-- the rule by which the rest of one is read that holds others
+abbrev pub rest_of : {b : Bool} → Nested b → Option (Symbol Action)
+rest_of (If opens test body closes) = Some if_rest
+rest_of (IfElse opens test body joins word other closes) = Some if_rest
+rest_of (While opens test body closes) = Some while_rest
+rest_of (Do opens body word joins test closes) = Some do_rest
+rest_of (For opens start joins test step bracket body closes) = Some for_rest
+rest_of (Objectloop opens loop ends joins bracket body closes) = Some objectloop_rest
+rest_of (Switch opens value cases brace closes) = Some switch_rest
+rest_of _ = None
