@@ -209,8 +209,8 @@ quiet_act files place action.MaybeDeeper w q = (refl, refl)
 -- Happenings
 
 quiet_happens : (files : FileNames) (h : Happening) (w : Work) → happens_quietly h ≡ true → SameOpen w (happens files h w)
-quiet_happens files (Acts place a) w q = quiet_act files place a w q
-quiet_happens files (Takes t) w q = took_same files t w
+quiet_happens files (Acts at a) w q = quiet_act files at.place a w q
+quiet_happens files (Takes t m) w q = took_same files t w
 
 pub quiet_run : (files : FileNames) (hs : List Happening) (w : Work) → happen_quietly hs ≡ true → SameOpen w (run files hs w)
 quiet_run files [] w q = (refl, refl)

@@ -20,12 +20,12 @@ use Rattle.inf_statements.specs.declared.constructs.Kind.{Kind}
 use Rattle.inf_statements.specs.declared.constructs.Kind.TheVariants as kind
 use Rattle.inf_statements.specs.declared.constructs.Over.TheVariants as over
 use Rattle.inf_work.specs.Acting.{act, acted}
-use Rattle.inf_work.specs.Actions.{Work, begun_at, is_deep, nested, took}
+use Rattle.inf_work.specs.Actions.{Work, is_deep, nested, took}
 use Rattle.inf_work.specs.Parts.{closed_ahead, construct_closed, construct_ended, construct_joined, construct_opened, constructs_laid}
-use Rattle.inf_statement_laws.specs.Happenings.{Acts, AreOf, Happening, IsRead, Quiet, bodies, rests}
+use Rattle.inf_statement_laws.specs.Happenings.{Acts, AreOf, Between, Happening, IsRead, Moment, Quiet, bodies, rests}
 use Rattle.inf_statement_laws.specs.Nested.{Case, Do, For, If, IfElse, Nested, NoStep, Objectloop, Plain, Step, StepEnds, Switch, Then, While, happenings, step_happenings}
-use Rattle.inf_statement_laws.specs.Laid.{ended_as, happens, holding, laid, next_comes, opened_at, run, with_kind_in, with_step_in}
-use Rattle.inf_statement_laws.specs.Laws.{ClosingAheadIsClosing, EndsOpen, IsWhole, LeavesOpen, RoutinesAreLaidWhole, StatementsAreLaidWhole, StatementsLeaveWhatIsOpen, TokensHappen, endings, token_happenings}
+use Rattle.inf_statement_laws.specs.Laid.{ended_as, happens, holding, laid, next_comes, opened_at, passed, run, with_kind_in, with_step_in}
+use Rattle.inf_statement_laws.specs.Laws.{ClosingAheadIsClosing, EndsOpen, IsWhole, LeavesOpen, RoutinesAreLaidWhole, StatementsAreLaidWhole, StatementsLeaveWhatIsOpen, TokensHappen, UnitsKeepLabels, endings, token_happenings}
 use Rattle.inf_statement_laws.proofs.Acts.{KindIn, StepIn, case_alone, case_ends, case_none_ahead, loop_ends, own_alone, quiet_run, step_ends}
 use Rattle.inf_statement_laws.proofs.Nesting.{Compound, body_is_nested, do_is_nested, embedded_is_nested, for_is_nested, if_is_nested, objectloop_is_nested, statement_is_nested, switch_is_nested, while_is_nested}
 
@@ -46,28 +46,31 @@ at_quiet : (files : FileNames) (q : Quiet) (c : Construct) (around : List Constr
 at_quiet files q c around w at =
     let same = quiet_run files q.all w q.are in record { is = same.0 ∙ at.is; none_ahead = same.1 ∙ at.none_ahead }
 
-at_holding : (c : Construct × Out) (around : List Construct) (w : Work) → w.closed ≡ 0 → At c.0 around (holding c around w)
-at_holding c around w e = record { is = refl; none_ahead = e }
+at_holding : (at : Moment) (c : Construct × Out) (around : List Construct) (w : Work) → w.closed ≡ 0 → At c.0 around (holding at c around w)
+at_holding at c around w e = record { is = refl; none_ahead = e }
 
 nested_is : (files : FileNames) (place : Place) (b : Bool) (w : Work)
     → nested files place b w ≡ record w { report = (nested files place b w).report }
 nested_is files place true w = refl
 nested_is files place false w = refl
 
-opening_is : (files : FileNames) (place : Place) (k : Kind) (w : Work)
-    → construct_opened files place k w ≡ opened_at files place (opened k w.output) w
-opening_is files place k w =
-    ap (λ (told : Work). constructs_laid (begun k told.constructs) told) (nested_is files (last_place w.unit.tokens place) (is_deep w 1) w)
+opening_is : (files : FileNames) (at : Moment) (k : Kind) (w : Work)
+    → passed at.behind (construct_opened files at.place k w) ≡ opened_at files at (opened k w.output) w
+opening_is files at k w =
+    ap (λ (told : Work). passed at.behind (constructs_laid (begun k told.constructs) told))
+    (nested_is files (last_place w.unit.tokens at.place) (is_deep w 1) w)
 
-joining_is : (c : Construct) (around : List Construct) (w : Work) → At c around w
-    → construct_joined w ≡ holding (between c w.output) around w
-joining_is c around w at = ap (λ l. constructs_laid (changed between l) w) at.is
+joining_is : (joins : Moment) (c : Construct) (around : List Construct) (w : Work) → At c around w
+    → passed joins.behind (construct_joined w) ≡ holding joins (between c w.output) around w
+joining_is joins c around w at = ap (λ l. passed joins.behind (constructs_laid (changed between l) w)) at.is
 
 closing_open : (w : Work) → w.closed ≡ 0 → construct_closed w ≡ construct_ended w
 closing_open w e = ap (λ n. if nat_lt 0 n then record w { closed = n - 1 } else construct_ended w) e
 
-closing_is : (c : Construct) (around : List Construct) (w : Work) → At c around w → construct_closed w ≡ ended_as c around w
-closing_is c around w at = closing_open w at.none_ahead ∙ ap (λ l. constructs_laid (ended l) w) at.is
+closing_is : (closes : Moment) (c : Construct) (around : List Construct) (w : Work) → At c around w
+    → passed closes.behind (construct_closed w) ≡ ended_as closes c around w
+closing_is closes c around w at =
+    ap (passed closes.behind) (closing_open w at.none_ahead ∙ ap (λ l. constructs_laid (ended l) w) at.is)
 
 -- What is open behind something: the same, and in a `switch` its innermost may be of another kind.
 abbrev Holds : Bool → List Construct → List Construct → Type 0
@@ -96,43 +99,44 @@ at_body files body inner c around w at =
     let i = inner w at.none_ahead in record { is = i.holds ∙ at.is; none_ahead = i.none_ahead }
 
 -- the closing behind something that ran
-abbrev close : Place → List Happening
-close place = Acts place action.Close ∷ []
+abbrev close : Moment → List Happening
+close at = Acts at action.Close ∷ []
 
 -- It ends where what ran has it as the innermost.
-record Ends (files : FileNames) (hs : List Happening) (v : Work) (c : Construct) (around : List Construct) (w : Work) : Type 0 where
-  runs : run files hs v ≡ ended_as c around w
+record Ends (files : FileNames) (hs : List Happening) (v : Work) (c : Construct) (around : List Construct) (closes : Moment)
+    (w : Work) : Type 0 where
+  runs : run files hs v ≡ ended_as closes c around w
   none_ahead : w.closed ≡ 0
 
-closed_behind : (files : FileNames) (c : Construct) (around : List Construct) (closes : Place) (xs : List Happening) (v w : Work)
+closed_behind : (files : FileNames) (c : Construct) (around : List Construct) (closes : Moment) (xs : List Happening) (v w : Work)
     → run files xs v ≡ w → At c around w
-    → Ends files (xs ++ close closes) v c around w
+    → Ends files (xs ++ close closes) v c around closes w
 closed_behind files c around closes xs v w e at = record {
-  runs = run_then files xs (close closes) v ∙ (ap (run files (close closes)) e ∙ closing_is c around w at);
+  runs = run_then files xs (close closes) v ∙ (ap (run files (close closes)) e ∙ closing_is closes c around w at);
   none_ahead = at.none_ahead;
 }
 
 -- a body, and the closing
 body_closed : (files : FileNames) (body : Nested false) → Inner files body
-    → (c : Construct) (around : List Construct) (closes : Place) (v : Work) → At c around v
-    → Ends files (happenings body ++ close closes) v c around (laid files body v)
+    → (c : Construct) (around : List Construct) (closes : Moment) (v : Work) → At c around v
+    → Ends files (happenings body ++ close closes) v c around closes (laid files body v)
 body_closed files body inner c around closes v at =
     closed_behind files c around closes (happenings body) v (laid files body v) (inner v at.none_ahead).runs
     (at_body files body inner c around v at)
 
 -- what is quiet, a body, and the closing
 quiet_body_closed : (files : FileNames) (q : Quiet) (body : Nested false) → Inner files body
-    → (c : Construct) (around : List Construct) (closes : Place) (v : Work) → At c around v
-    → Ends files (q.all ++ (happenings body ++ close closes)) v c around (laid files body (run files q.all v))
+    → (c : Construct) (around : List Construct) (closes : Moment) (v : Work) → At c around v
+    → Ends files (q.all ++ (happenings body ++ close closes)) v c around closes (laid files body (run files q.all v))
 quiet_body_closed files q body inner c around closes v at =
     let ends = body_closed files body inner c around closes (run files q.all v) (at_quiet files q c around v at) in
     record { runs = run_then files q.all (happenings body ++ close closes) v ∙ ends.runs; none_ahead = ends.none_ahead }
 
 -- behind the word of one
-abbrev word_read : FileNames → Place → Kind → Work → Work
+abbrev word_read : FileNames → Moment → Kind → Work → Work
 word_read files opens k w = opened_at files opens (opened k w.output) w
 
-at_word : (files : FileNames) (opens : Place) (k : Kind) (w : Work) → w.closed ≡ 0
+at_word : (files : FileNames) (opens : Moment) (k : Kind) (w : Work) → w.closed ≡ 0
     → At (opened k w.output).0 w.constructs (word_read files opens k w)
 at_word files opens k w e = record { is = refl; none_ahead = e }
 
@@ -141,7 +145,7 @@ record Whole {b : Bool} (files : FileNames) (n : Nested b) (w : Work) : Type 0 w
   runs : run files (happenings n) w ≡ laid files n w
   none_ahead : (laid files n w).closed ≡ 0
 
-if_is : {b : Bool} (files : FileNames) (opens : Place) (test : Quiet) (body : Nested false) (closes : Place) (w : Work) → w.closed ≡ 0
+if_is : {b : Bool} (files : FileNames) (opens : Moment) (test : Quiet) (body : Nested false) (closes : Moment) (w : Work) → w.closed ≡ 0
     → Inner files body → Whole files (If {b = b} opens test body closes) w
 if_is files opens test body closes w e inner =
     let end = quiet_body_closed files test body inner (opened kind.If w.output).0 w.constructs closes (word_read files opens kind.If w)
@@ -153,7 +157,7 @@ if_is files opens test body closes w e inner =
       none_ahead = end.none_ahead;
     }
 
-while_is : {b : Bool} (files : FileNames) (opens : Place) (test : Quiet) (body : Nested false) (closes : Place) (w : Work) → w.closed ≡ 0
+while_is : {b : Bool} (files : FileNames) (opens : Moment) (test : Quiet) (body : Nested false) (closes : Moment) (w : Work) → w.closed ≡ 0
     → Inner files body → Whole files (While {b = b} opens test body closes) w
 while_is files opens test body closes w e inner =
     let end = quiet_body_closed files test body inner (opened kind.While w.output).0 w.constructs closes
@@ -165,8 +169,8 @@ while_is files opens test body closes w e inner =
       none_ahead = end.none_ahead;
     }
 
-else_is : {b : Bool} (files : FileNames) (opens : Place) (test : Quiet) (body : Nested false) (joins : Place) (word : Quiet)
-    (other : Nested false) (closes : Place) (w : Work) → w.closed ≡ 0
+else_is : {b : Bool} (files : FileNames) (opens : Moment) (test : Quiet) (body : Nested false) (joins : Moment) (word : Quiet)
+    (other : Nested false) (closes : Moment) (w : Work) → w.closed ≡ 0
     → Inner files body → Inner files other → Whole files (IfElse {b = b} opens test body joins word other closes) w
 else_is files opens test body joins word other closes w e inner inner_other =
     let rest : List Happening = word.all ++ (happenings other ++ close closes) in
@@ -177,21 +181,21 @@ else_is files opens test body joins word other closes w e inner inner_other =
     let first = laid files body tested in
     let at = at_body files body inner c.0 w.constructs tested at_test in
     let joined = between c.0 first.output in
-    let end = quiet_body_closed files word other inner_other joined.0 w.constructs closes (holding joined w.constructs first)
-    (at_holding joined w.constructs first at.none_ahead) in
+    let end = quiet_body_closed files word other inner_other joined.0 w.constructs closes (holding joins joined w.constructs first)
+    (at_holding joins joined w.constructs first at.none_ahead) in
     record {
       runs =
           ap (run files (test.all ++ (happenings body ++ Acts joins action.Else ∷ rest))) (opening_is files opens kind.If w)
           ∙ (run_then files test.all (happenings body ++ Acts joins action.Else ∷ rest) v
           ∙ (run_then files (happenings body) (Acts joins action.Else ∷ rest) tested
           ∙ (ap (run files (Acts joins action.Else ∷ rest)) (inner tested at_test.none_ahead).runs
-          ∙ (ap (run files rest) (joining_is c.0 w.constructs first at)
+          ∙ (ap (run files rest) (joining_is joins c.0 w.constructs first at)
           ∙ end.runs))));
       none_ahead = end.none_ahead;
     }
 
-do_is : {b : Bool} (files : FileNames) (opens : Place) (body : Nested false) (word : Quiet) (joins : Place) (test : Quiet)
-    (closes : Place) (w : Work) → w.closed ≡ 0 → Inner files body
+do_is : {b : Bool} (files : FileNames) (opens : Moment) (body : Nested false) (word : Quiet) (joins : Moment) (test : Quiet)
+    (closes : Moment) (w : Work) → w.closed ≡ 0 → Inner files body
     → Whole files (Do {b = b} opens body word joins test closes) w
 do_is files opens body word joins test closes w e inner =
     let rest : List Happening = test.all ++ close closes in
@@ -202,8 +206,8 @@ do_is files opens body word joins test closes w e inner =
     let first = run files word.all done in
     let at = at_quiet files word c.0 w.constructs done (at_body files body inner c.0 w.constructs v at_v) in
     let joined = between c.0 first.output in
-    let behind = holding joined w.constructs first in
-    let at_behind = at_holding joined w.constructs first at.none_ahead in
+    let behind = holding joins joined w.constructs first in
+    let at_behind = at_holding joins joined w.constructs first at.none_ahead in
     let end = closed_behind files joined.0 w.constructs closes test.all behind (run files test.all behind) refl
     (at_quiet files test joined.0 w.constructs behind at_behind) in
     record {
@@ -212,7 +216,7 @@ do_is files opens body word joins test closes w e inner =
           ∙ (run_then files (happenings body) (word.all ++ Acts joins action.Until ∷ rest) v
           ∙ (ap (run files (word.all ++ Acts joins action.Until ∷ rest)) (inner v at_v.none_ahead).runs
           ∙ (run_then files word.all (Acts joins action.Until ∷ rest) done
-          ∙ (ap (run files rest) (joining_is c.0 w.constructs first at)
+          ∙ (ap (run files rest) (joining_is joins c.0 w.constructs first at)
           ∙ end.runs))));
       none_ahead = end.none_ahead;
     }
@@ -229,17 +233,21 @@ at_step files NoStep c around w at = record { is = kept_step c around w.construc
 at_step files (StepEnds step ends) c around w at =
     let front = run files step.all w in
     let at_front = at_quiet files step c around w at in
-    let s = step_ends files ends front c around at_front.is in
+    let s = step_ends files ends.place front c around at_front.is in
     let same = run_then files step.all (Acts ends action.EndForStep ∷ []) w in
     subst (λ v. At (with_step_in v.constructs c) around v) (sym same)
-    (record { is = kept_step c around (act files ends action.EndForStep front).constructs s.0; none_ahead = s.1 ∙ at_front.none_ahead })
+    (record {
+      is = kept_step c around (happens files (Acts ends action.EndForStep) front).constructs s.0;
+      none_ahead = s.1
+          ∙ at_front.none_ahead;
+    })
 
 -- what is open already is held
-held : (c : Construct) (around : List Construct) (w : Work) → At c around w → w ≡ holding (c, w.output) around w
+held : (c : Construct) (around : List Construct) (w : Work) → At c around w → w ≡ record w { constructs = c ∷ around }
 held c around w at = ap (λ l. record w { constructs = l }) at.is
 
-for_is : {b : Bool} (files : FileNames) (opens : Place) (start : Quiet) (joins : Place) (test : Quiet) (step : Step) (bracket : Quiet)
-    (body : Nested false) (closes : Place) (w : Work)
+for_is : {b : Bool} (files : FileNames) (opens : Moment) (start : Quiet) (joins : Moment) (test : Quiet) (step : Step) (bracket : Quiet)
+    (body : Nested false) (closes : Moment) (w : Work)
     → w.closed ≡ 0 → Inner files body → Whole files (For {b = b} opens start joins test step bracket body closes) w
 for_is files opens start joins test step bracket body closes w e inner =
     let last : List Happening = bracket.all ++ (happenings body ++ close closes) in
@@ -249,20 +257,20 @@ for_is files opens start joins test step bracket body closes w e inner =
     let started = run files start.all v in
     let at = at_quiet files start c.0 w.constructs v (at_word files opens kind.For w e) in
     let top = between c.0 started.output in
-    let behind = holding top w.constructs started in
-    let at_top = at_holding top w.constructs started at.none_ahead in
+    let behind = holding joins top w.constructs started in
+    let at_top = at_holding joins top w.constructs started at.none_ahead in
     let tested = run files test.all behind in
     let stepped = run files (step_happenings step) tested in
     let own = with_step_in stepped.constructs top.0 in
     let at_own = at_step files step top.0 w.constructs tested (at_quiet files test top.0 w.constructs behind at_top) in
-    let ready = holding (own, stepped.output) w.constructs stepped in
-    let end = quiet_body_closed files bracket body inner own w.constructs closes ready (at_holding (own, stepped.output) w.constructs
-    stepped at_own.none_ahead) in
+    let ready = record stepped { constructs = own ∷ w.constructs } in
+    let end = quiet_body_closed files bracket body inner own w.constructs closes ready
+    (record { is = refl; none_ahead = at_own.none_ahead }) in
     record {
       runs =
           ap (run files (start.all ++ Acts joins action.ForTop ∷ rest)) (opening_is files opens kind.For w)
           ∙ (run_then files start.all (Acts joins action.ForTop ∷ rest) v
-          ∙ (ap (run files rest) (joining_is c.0 w.constructs started at)
+          ∙ (ap (run files rest) (joining_is joins c.0 w.constructs started at)
           ∙ (run_then files test.all (step_happenings step ++ last) behind
           ∙ (run_then files (step_happenings step) last tested
           ∙ (ap (run files last) (held own w.constructs stepped at_own)
@@ -276,8 +284,8 @@ kept_kind : (c : Construct) (around constructs : List Construct) → KindIn c ar
     → constructs ≡ with_kind_in constructs c ∷ around
 kept_kind c around constructs k = k.1 ∙ ap (λ d. d ∷ around) (sym (ap (λ l. with_kind_in l c) k.1))
 
-loop_is : {b : Bool} (files : FileNames) (opens : Place) (loop : Quiet) (ends joins : Place) (bracket : Quiet) (body : Nested false)
-    (closes : Place) (w : Work) → w.closed ≡ 0 → Inner files body
+loop_is : {b : Bool} (files : FileNames) (opens : Moment) (loop : Quiet) (ends joins : Moment) (bracket : Quiet) (body : Nested false)
+    (closes : Moment) (w : Work) → w.closed ≡ 0 → Inner files body
     → Whole files (Objectloop {b = b} opens loop ends joins bracket body closes) w
 loop_is files opens loop ends joins bracket body closes w e inner =
     let rest : List Happening = bracket.all ++ (happenings body ++ close closes) in
@@ -286,24 +294,24 @@ loop_is files opens loop ends joins bracket body closes w e inner =
     let v = word_read files opens k w in
     let unit = run files loop.all v in
     let at = at_quiet files loop c.0 w.constructs v (at_word files opens k w e) in
-    let looped = act files ends action.EndObjectloop unit in
-    let l = loop_ends files ends unit c.0 w.constructs at.is in
+    let looped = happens files (Acts ends action.EndObjectloop) unit in
+    let l = loop_ends files ends.place unit c.0 w.constructs at.is in
     let own = with_kind_in looped.constructs c.0 in
     let none : looped.closed ≡ 0 = l.1 ∙ at.none_ahead in
     let joined = between own looped.output in
-    let end = quiet_body_closed files bracket body inner joined.0 w.constructs closes (holding joined w.constructs looped)
-    (at_holding joined w.constructs looped none) in
+    let end = quiet_body_closed files bracket body inner joined.0 w.constructs closes (holding joins joined w.constructs looped)
+    (at_holding joins joined w.constructs looped none) in
     record {
       runs =
           ap (run files (loop.all ++ Acts ends action.EndObjectloop ∷ Acts joins action.Loop ∷ rest)) (opening_is files opens k w)
           ∙ (run_then files loop.all (Acts ends action.EndObjectloop ∷ Acts joins action.Loop ∷ rest) v
-          ∙ (ap (run files rest) (joining_is own w.constructs looped
+          ∙ (ap (run files rest) (joining_is joins own w.constructs looped
           (record { is = kept_kind c.0 w.constructs looped.constructs l.0; none_ahead = none }))
           ∙ end.runs));
       none_ahead = end.none_ahead;
     }
 
-switch_is : {b : Bool} (files : FileNames) (opens : Place) (value : Quiet) (cases : Nested true) (brace : Quiet) (closes : Place)
+switch_is : {b : Bool} (files : FileNames) (opens : Moment) (value : Quiet) (cases : Nested true) (brace : Quiet) (closes : Moment)
     (w : Work) → w.closed ≡ 0 → Inner files cases
     → Whole files (Switch {b = b} opens value cases brace closes) w
 switch_is files opens value cases brace closes w e inner =
@@ -353,8 +361,8 @@ laid_as files (Case values ends) w e =
     let same = quiet_run files values.all w values.are in
     record {
       runs = run_then files values.all (Acts ends action.EndCase ∷ []) w;
-      holds = λ c around is. case_ends files ends v c around (same.0 ∙ is);
-      none_ahead = case_none_ahead files ends v ∙ (same.1 ∙ e);
+      holds = λ c around is. case_ends files ends.place v c around (same.0 ∙ is);
+      none_ahead = case_none_ahead files ends.place v ∙ (same.1 ∙ e);
     }
 laid_as files (If {b} opens test body closes) w e =
     let whole = if_is {b = b} files opens test body closes w e (laid_as files body) in
@@ -418,7 +426,7 @@ alone_behind files (Plain plain) w e h = ap own_alone (quiet_run files plain.all
 alone_behind files (Then before behind) w e h =
     let one = laid_as files before w e in alone_behind files behind (laid files before w) one.none_ahead (alone_behind files before w e h)
 alone_behind files (Case values ends) w e h =
-    case_alone files ends (run files values.all w) (ap own_alone (quiet_run files values.all w values.are).0 ∙ h)
+    case_alone files ends.place (run files values.all w) (ap own_alone (quiet_run files values.all w values.are).0 ∙ h)
 alone_behind files (If opens test body closes) w e h = h
 alone_behind files (IfElse opens test body joins word other closes) w e h = h
 alone_behind files (While opens test body closes) w e h = h
@@ -469,17 +477,22 @@ routines_are_laid_whole = record {
 
 -- Tokens
 
-actions_happen : (files : FileNames) (t : Spelled) (actions : List Action) (w : Work)
-    → next_comes (took files t (acted files t.place actions w)) ≡ run files (token_happenings t actions) w
-actions_happen files t [] w = refl
-actions_happen files t (a ∷ actions) w = actions_happen files t actions (act files t.place a w)
+actions_happen : (files : FileNames) (t : Spelled) (m : Between) (actions : List Action) (w : Work)
+    → next_comes (passed m (took files t (acted files t.place actions w))) ≡ run files (token_happenings t m actions) w
+actions_happen files t m [] w = refl
+actions_happen files t m (a ∷ actions) w = actions_happen files t m actions (act files t.place a w)
 
-happen_as_events : (t : Spelled) (actions : List Action) (atom : ℕ) → AreOf (events_of actions atom) (token_happenings t actions)
-happen_as_events t [] atom = tt
-happen_as_events t (a ∷ actions) atom = (refl, happen_as_events t actions atom)
+happen_as_events : (t : Spelled) (m : Between) (actions : List Action) (atom : ℕ)
+    → AreOf (events_of actions atom) (token_happenings t m actions)
+happen_as_events t m [] atom = tt
+happen_as_events t m (a ∷ actions) atom = (refl, happen_as_events t m actions atom)
 
 pub tokens_happen : TokensHappen
-tokens_happen = record { runs = λ files t actions w. actions_happen files t actions (next_comes w); are = happen_as_events }
+tokens_happen = record {
+  runs = λ files t m actions w. actions_happen files t m actions (next_comes w);
+  are = happen_as_events;
+  directives = λ files place w. refl;
+}
 
 -- Closing ahead
 
@@ -501,24 +514,46 @@ next_ahead count w =
     ap (λ b. if b then record (ahead (suc count) w) { closed = suc count - 1 } else construct_ended (ahead (suc count) w)) some
     ∙ ap (λ n. record (ahead count (construct_ended w)) { closed = n }) one_less
 
--- a directive before the next end, and behind it
-next_begun : (files : FileNames) (place : Place) (count : ℕ) (w : Work)
-    → construct_closed (begun_at files place (ahead (suc count) w)) ≡ begun_at files place (construct_closed (ahead (suc count) w))
-next_begun files place count w =
+-- what is done before the next end, and behind it
+next_passed : (m : Between) (count : ℕ) (w : Work)
+    → construct_closed (passed m (ahead (suc count) w)) ≡ passed m (construct_closed (ahead (suc count) w))
+next_passed m count w =
     let some : nat_lt 0 (suc count) ≡ true = lt-ltb 0 (suc count) (omega arith) in
-    let v = begun_at files place (ahead (suc count) w) in
+    let v = passed m (ahead (suc count) w) in
     ap (λ b. if b then record v { closed = suc count - 1 } else construct_ended v) some
-    ∙ sym (ap (λ b. begun_at files place (if b then record (ahead (suc count) w) { closed = suc count - 1 } else construct_ended
+    ∙ sym (ap (λ b. passed m (if b then record (ahead (suc count) w) { closed = suc count - 1 } else construct_ended
     (ahead (suc count) w))) some)
 
-all_ahead : (files : FileNames) (place : Place) (places : List Place) (w : Work) → w.closed ≡ 0
-    → run files (endings places) (begun_at files place (ahead (length places) w)) ≡ begun_at files place (run files (endings places) w)
-all_ahead files place [] w e = ap (λ n. begun_at files place (record w { closed = n })) (sym e)
-all_ahead files place (p ∷ places) w e =
-    ap (run files (endings places)) (next_begun files place (length places) w ∙ ap (begun_at files place) (next_ahead (length places) w))
-    ∙ (all_ahead files place places (construct_ended w) e ∙ ap (λ v. begun_at files place (run files (endings places) v))
-    (sym (closing_open w e)))
+all_ahead : (files : FileNames) (m : Between) (places : List Place) (w : Work) → w.closed ≡ 0
+    → run files (endings places) (passed m (ahead (length places) w)) ≡ passed m (run files (endings places) w)
+all_ahead files m [] w e = ap (λ n. passed m (record w { closed = n })) (sym e)
+all_ahead files m (place ∷ places) w e =
+    ap (run files (endings places)) (next_passed m (length places) w ∙ ap (passed m) (next_ahead (length places) w))
+    ∙ (all_ahead files m places (construct_ended w) e ∙ ap (λ v. passed m (run files (endings places) v)) (sym (closing_open w e)))
+
+again_ahead : (count : ℕ) (m : Between) (w : Work) → closed_ahead count (passed m (ahead count w)) ≡ passed m (ahead count w)
+again_ahead count m w =
+    let none : count - count ≡ 0 = omega arith in
+    let most : max count count ≡ count = omega arith in
+    let v = passed m (ahead count w) in
+    ap (λ n. record (constructs_laid (all_ended n v.constructs) v) { closed = max count count }) none
+    ∙ ap (λ n. record v { closed = n }) most
 
 pub closing_ahead_is_closing : ClosingAheadIsClosing
-closing_ahead_is_closing files place places w e =
-    ap (λ v. run files (endings places) (begun_at files place v)) (ahead_is (length places) w e) ∙ all_ahead files place places w e
+closing_ahead_is_closing = record {
+  behind = λ files places m w e.
+      ap (λ v. run files (endings places) (passed m v)) (ahead_is (length places) w e) ∙ all_ahead files m places w e;
+  again = λ count m w e.
+      ap (λ v. closed_ahead count (passed m v)) (ahead_is count w e)
+      ∙ (again_ahead count m w ∙ sym (ap (passed m) (ahead_is count w e)));
+}
+
+pub units_keep_labels : UnitsKeepLabels
+units_keep_labels = record {
+  of_loops = λ files place c around w e. kept_kind c around (act files place action.EndObjectloop w).constructs
+      (loop_ends files place w c around e).0;
+  of_steps = λ files place c around w e. kept_step c around (act files place action.EndForStep w).constructs
+      (step_ends files place w c around e).0;
+  of_cases = λ files place c around w e. kept_kind c around (act files place action.EndCase w).constructs
+      (case_ends files place w c around e);
+}

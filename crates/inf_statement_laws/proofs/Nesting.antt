@@ -1,7 +1,6 @@
 -- Each text of a statement is a nested statement.
 use Rattle.std.proofs.Common.{◌≡◌, ℕ, zero, suc, List, [], ◌∷◌, ◌++◌, Bool, true, false, ◌&&◌, ◌||◌, ◌==◌, Some, refl, sym, ◌∙◌, ap, subst, append-nil, inl, inr}
 use Rattle.std.proofs.lemmas.Bool.{and_from, and_parts, eqb-true, or_cases}
-use Rattle.inf_scanner.specs.declared.tokens.Place.{Place}
 use Rattle.inf_machine.specs.declared.symbols.Symbol.{Symbol}
 use Rattle.inf_machine.specs.declared.symbols.Symbol.TheVariants.{Token, Rule, Act}
 use Rattle.inf_machine.specs.Grammar.{IsOneOf, Row}
@@ -9,7 +8,7 @@ use Rattle.inf_syntax.specs.declared.actions.Action.{Action}
 use Rattle.inf_syntax.specs.declared.actions.Action.TheVariants as action
 use Rattle.inf_syntax.specs.Parts.{ !close, !end_for_step, !end_objectloop, !for_top, !loop, !until, directive_2, do_rest, else_part, for_rest, for_rest_3, if_rest, objectloop_rest, statement, switch_rest, switch_rest_1, value_3, while_rest}
 use Rattle.inf_grammar.specs.Language.{grammar}
-use Rattle.inf_statement_laws.specs.Happenings.{Acts, Happening, IsRead, Quiet, Takes, happen_quietly, happens_quietly, is_quiet}
+use Rattle.inf_statement_laws.specs.Happenings.{Acts, Happening, IsRead, Moment, Quiet, Takes, happen_quietly, happens_quietly, is_quiet}
 use Rattle.inf_statement_laws.specs.Nested.{Case, Do, For, If, IfElse, Nested, NoStep, Objectloop, Plain, Step, StepEnds, Switch, Then, While, happenings, rest_of, step_happenings}
 use Rattle.inf_statement_laws.proofs.Rules.{all_may, all_quiet, body_may, brace, bracket, case_row, cases_may, do_parts, do_row, else_parts, else_row, else_word, embedded_may, for_parts, for_row, for_start, for_test, holding_row, if_parts, if_row, if_test, is_case, is_case_rule, is_holding, is_quiet_rule, is_rest, lone_parts, loop_parts, loop_row, loop_unit, may, number, quiet_for_start, quiet_for_test, quiet_if_test, quiet_loop_unit, quiet_row, quiet_step_front, quiet_switch_value, quiet_until_test, quiet_while_test, statement_may, step_front, step_parts, step_row, switch_parts, switch_row, switch_value, until_test, until_word, while_parts, while_row, while_test}
 use Rattle.inf_statement_laws.proofs.Texts.{OfRule, Parts, raised, read_deep, split}
@@ -64,14 +63,14 @@ case_is : (a : Action) → is_case a ≡ true → a ≡ action.EndCase
 case_is action.EndCase e = refl
 case_is _ e = cc
 
-case_nests : (b : Bool) (a : Action) (place : Place) → (b && is_case a) ≡ true → Nests b (Acts place a ∷ [])
+case_nests : (b : Bool) (a : Action) (place : Moment) → (b && is_case a) ≡ true → Nests b (Acts place a ∷ [])
 case_nests true a place e = record {
   nested = Case (record { all = []; are = refl }) place;
   same = ap (λ x. Acts place x ∷ []) (sym (case_is a e));
 }
 case_nests false a place e = cc
 
-act_nests : (b : Bool) (a : Action) (place : Place) → (is_quiet a || (b && is_case a)) ≡ true → Nests b (Acts place a ∷ [])
+act_nests : (b : Bool) (a : Action) (place : Moment) → (is_quiet a || (b && is_case a)) ≡ true → Nests b (Acts place a ∷ [])
 act_nests b a place e =
     elim (or_cases (is_quiet a) (b && is_case a) e) [
       | inl q ↦ record { nested = Plain (one (Acts place a) q); same = refl }
@@ -89,7 +88,7 @@ nest_parts : (Of : ℕ → List Happening → Type 0) (b : Bool)
     → (symbols : List (Symbol Action)) (hs : List Happening) → Parts Of symbols hs → all_may b symbols ≡ true → Nests b hs
 nest_parts Of b below [] hs p m = record { nested = Plain (record { all = []; are = refl }); same = sym p }
 nest_parts Of b below (Token class ∷ symbols) hs p m =
-    then_nests b (Takes p.0 ∷ []) p.1 hs p.2 (record { nested = Plain (one (Takes p.0) refl); same = refl })
+    then_nests b (Takes p.0.0 p.0.1 ∷ []) p.1 hs p.2 (record { nested = Plain (one (Takes p.0.0 p.0.1) refl); same = refl })
     (nest_parts Of b below symbols p.1 p.3 m)
 nest_parts Of b below (Act a ∷ symbols) hs p m =
     let both = and_parts (is_quiet a || (b && is_case a)) (all_may b symbols) m in
@@ -104,7 +103,7 @@ body_of deep below hs o = below false (number statement) hs o statement_may
 
 -- The end: only the closing is left.
 record Closing (hs : List Happening) : Type 0 where
-  closes : Place
+  closes : Moment
   same : hs ≡ Acts closes action.Close ∷ []
 
 closing : (Of : ℕ → List Happening → Type 0) (hs : List Happening) → Parts Of (!close ∷ []) hs → Closing hs
@@ -114,7 +113,7 @@ closing Of hs p = record { closes = p.0; same = p.2 ∙ ap (λ l. Acts p.0 actio
 record BodyRead (deep : ℕ) (hs : List Happening) : Type 0 where
   body : List Happening
   of_body : OfRule deep (number statement) body
-  closes : Place
+  closes : Moment
   same : hs ≡ body ++ Acts closes action.Close ∷ []
 
 body_read : (deep : ℕ) (hs : List Happening) → Parts (OfRule deep) (statement ∷ !close ∷ []) hs → BodyRead deep hs
@@ -143,8 +142,8 @@ while_nests deep b hs below o =
 
 -- What stands behind the body of an `if`: its `else`, or the closing alone.
 data ElseRead (deep : ℕ) (hs : List Happening) : Type 0 where
-  Without : (closes : Place) → hs ≡ Acts closes action.Close ∷ [] → ElseRead deep hs
-  With : (joins : Place) (word : Quiet) (other : List Happening) (closes : Place) → OfRule deep (number statement) other
+  Without : (closes : Moment) → hs ≡ Acts closes action.Close ∷ [] → ElseRead deep hs
+  With : (joins : Moment) (word : Quiet) (other : List Happening) (closes : Moment) → OfRule deep (number statement) other
       → hs ≡ Acts joins action.Else ∷ (word.all ++ (other ++ Acts closes action.Close ∷ [])) → ElseRead deep hs
 
 else_by : (deep : ℕ) (hs : List Happening) → Parts (OfRule deep) else_parts hs → ElseRead (suc deep) hs
@@ -165,7 +164,7 @@ else_read (suc deep) hs o =
       | inr e ↦ lone_by deep hs (subst (λ xs. Parts (OfRule deep) xs hs) e o.2)
     ]
 
-if_by : (deep : ℕ) (b : Bool) (hs body rest : List Happening) (opens : Place) (test : Quiet) → Below deep
+if_by : (deep : ℕ) (b : Bool) (hs body rest : List Happening) (opens : Moment) (test : Quiet) → Below deep
     → hs ≡ Acts opens action.OpenIf ∷ (test.all ++ (body ++ rest)) → Nests false body → ElseRead deep rest
     → Compound b if_rest hs
 if_by deep b hs body rest opens test below e inner (Without closes same) = record {
@@ -429,7 +428,8 @@ for_is_nested hs is =
 
 pub objectloop_is_nested : Compounds objectloop_rest
 objectloop_is_nested hs is =
-    let d = read_deep (number objectloop_rest) hs is in at_row d.0 (number objectloop_rest) hs d.1 (λ n o. loop_nests n false hs (nest_rule n) o)
+    let d = read_deep (number objectloop_rest) hs is in at_row d.0 (number objectloop_rest) hs d.1
+    (λ n o. loop_nests n false hs (nest_rule n) o)
 
 pub switch_is_nested : Compounds switch_rest
 switch_is_nested hs is =

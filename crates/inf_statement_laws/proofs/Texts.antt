@@ -1,19 +1,19 @@
 -- Texts of the grammar as trees: each rule with the happenings of one of its rows, so many rules deep.
 use Rattle.std.proofs.Common.{◌≡◌, ℕ, zero, suc, List, [], ◌∷◌, ◌++◌, refl, sym, ◌∙◌, ap, subst, append_assoc, append-nil}
-use Rattle.inf_scanner.specs.declared.tokens.Place.{Place}
 use Rattle.inf_machine.specs.declared.symbols.Symbol.{Symbol}
 use Rattle.inf_machine.specs.declared.symbols.Symbol.TheVariants.{Token, Rule, Act}
 use Rattle.inf_machine.specs.Grammar.{Event, Took, Did, IsOneOf, Leads, Row, action, here, row, token}
 use Rattle.inf_syntax.specs.declared.actions.Action.{Action}
 use Rattle.inf_grammar.specs.Language.{grammar}
 use Rattle.inf_unit.specs.Tokens.{Spelled}
-use Rattle.inf_statement_laws.specs.Happenings.{Acts, AreOf, Happening, IsRead, Takes}
+use Rattle.inf_statement_laws.specs.Happenings.{Acts, AreOf, Between, Happening, IsRead, Moment, Takes}
 
 -- the happenings are those of some symbols, where it is told which are those of a rule
 abbrev pub Parts : (ℕ → List Happening → Type 0) → List (Symbol Action) → List Happening → Type 0
 Parts Of [] hs = hs ≡ []
-Parts Of (Token class ∷ symbols) hs = (t : Spelled) × (rest : List Happening) × (hs ≡ Takes t ∷ rest) × Parts Of symbols rest
-Parts Of (Act a ∷ symbols) hs = (place : Place) × (rest : List Happening) × (hs ≡ Acts place a ∷ rest) × Parts Of symbols rest
+Parts Of (Token class ∷ symbols) hs = (t : Spelled × Between) × (rest : List Happening) × (hs ≡ Takes t.0 t.1 ∷ rest) × Parts Of symbols
+    rest
+Parts Of (Act a ∷ symbols) hs = (at : Moment) × (rest : List Happening) × (hs ≡ Acts at a ∷ rest) × Parts Of symbols rest
 Parts Of (Rule rule ∷ symbols) hs = (front : List Happening) × (rest : List Happening) × (hs ≡ front ++ rest) × Of rule front × Parts Of
     symbols rest
 
@@ -35,10 +35,10 @@ split Of [] ys hs p = record { front = []; rest = hs; joined = refl; of_front = 
 split Of (Token class ∷ xs) ys hs p =
     let on = split Of xs ys p.1 p.3 in
     record {
-      front = Takes p.0 ∷ on.front;
+      front = Takes p.0.0 p.0.1 ∷ on.front;
       rest = on.rest;
       joined = p.2
-          ∙ ap (λ l. Takes p.0 ∷ l) on.joined;
+          ∙ ap (λ l. Takes p.0.0 p.0.1 ∷ l) on.joined;
       of_front = (p.0, on.front, refl, on.of_front);
       of_rest = on.of_rest;
     }
@@ -83,13 +83,13 @@ by_token : (class atom : ℕ) (symbols : List (Symbol Action)) (events : List (E
     → (hs : List Happening) → AreOf (Took atom ∷ events) hs → Deep (Token class ∷ symbols) hs
 by_token class atom symbols events on [] are = absurd are
 by_token class atom symbols events on (Acts place a ∷ hs) are = absurd are
-by_token class atom symbols events on (Takes t ∷ hs) are = let d = on hs are in (d.0, (t, hs, refl, d.1))
+by_token class atom symbols events on (Takes t m ∷ hs) are = let d = on hs are in (d.0, ((t, m), hs, refl, d.1))
 
 by_action : (a : Action) (symbols : List (Symbol Action)) (events : List (Event Action))
     → ((hs : List Happening) → AreOf events hs → Deep symbols hs)
     → (hs : List Happening) → AreOf (Did a ∷ events) hs → Deep (Act a ∷ symbols) hs
 by_action a symbols events on [] are = absurd are
-by_action a symbols events on (Takes t ∷ hs) are = absurd are
+by_action a symbols events on (Takes t m ∷ hs) are = absurd are
 by_action a symbols events on (Acts place b ∷ hs) are = let d = on hs are.1 in (d.0, (place, hs, ap (λ x. Acts place x ∷ hs) are.0, d.1))
 
 by_row : (rule : ℕ) (r : Row Action) (symbols : List (Symbol Action)) (hs : List Happening) → IsOneOf r (grammar.rows_of rule)
@@ -110,7 +110,7 @@ by_row rule r symbols hs m d =
 at_end : (hs : List Happening) → AreOf [] hs → Deep [] hs
 at_end [] are = (zero, refl)
 at_end (Acts place a ∷ hs) are = absurd are
-at_end (Takes t ∷ hs) are = absurd are
+at_end (Takes t m ∷ hs) are = absurd are
 
 deep : {symbols : List (Symbol Action)} {atoms : List ℕ} {events : List (Event Action)} {left : List (Symbol Action)}
     → Leads grammar symbols atoms events left → left ≡ [] → (hs : List Happening) → AreOf events hs → Deep symbols hs

@@ -1,4 +1,5 @@
 -- What happens to a compilation while a text of the grammar is read: actions act, each before a token at a place, and tokens are taken.
+-- Behind a token, before the next one comes, more may be done, which leaves the statements that are open.
 use Rattle.std.specs.Prelude.{◌≡◌, ℕ, ◌&&◌, Bool, true, false, List, [], ◌∷◌}
 use Rattle.inf_scanner.specs.declared.tokens.Place.{Place}
 use Rattle.inf_machine.specs.declared.symbols.Symbol.{Symbol}
@@ -7,18 +8,34 @@ use Rattle.inf_syntax.specs.declared.actions.Action.{Action}
 use Rattle.inf_syntax.specs.declared.actions.Action.TheVariants as action
 use Rattle.inf_syntax.specs.Parts.{directive_2, do_rest, for_rest, if_rest, objectloop_rest, switch_rest, value_3, while_rest}
 use Rattle.inf_grammar.specs.Language.{grammar}
+use Rattle.inf_output.specs.Output.{Out}
+use Rattle.inf_unit.specs.Directives.{Asked}
+use Rattle.inf_unit.specs.Messages.{Reported}
 use Rattle.inf_unit.specs.Tokens.{Spelled}
 
+-- What is done between two tokens: conditional directives may tell something and begin code, and what was told is written. What is open
+-- stays.
+pub record Between : Type 0 where
+  pub report : Out → Reported → Reported
+  pub output : Out → Out
+  pub most_labels : Out → ℕ → ℕ
+  pub asked : Asked → Asked
+
+-- where an action acts, and what is done behind it, before another token comes
+pub record Moment : Type 0 where
+  pub place : Place
+  pub behind : Between
+
 pub data Happening : Type 0 where
-  Acts : (place : Place) (action : Action) → Happening
-  Takes : (token : Spelled) → Happening
+  Acts : (at : Moment) (action : Action) → Happening
+  Takes : (token : Spelled) (behind : Between) → Happening
 
 -- They are those of some events of the grammar, in order: the same actions, at any places, and for each token that was taken one, whichever
--- it is.
+-- it is, and whatever is done behind it.
 abbrev pub AreOf : List (Event Action) → List Happening → Type 0
 AreOf [] [] = Unit {0}
-AreOf (Did a ∷ events) (Acts place b ∷ happenings) = (b ≡ a) × AreOf events happenings
-AreOf (Took atom ∷ events) (Takes t ∷ happenings) = AreOf events happenings
+AreOf (Did a ∷ events) (Acts at b ∷ happenings) = (b ≡ a) × AreOf events happenings
+AreOf (Took atom ∷ events) (Takes t m ∷ happenings) = AreOf events happenings
 AreOf _ _ = ⊥
 
 -- They are those of a text of a symbol.
@@ -69,8 +86,8 @@ is_quiet action.EndAlone = false
 is_quiet _ = true
 
 abbrev pub happens_quietly : Happening → Bool
-happens_quietly (Acts place a) = is_quiet a
-happens_quietly (Takes t) = true
+happens_quietly (Acts at a) = is_quiet a
+happens_quietly (Takes t m) = true
 
 abbrev pub happen_quietly : List Happening → Bool
 happen_quietly [] = true

@@ -14,18 +14,26 @@ use Rattle.inf_statements.specs.declared.constructs.Kind.TheVariants as kind
 use Rattle.inf_statements.specs.declared.constructs.Over.TheVariants as over
 use Rattle.inf_work.specs.Acting.{act}
 use Rattle.inf_work.specs.Actions.{Work, is_deep, nested, took}
-use Rattle.inf_statement_laws.specs.Happenings.{Acts, Happening, Takes}
+use Rattle.inf_statement_laws.specs.Happenings.{Acts, Between, Happening, Moment, Takes}
 use Rattle.inf_statement_laws.specs.Nested.{Case, Do, For, If, IfElse, Nested, Objectloop, Plain, Switch, Then, While, step_happenings}
 
 -- Happenings one by one
+
+abbrev pub passed : Between → Work → Work
+passed m w = record w {
+  report = m.report w.output w.report;
+  output = m.output w.output;
+  most_labels = m.most_labels w.output w.most_labels;
+  asked = m.asked w.asked;
+}
 
 -- The next token comes: the word of a statement waits no more to be told with a bad one behind it.
 abbrev pub next_comes : Work → Work
 next_comes w = record w { opening = None }
 
 abbrev pub happens : FileNames → Happening → Work → Work
-happens files (Acts place a) w = act files place a w
-happens files (Takes t) w = next_comes (took files t w)
+happens files (Acts at a) w = passed at.behind (act files at.place a w)
+happens files (Takes t m) w = next_comes (passed m (took files t w))
 
 abbrev pub run : FileNames → List Happening → Work → Work
 run files [] w = w
@@ -34,19 +42,19 @@ run files (h ∷ happenings) w = run files happenings (happens files h w)
 -- Statements that hold others
 
 -- with one as the innermost of what is open around it, and with the code so far
-abbrev pub holding : Construct × Out → List Construct → Work → Work
-holding c around w = record w { constructs = c.0 ∷ around; output = c.1 }
+abbrev pub holding : Moment → Construct × Out → List Construct → Work → Work
+holding at c around w = passed at.behind (record w { constructs = c.0 ∷ around; output = c.1 })
 
 -- One is opened where its word was read, where it is told if it stands too deep.
 abbrev pub told_deep : FileNames → Place → Work → Work
 told_deep files place w = record w { report = (nested files (last_place w.unit.tokens place) (is_deep w 1) w).report }
 
-abbrev pub opened_at : FileNames → Place → Construct × Out → Work → Work
-opened_at files place c w = holding c w.constructs (told_deep files place w)
+abbrev pub opened_at : FileNames → Moment → Construct × Out → Work → Work
+opened_at files at c w = holding at c w.constructs (told_deep files at.place w)
 
 -- One ends: its end is laid on what its parts leave.
-abbrev pub ended_as : Construct → List Construct → Work → Work
-ended_as c around w = record w { constructs = around; output = closed c w.output }
+abbrev pub ended_as : Moment → Construct → List Construct → Work → Work
+ended_as at c around w = passed at.behind (record w { constructs = around; output = closed c w.output })
 
 -- The unit of a loop over objects leaves it as one of another kind, and so does a case its `switch`. The unit of a step leaves it with
 -- that. Its labels are those that it had.
@@ -61,36 +69,36 @@ with_step_in (d ∷ constructs) c = record c { step = d.step }
 abbrev pub laid : {b : Bool} → FileNames → Nested b → Work → Work
 laid files (Plain plain) w = run files plain.all w
 laid files (Then first second) w = laid files second (laid files first w)
-laid files (Case values ends) w = act files ends action.EndCase (run files values.all w)
+laid files (Case values ends) w = happens files (Acts ends action.EndCase) (run files values.all w)
 laid files (If opens test body closes) w =
     let c = opened kind.If w.output in
-    ended_as c.0 w.constructs (laid files body (run files test.all (opened_at files opens c w)))
+    ended_as closes c.0 w.constructs (laid files body (run files test.all (opened_at files opens c w)))
 laid files (IfElse opens test body joins word other closes) w =
     let c = opened kind.If w.output in
     let first = laid files body (run files test.all (opened_at files opens c w)) in
     let joined = between c.0 first.output in
-    ended_as joined.0 w.constructs (laid files other (run files word.all (holding joined w.constructs first)))
+    ended_as closes joined.0 w.constructs (laid files other (run files word.all (holding joins joined w.constructs first)))
 laid files (While opens test body closes) w =
     let c = opened kind.While w.output in
-    ended_as c.0 w.constructs (laid files body (run files test.all (opened_at files opens c w)))
+    ended_as closes c.0 w.constructs (laid files body (run files test.all (opened_at files opens c w)))
 laid files (Do opens body word joins test closes) w =
     let c = opened kind.Do w.output in
     let first = run files word.all (laid files body (opened_at files opens c w)) in
     let joined = between c.0 first.output in
-    ended_as joined.0 w.constructs (run files test.all (holding joined w.constructs first))
+    ended_as closes joined.0 w.constructs (run files test.all (holding joins joined w.constructs first))
 laid files (For opens start joins test step bracket body closes) w =
     let c = opened kind.For w.output in
     let started = run files start.all (opened_at files opens c w) in
     let top = between c.0 started.output in
-    let stepped = run files (step_happenings step) (run files test.all (holding top w.constructs started)) in
+    let stepped = run files (step_happenings step) (run files test.all (holding joins top w.constructs started)) in
     let own = with_step_in stepped.constructs top.0 in
-    ended_as own w.constructs (laid files body (run files bracket.all (holding (own, stepped.output) w.constructs stepped)))
+    ended_as closes own w.constructs (laid files body (run files bracket.all (record stepped { constructs = own ∷ w.constructs })))
 laid files (Objectloop opens loop ends joins bracket body closes) w =
     let c = opened (kind.Objects over.Nothing 0) w.output in
-    let looped = act files ends action.EndObjectloop (run files loop.all (opened_at files opens c w)) in
+    let looped = happens files (Acts ends action.EndObjectloop) (run files loop.all (opened_at files opens c w)) in
     let joined = between (with_kind_in looped.constructs c.0) looped.output in
-    ended_as joined.0 w.constructs (laid files body (run files bracket.all (holding joined w.constructs looped)))
+    ended_as closes joined.0 w.constructs (laid files body (run files bracket.all (holding joins joined w.constructs looped)))
 laid files (Switch opens value cases brace closes) w =
     let c = opened (kind.Switch case.Nothing false) w.output in
     let inside = run files brace.all (laid files cases (run files value.all (opened_at files opens c w))) in
-    ended_as (with_kind_in inside.constructs c.0) w.constructs inside
+    ended_as closes (with_kind_in inside.constructs c.0) w.constructs inside

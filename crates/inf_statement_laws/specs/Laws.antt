@@ -1,5 +1,5 @@
 -- What joins the happenings of a whole statement: it leaves what is open around it as it was, and lays what its nesting says.
-use Rattle.std.specs.Prelude.{◌≡◌, ℕ, Bool, true, false, List, [], ◌∷◌, length, Some}
+use Rattle.std.specs.Prelude.{◌≡◌, ℕ, Bool, true, false, List, [], ◌∷◌, length, max, Some}
 use Rattle.inf_scanner.specs.declared.tokens.Place.{Place}
 use Rattle.inf_machine.specs.Grammar.{IsOneOf}
 use Rattle.inf_machine.specs.Machine.{events_of}
@@ -7,26 +7,44 @@ use Rattle.inf_machine.specs.declared.symbols.Symbol.{Symbol}
 use Rattle.inf_syntax.specs.declared.actions.Action.{Action}
 use Rattle.inf_syntax.specs.declared.actions.Action.TheVariants as action
 use Rattle.inf_syntax.specs.Parts.{statement}
-use Rattle.inf_unit.specs.Messages.{FileNames}
+use Rattle.inf_code.specs.Code.{labels}
+use Rattle.inf_output.specs.Output.{begun, full}
+use Rattle.inf_unit.specs.Messages.{FileNames, with_full}
 use Rattle.inf_unit.specs.Tokens.{Spelled}
 use Rattle.inf_statements.specs.Constructs.{depth}
-use Rattle.inf_work.specs.Acting.{all_acted}
+use Rattle.inf_statements.specs.declared.constructs.Construct.{Construct}
+use Rattle.inf_work.specs.Acting.{act, all_acted}
 use Rattle.inf_work.specs.Actions.{Work, begun_at, took}
 use Rattle.inf_work.specs.Parts.{closed_ahead}
-use Rattle.inf_statement_laws.specs.Happenings.{Acts, AreOf, Happening, IsRead, Takes, bodies, rests}
+use Rattle.inf_statement_laws.specs.Happenings.{Acts, AreOf, Between, Happening, IsRead, Moment, Takes, bodies, rests}
 use Rattle.inf_statement_laws.specs.Nested.{Nested, happenings, rest_of}
-use Rattle.inf_statement_laws.specs.Laid.{laid, next_comes, run}
+use Rattle.inf_statement_laws.specs.Laid.{laid, next_comes, passed, run, with_kind_in, with_step_in}
 
--- What a token that fits does is what its happenings do, one by one, from where it has come up to where the next one comes. They are those
--- of its events.
-abbrev pub token_happenings : Spelled → List Action → List Happening
-token_happenings t [] = Takes t ∷ []
-token_happenings t (a ∷ actions) = Acts t.place a ∷ token_happenings t actions
+-- What a token that fits does, and what is done behind it, is what its happenings do, one by one, from where it has come up to where the
+-- next one comes. They are those of its events.
+abbrev pub nothing_between : Between
+nothing_between = record { report = λ o r. r; output = λ o. o; most_labels = λ o n. n; asked = λ a. a }
+
+abbrev pub plainly_at : Place → Moment
+plainly_at place = record { place = place; behind = nothing_between }
+
+abbrev pub token_happenings : Spelled → Between → List Action → List Happening
+token_happenings t m [] = Takes t m ∷ []
+token_happenings t m (a ∷ actions) = Acts (plainly_at t.place) a ∷ token_happenings t m actions
+
+-- what a conditional directive does that ends at a place
+abbrev pub directive_between : FileNames → Place → Between
+directive_between files place = record nothing_between {
+  report = λ o r. with_full files place (full (begun o)) r;
+  output = begun;
+  most_labels = λ o n. max n (labels (begun o).code);
+}
 
 pub record TokensHappen : Type 0 where
-  pub runs : (files : FileNames) (t : Spelled) (actions : List Action) (w : Work)
-      → next_comes (took files t (all_acted files t.place actions w)) ≡ run files (token_happenings t actions) (next_comes w)
-  pub are : (t : Spelled) (actions : List Action) (atom : ℕ) → AreOf (events_of actions atom) (token_happenings t actions)
+  pub runs : (files : FileNames) (t : Spelled) (m : Between) (actions : List Action) (w : Work)
+      → next_comes (passed m (took files t (all_acted files t.place actions w))) ≡ run files (token_happenings t m actions) (next_comes w)
+  pub are : (t : Spelled) (m : Between) (actions : List Action) (atom : ℕ) → AreOf (events_of actions atom) (token_happenings t m actions)
+  pub directives : (files : FileNames) (place : Place) (w : Work) → begun_at files place w ≡ passed (directive_between files place) w
 
 -- The statements that are open are those that were open before, and none is closed ahead.
 pub record StaysOpen (w v : Work) : Type 0 where
@@ -66,12 +84,21 @@ pub record RoutinesAreLaidWhole : Type 0 where
 -- So many statements end one behind the other.
 abbrev pub endings : List Place → List Happening
 endings [] = []
-endings (place ∷ places) = Acts place action.Close ∷ endings places
+endings (place ∷ places) = Acts (plainly_at place) action.Close ∷ endings places
 
--- A conditional directive that ends at a place closes those ahead that end next, whatever the next token is. It is as if it ended behind
--- them.
-abbrev pub ClosingAheadIsClosing : Type 0
-ClosingAheadIsClosing =
-    (files : FileNames) (place : Place) (places : List Place) (w : Work) → w.closed ≡ 0
-    → run files (endings places) (begun_at files place (closed_ahead (length places) w))
-    ≡ begun_at files place (run files (endings places) w)
+-- A conditional directive closes those ahead that end next, whatever the next token is. What it does is done as if behind their ends, and a
+-- second one closes no more.
+pub record ClosingAheadIsClosing : Type 0 where
+  pub behind : (files : FileNames) (places : List Place) (m : Between) (w : Work) → w.closed ≡ 0
+      → run files (endings places) (passed m (closed_ahead (length places) w)) ≡ passed m (run files (endings places) w)
+  pub again : (count : ℕ) (m : Between) (w : Work) → w.closed ≡ 0
+      → closed_ahead count (passed m (closed_ahead count w)) ≡ passed m (closed_ahead count w)
+
+-- The unit of a loop over objects, of a step or of a case leaves the innermost with its labels, and all others as they are.
+pub record UnitsKeepLabels : Type 0 where
+  pub of_loops : (files : FileNames) (place : Place) (c : Construct) (around : List Construct) (w : Work) → w.constructs ≡ c ∷ around
+      → let v = act files place action.EndObjectloop w in v.constructs ≡ with_kind_in v.constructs c ∷ around
+  pub of_steps : (files : FileNames) (place : Place) (c : Construct) (around : List Construct) (w : Work) → w.constructs ≡ c ∷ around
+      → let v = act files place action.EndForStep w in v.constructs ≡ with_step_in v.constructs c ∷ around
+  pub of_cases : (files : FileNames) (place : Place) (c : Construct) (around : List Construct) (w : Work) → w.constructs ≡ c ∷ around
+      → let v = act files place action.EndCase w in v.constructs ≡ with_kind_in v.constructs c ∷ around

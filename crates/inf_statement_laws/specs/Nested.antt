@@ -1,37 +1,36 @@
 -- Statements as they are nested, each with the happenings of its parts in order. Designer's Manual, fourth edition, sections 1.7 to 1.9.
 use Rattle.std.specs.Prelude.{Bool, true, false, List, [], ◌∷◌, ◌++◌, Option, Some, None}
-use Rattle.inf_scanner.specs.declared.tokens.Place.{Place}
 use Rattle.inf_machine.specs.declared.symbols.Symbol.{Symbol}
 use Rattle.inf_syntax.specs.declared.actions.Action.{Action}
 use Rattle.inf_syntax.specs.declared.actions.Action.TheVariants as action
 use Rattle.inf_syntax.specs.Parts.{do_rest, for_rest, if_rest, objectloop_rest, switch_rest, while_rest}
-use Rattle.inf_statement_laws.specs.Happenings.{Happening, Acts, Quiet}
+use Rattle.inf_statement_laws.specs.Happenings.{Acts, Happening, Moment, Quiet}
 
 -- the step of a `for`, which may lack
 pub data Step : Type 0 where
   NoStep : Step
-  StepEnds : (step : Quiet) (ends : Place) → Step
+  StepEnds : (step : Quiet) (ends : Moment) → Step
 
 abbrev pub step_happenings : Step → List Happening
 step_happenings NoStep = []
 step_happenings (StepEnds step ends) = step.all ++ Acts ends action.EndForStep ∷ []
 
 -- Statements one behind the other, or what stands in one; in a `switch`, and at the top of a routine, cases may be among them. What holds
--- others begins where its word was read, and has its own actions, each before a token at a place, between its parts.
+-- others begins where its word was read, and has its own actions, each at its moment, between its parts.
 pub data Nested : (has_cases : Bool) → Type 0 where
   Plain : {b : Bool} (plain : Quiet) → Nested b
   Then : {b : Bool} (first second : Nested b) → Nested b
-  Case : (values : Quiet) (ends : Place) → Nested true
-  If : {b : Bool} (opens : Place) (test : Quiet) (body : Nested false) (closes : Place) → Nested b
-  IfElse : {b : Bool} (opens : Place) (test : Quiet) (body : Nested false) (joins : Place) (word : Quiet) (other : Nested false)
-      (closes : Place) → Nested b
-  While : {b : Bool} (opens : Place) (test : Quiet) (body : Nested false) (closes : Place) → Nested b
-  Do : {b : Bool} (opens : Place) (body : Nested false) (word : Quiet) (joins : Place) (test : Quiet) (closes : Place) → Nested b
-  For : {b : Bool} (opens : Place) (start : Quiet) (joins : Place) (test : Quiet) (step : Step) (bracket : Quiet) (body : Nested false)
-      (closes : Place) → Nested b
-  Objectloop : {b : Bool} (opens : Place) (loop : Quiet) (ends joins : Place) (bracket : Quiet) (body : Nested false) (closes : Place)
+  Case : (values : Quiet) (ends : Moment) → Nested true
+  If : {b : Bool} (opens : Moment) (test : Quiet) (body : Nested false) (closes : Moment) → Nested b
+  IfElse : {b : Bool} (opens : Moment) (test : Quiet) (body : Nested false) (joins : Moment) (word : Quiet) (other : Nested false)
+      (closes : Moment) → Nested b
+  While : {b : Bool} (opens : Moment) (test : Quiet) (body : Nested false) (closes : Moment) → Nested b
+  Do : {b : Bool} (opens : Moment) (body : Nested false) (word : Quiet) (joins : Moment) (test : Quiet) (closes : Moment) → Nested b
+  For : {b : Bool} (opens : Moment) (start : Quiet) (joins : Moment) (test : Quiet) (step : Step) (bracket : Quiet) (body : Nested false)
+      (closes : Moment) → Nested b
+  Objectloop : {b : Bool} (opens : Moment) (loop : Quiet) (ends joins : Moment) (bracket : Quiet) (body : Nested false) (closes : Moment)
       → Nested b
-  Switch : {b : Bool} (opens : Place) (value : Quiet) (cases : Nested true) (brace : Quiet) (closes : Place) → Nested b
+  Switch : {b : Bool} (opens : Moment) (value : Quiet) (cases : Nested true) (brace : Quiet) (closes : Moment) → Nested b
 
 -- what happens while it is read
 abbrev pub happenings : {b : Bool} → Nested b → List Happening

@@ -1,7 +1,8 @@
 //! What the definitions give together of whole statements.
-ghost use Rattle.inf_statement_laws.specs.Laws.{ClosingAheadIsClosing, RoutinesAreLaidWhole, StatementsAreLaidWhole, StatementsLeaveWhatIsOpen, TokensHappen};
+ghost use Rattle.inf_statement_laws.specs.Laws.{ClosingAheadIsClosing, RoutinesAreLaidWhole, StatementsAreLaidWhole, StatementsLeaveWhatIsOpen, TokensHappen, UnitsKeepLabels};
 
-/// What a token does that fits, by its actions and its taking, is what its happenings do, one by one, and these are those of its events.
+/// What a token does that fits, by its actions and its taking, with what is done behind it before the next one comes, is what its
+/// happenings do, one by one, and these are those of its events.
 pub fn tokens_happen()
     ensures { TokensHappen }
 {}
@@ -26,7 +27,14 @@ pub fn routines_are_laid_whole()
     ensures { RoutinesAreLaidWhole }
 {}
 
-/// A conditional directive that ends where statements end, whatever the next token is, does what it would do behind their ends.
+/// What a loop over objects goes over, the step of a `for` and a case leave the innermost statement with its labels, and those around it as
+/// they are.
+pub fn units_keep_labels()
+    ensures { UnitsKeepLabels }
+{}
+
+/// A conditional directive that ends where statements end, whatever the next token is, does what it would do behind their ends, and a second
+/// one there closes no more.
 pub fn closing_ahead_is_closing()
     ensures { ClosingAheadIsClosing }
 {}
