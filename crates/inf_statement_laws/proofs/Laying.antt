@@ -5,12 +5,10 @@ use Rattle.std.specs.Prelude.{length, max, nat_lt}
 use Rattle.inf_scanner.specs.declared.tokens.Place.{Place}
 use Rattle.inf_machine.specs.declared.symbols.Symbol.{Symbol}
 use Rattle.inf_machine.specs.Grammar.{IsOneOf, first, later}
-use Rattle.inf_machine.specs.Machine.{events_of}
 use Rattle.inf_syntax.specs.declared.actions.Action.{Action}
 use Rattle.inf_syntax.specs.declared.actions.Action.TheVariants as action
 use Rattle.inf_output.specs.Output.{Out}
 use Rattle.inf_unit.specs.Messages.{FileNames}
-use Rattle.inf_unit.specs.Tokens.{Spelled}
 use Rattle.inf_unit.specs.Units.{last_place}
 use Rattle.inf_unit.proofs.Cases.{of_both}
 use Rattle.inf_statements.specs.Constructs.{all_ended, are_cases, begun, between, changed, depth, depth_by, ended, opened, outermost}
@@ -19,19 +17,19 @@ use Rattle.inf_statements.specs.declared.constructs.Construct.{Construct}
 use Rattle.inf_statements.specs.declared.constructs.Kind.{Kind}
 use Rattle.inf_statements.specs.declared.constructs.Kind.TheVariants as kind
 use Rattle.inf_statements.specs.declared.constructs.Over.TheVariants as over
-use Rattle.inf_work.specs.Acting.{act, acted}
-use Rattle.inf_work.specs.Actions.{Work, is_deep, nested, took}
+use Rattle.inf_work.specs.Acting.{act}
+use Rattle.inf_work.specs.Actions.{Work, is_deep, nested}
 use Rattle.inf_work.specs.Parts.{closed_ahead, construct_closed, construct_ended, construct_joined, construct_opened, constructs_laid}
-use Rattle.inf_statement_laws.specs.Happenings.{Acts, AreOf, Between, Happening, IsRead, Moment, Quiet, bodies, rests}
+use Rattle.inf_statement_laws.specs.Happenings.{Acts, Between, Happening, IsRead, Moment, Quiet, bodies, rests}
 use Rattle.inf_statement_laws.specs.Nested.{Case, Do, For, If, IfElse, Nested, NoStep, Objectloop, Plain, Step, StepEnds, Switch, Then, While, happenings, step_happenings}
-use Rattle.inf_statement_laws.specs.Laid.{ended_as, happens, holding, laid, next_comes, opened_at, passed, run, with_kind_in, with_step_in}
-use Rattle.inf_statement_laws.specs.Laws.{ClosingAheadIsClosing, EndsOpen, IsWhole, LeavesOpen, RoutinesAreLaidWhole, StatementsAreLaidWhole, StatementsLeaveWhatIsOpen, TokensHappen, UnitsKeepLabels, endings, token_happenings}
+use Rattle.inf_statement_laws.specs.Laid.{ended_as, happens, holding, laid, opened_at, passed, run, with_kind_in, with_step_in}
+use Rattle.inf_statement_laws.specs.Laws.{ClosingAheadIsClosing, EndsOpen, IsWhole, LeavesOpen, RoutinesAreLaidWhole, StatementsAreLaidWhole, StatementsLeaveWhatIsOpen, UnitsKeepLabels, endings}
 use Rattle.inf_statement_laws.proofs.Acts.{KindIn, StepIn, case_alone, case_ends, case_none_ahead, loop_ends, own_alone, quiet_run, step_ends}
 use Rattle.inf_statement_laws.proofs.Nesting.{Compound, body_is_nested, do_is_nested, embedded_is_nested, for_is_nested, if_is_nested, objectloop_is_nested, statement_is_nested, switch_is_nested, while_is_nested}
 
 -- Happenings behind others
 
-run_then : (files : FileNames) (xs ys : List Happening) (w : Work) → run files (xs ++ ys) w ≡ run files ys (run files xs w)
+pub run_then : (files : FileNames) (xs ys : List Happening) (w : Work) → run files (xs ++ ys) w ≡ run files ys (run files xs w)
 run_then files [] ys w = refl
 run_then files (x ∷ xs) ys w = run_then files xs ys (happens files x w)
 
@@ -73,7 +71,7 @@ closing_is closes c around w at =
     ap (passed closes.behind) (closing_open w at.none_ahead ∙ ap (λ l. constructs_laid (ended l) w) at.is)
 
 -- What is open behind something: the same, and in a `switch` its innermost may be of another kind.
-abbrev Holds : Bool → List Construct → List Construct → Type 0
+abbrev pub Holds : Bool → List Construct → List Construct → Type 0
 Holds false before after = after ≡ before
 Holds true before after = (c : Construct) (around : List Construct) → before ≡ c ∷ around → KindIn c around after
 
@@ -85,12 +83,12 @@ holds_then : (b : Bool) (x y z : List Construct) → Holds b x y → Holds b y z
 holds_then false x y z f g = g ∙ f
 holds_then true x y z f g = λ c around is. let k = f c around is in let l = g (record c { kind = k.0 }) around k.1 in (l.0, l.1)
 
-record IsLaid {b : Bool} (files : FileNames) (n : Nested b) (w : Work) : Type 0 where
-  runs : run files (happenings n) w ≡ laid files n w
-  holds : Holds b w.constructs (laid files n w).constructs
-  none_ahead : (laid files n w).closed ≡ 0
+pub record IsLaid {b : Bool} (files : FileNames) (n : Nested b) (w : Work) : Type 0 where
+  pub runs : run files (happenings n) w ≡ laid files n w
+  pub holds : Holds b w.constructs (laid files n w).constructs
+  pub none_ahead : (laid files n w).closed ≡ 0
 
-abbrev Inner : {b : Bool} → FileNames → Nested b → Type 0
+abbrev pub Inner : {b : Bool} → FileNames → Nested b → Type 0
 Inner files n = (w : Work) → w.closed ≡ 0 → IsLaid files n w
 
 at_body : (files : FileNames) (body : Nested false) → Inner files body → (c : Construct) (around : List Construct) (w : Work)
@@ -343,7 +341,7 @@ switch_is files opens value cases brace closes w e inner =
 
 -- Each nested statement
 
-laid_as : {b : Bool} (files : FileNames) (n : Nested b) → Inner files n
+pub laid_as : {b : Bool} (files : FileNames) (n : Nested b) → Inner files n
 laid_as files (Plain {b} plain) w e =
     let same = quiet_run files plain.all w plain.are in
     record { runs = refl; holds = holds_same b w.constructs (run files plain.all w).constructs same.0; none_ahead = same.1 ∙ e }
@@ -420,7 +418,7 @@ statements_are_laid_whole = record {
 
 -- Routines
 
-alone_behind : {b : Bool} (files : FileNames) (n : Nested b) (w : Work) → w.closed ≡ 0 → own_alone w.constructs ≡ true
+pub alone_behind : {b : Bool} (files : FileNames) (n : Nested b) (w : Work) → w.closed ≡ 0 → own_alone w.constructs ≡ true
     → own_alone (laid files n w).constructs ≡ true
 alone_behind files (Plain plain) w e h = ap own_alone (quiet_run files plain.all w plain.are).0 ∙ h
 alone_behind files (Then before behind) w e h =
@@ -450,7 +448,7 @@ alone_of [] e = refl
 alone_of (c ∷ []) e = one_by (are_cases c.kind) e
 alone_of (c ∷ d ∷ constructs) e = absurd (more_by (outermost (c ∷ d ∷ constructs)) (length constructs) e)
 
-depth_of : (constructs : List Construct) → own_alone constructs ≡ true → depth constructs ≡ 0
+pub depth_of : (constructs : List Construct) → own_alone constructs ≡ true → depth constructs ≡ 0
 depth_of [] h = refl
 depth_of (c ∷ []) h = ap (λ b. if b then 1 - 1 else 1) h
 depth_of (c ∷ d ∷ constructs) h = cc
@@ -473,25 +471,6 @@ pub routines_are_laid_whole : RoutinesAreLaidWhole
 routines_are_laid_whole = record {
   whole = λ files body hs m is. let n = body_nested body hs m is in (n.0, whole_of files n.0 hs n.1);
   ends = λ files body hs m is. let n = body_nested body hs m is in ends_open files n.0 hs n.1;
-}
-
--- Tokens
-
-actions_happen : (files : FileNames) (t : Spelled) (m : Between) (actions : List Action) (w : Work)
-    → next_comes (passed m (took files t (acted files t.place actions w))) ≡ run files (token_happenings t m actions) w
-actions_happen files t m [] w = refl
-actions_happen files t m (a ∷ actions) w = actions_happen files t m actions (act files t.place a w)
-
-happen_as_events : (t : Spelled) (m : Between) (actions : List Action) (atom : ℕ)
-    → AreOf (events_of actions atom) (token_happenings t m actions)
-happen_as_events t m [] atom = tt
-happen_as_events t m (a ∷ actions) atom = (refl, happen_as_events t m actions atom)
-
-pub tokens_happen : TokensHappen
-tokens_happen = record {
-  runs = λ files t m actions w. actions_happen files t m actions (next_comes w);
-  are = happen_as_events;
-  directives = λ files place w. refl;
 }
 
 -- Closing ahead

@@ -3,3 +3,4 @@ pub mod Rules
 pub mod Nesting
 pub mod Acts
 pub mod Laying
+pub mod Reading

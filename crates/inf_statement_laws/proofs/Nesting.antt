@@ -21,7 +21,7 @@ quietly_joined (x ∷ xs) ys h k =
     let both = and_parts (happens_quietly x) (happen_quietly xs) h in
     and_from (happens_quietly x) (happen_quietly (xs ++ ys)) both.0 (quietly_joined xs ys both.1 k)
 
-quiet_parts : (Of : ℕ → List Happening → Type 0)
+pub quiet_parts : (Of : ℕ → List Happening → Type 0)
     → ((rule : ℕ) (hs : List Happening) → Of rule hs → is_quiet_rule rule ≡ true → happen_quietly hs ≡ true)
     → (symbols : List (Symbol Action)) (hs : List Happening) → Parts Of symbols hs → all_quiet symbols ≡ true → happen_quietly hs ≡ true
 quiet_parts Of below [] hs p q = ap happen_quietly p
@@ -33,11 +33,11 @@ quiet_parts Of below (Rule rule ∷ symbols) hs p q =
     let both = and_parts (is_quiet_rule rule) (all_quiet symbols) q in
     ap happen_quietly p.2 ∙ quietly_joined p.0 p.1 (below rule p.0 p.3 both.0) (quiet_parts Of below symbols p.1 p.4 both.1)
 
-quiet_rule : (deep rule : ℕ) (hs : List Happening) → OfRule deep rule hs → is_quiet_rule rule ≡ true → happen_quietly hs ≡ true
+pub quiet_rule : (deep rule : ℕ) (hs : List Happening) → OfRule deep rule hs → is_quiet_rule rule ≡ true → happen_quietly hs ≡ true
 quiet_rule zero rule hs o q = absurd o
 quiet_rule (suc deep) rule hs o q = quiet_parts (OfRule deep) (quiet_rule deep) o.0.parts hs o.2 (quiet_row rule q o.0 o.1)
 
-abbrev quiet_of : (deep : ℕ) (symbols : List (Symbol Action)) (hs : List Happening) → Parts (OfRule deep) symbols hs
+abbrev pub quiet_of : (deep : ℕ) (symbols : List (Symbol Action)) (hs : List Happening) → Parts (OfRule deep) symbols hs
     → all_quiet symbols ≡ true → Quiet
 quiet_of deep symbols hs p q = record { all = hs; are = quiet_parts (OfRule deep) (quiet_rule deep) symbols hs p q }
 
@@ -391,6 +391,9 @@ pub statement_is_nested : (hs : List Happening) → IsRead statement hs → (s :
 statement_is_nested hs is =
     let d = read_deep (number statement) hs is in
     let n = nest_rule d.0 false (number statement) hs d.1 statement_may in (n.nested, n.same)
+
+pub body_in : (deep : ℕ) (hs : List Happening) → OfRule deep (number directive_2) hs → (s : Nested true) × (happenings s ≡ hs)
+body_in deep hs o = let n = nest_rule deep true (number directive_2) hs o body_may in (n.nested, n.same)
 
 pub body_is_nested : (hs : List Happening) → IsRead directive_2 hs → (s : Nested true) × (happenings s ≡ hs)
 body_is_nested hs is =

@@ -10,7 +10,11 @@ use Rattle.inf_syntax.specs.declared.actions.Action.TheVariants as action
 use Rattle.inf_syntax.specs.Rows.{row, row_unless}
 use Rattle.inf_syntax.specs.Parts.{ !begin, !close, !else, !end_for_step, !end_if, !end_objectloop, !end_switch, !end_until, !end_while, !for_top, !loop, !open_do, !open_for, !open_if, !open_objectloop, !open_switch, !open_while, !outer, !until, 'close_brace', 'close_parenthesis', 'colon', 'else', 'open_brace', 'open_parenthesis', 'semicolon', 'until', directive_2, do_rest, else_part, expression, for_rest, for_rest_1, for_rest_2, for_rest_3, if_rest, mark_statement, mark_statement_1, objectloop_rest, statement, statement_3, switch_rest, switch_rest_1, top_item, value_3, while_rest}
 use Rattle.inf_grammar.specs.Evaluated.{rows_past}
-use Rattle.inf_grammar.specs.Language.{grammar}
+use Rattle.inf_machine.specs.Machine.{fits, taken}
+use Rattle.inf_scanner.specs.declared.tokens.Mark.TheVariants as mark
+use Rattle.inf_syntax.specs.Atoms.{mark_atom}
+use Rattle.inf_syntax.specs.Parts.{ !end_locals, !end_routine, !routine, 'close_bracket', 'open_bracket', NAME, directive, directive_1, piece}
+use Rattle.inf_grammar.specs.Language.{grammar, known}
 use Rattle.inf_statement_laws.specs.Happenings.{is_quiet}
 
 -- the number of a rule
@@ -299,3 +303,36 @@ quiet_loop_unit = refl
 pub quiet_switch_value : all_quiet switch_value ≡ true
 unfolding is_quiet_rule
 quiet_switch_value = refl
+
+-- A routine
+
+abbrev pub header_parts : List (Symbol Action)
+header_parts = !routine ∷ 'open_bracket' ∷ NAME ∷ directive_1 ∷ []
+
+abbrev pub semicolon_parts : List (Symbol Action)
+semicolon_parts = 'semicolon' ∷ []
+
+abbrev pub last_parts : List (Symbol Action)
+last_parts = 'close_bracket' ∷ 'semicolon' ∷ []
+
+abbrev pub routine_parts : List (Symbol Action)
+routine_parts = header_parts ++ !end_locals ∷ (semicolon_parts ++ directive_2 ∷ !end_routine ∷ last_parts)
+
+pub quiet_header : all_quiet header_parts ≡ true
+unfolding is_quiet_rule
+quiet_header = refl
+
+-- a bracket begins one, of all pieces and directives
+pub piece_begins : taken grammar known (mark_atom mark.OpenBracket) (piece ∷ []) ≡ taken grammar known (mark_atom mark.OpenBracket)
+    (directive ∷ [])
+unfolding grammar known
+piece_begins = refl
+
+pub routine_begins : taken grammar known (mark_atom mark.OpenBracket) (directive ∷ []) ≡ taken grammar known (mark_atom mark.OpenBracket)
+    routine_parts
+unfolding grammar known
+routine_begins = refl
+
+pub routine_fits : fits grammar known (mark_atom mark.OpenBracket) routine_parts ≡ true
+unfolding grammar known
+routine_fits = refl

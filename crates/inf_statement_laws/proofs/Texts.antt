@@ -75,7 +75,7 @@ raised zero rule hs o = absurd o
 raised (suc deep) rule hs o = (o.0, o.1, raised_parts (OfRule deep) (OfRule (suc deep)) (raised deep) o.0.parts hs o.2)
 
 -- what leads to the end
-abbrev Deep : List (Symbol Action) → List Happening → Type 0
+abbrev pub Deep : List (Symbol Action) → List Happening → Type 0
 Deep symbols hs = (deep : ℕ) × Parts (OfRule deep) symbols hs
 
 by_token : (class atom : ℕ) (symbols : List (Symbol Action)) (events : List (Event Action))
@@ -112,7 +112,7 @@ at_end [] are = (zero, refl)
 at_end (Acts place a ∷ hs) are = absurd are
 at_end (Takes t m ∷ hs) are = absurd are
 
-deep : {symbols : List (Symbol Action)} {atoms : List ℕ} {events : List (Event Action)} {left : List (Symbol Action)}
+pub deep : {symbols : List (Symbol Action)} {atoms : List ℕ} {events : List (Event Action)} {left : List (Symbol Action)}
     → Leads grammar symbols atoms events left → left ≡ [] → (hs : List Happening) → AreOf events hs → Deep symbols hs
 deep (here {symbols = []}) e hs are = at_end hs are
 deep (here {symbols = s ∷ symbols}) e hs are = cc

@@ -1,49 +1,38 @@
 -- What joins the happenings of a whole statement: it leaves what is open around it as it was, and lays what its nesting says.
-use Rattle.std.specs.Prelude.{◌≡◌, ℕ, Bool, true, false, List, [], ◌∷◌, length, max, Some}
+use Rattle.std.specs.Prelude.{◌≡◌, ℕ, Bool, true, false, List, [], ◌∷◌, length, Some}
 use Rattle.inf_scanner.specs.declared.tokens.Place.{Place}
 use Rattle.inf_machine.specs.Grammar.{IsOneOf}
-use Rattle.inf_machine.specs.Machine.{events_of}
+use Rattle.inf_machine.specs.Machine.{events_of, taken}
 use Rattle.inf_machine.specs.declared.symbols.Symbol.{Symbol}
 use Rattle.inf_syntax.specs.declared.actions.Action.{Action}
 use Rattle.inf_syntax.specs.declared.actions.Action.TheVariants as action
-use Rattle.inf_syntax.specs.Parts.{statement}
-use Rattle.inf_code.specs.Code.{labels}
-use Rattle.inf_output.specs.Output.{begun, full}
-use Rattle.inf_unit.specs.Messages.{FileNames, with_full}
+use Rattle.inf_scanner.specs.declared.tokens.Mark.TheVariants as mark
+use Rattle.inf_syntax.specs.Atoms.{mark_atom}
+use Rattle.inf_syntax.specs.Parts.{directive, piece, statement}
+use Rattle.inf_grammar.specs.Language.{grammar, known}
+use Rattle.inf_unit.specs.Messages.{FileNames}
 use Rattle.inf_unit.specs.Tokens.{Spelled}
 use Rattle.inf_statements.specs.Constructs.{depth}
 use Rattle.inf_statements.specs.declared.constructs.Construct.{Construct}
 use Rattle.inf_work.specs.Acting.{act, all_acted}
 use Rattle.inf_work.specs.Actions.{Work, begun_at, took}
 use Rattle.inf_work.specs.Parts.{closed_ahead}
-use Rattle.inf_statement_laws.specs.Happenings.{Acts, AreOf, Between, Happening, IsRead, Moment, Takes, bodies, rests}
+use Rattle.inf_statement_laws.specs.Happenings.{Acts, AreOf, Between, Happening, IsRead, bodies, rests}
 use Rattle.inf_statement_laws.specs.Nested.{Nested, happenings, rest_of}
 use Rattle.inf_statement_laws.specs.Laid.{laid, next_comes, passed, run, with_kind_in, with_step_in}
+use Rattle.inf_statement_laws.specs.Readings.{Routine, Seen, all_fit, all_happenings, all_taken, body_laid, directive_between, left_behind, plainly_at, routine_happenings, routine_laid, token_happenings}
 
 -- What a token that fits does, and what is done behind it, is what its happenings do, one by one, from where it has come up to where the
--- next one comes. They are those of its events.
-abbrev pub nothing_between : Between
-nothing_between = record { report = λ o r. r; output = λ o. o; most_labels = λ o n. n; asked = λ a. a }
-
-abbrev pub plainly_at : Place → Moment
-plainly_at place = record { place = place; behind = nothing_between }
-
-abbrev pub token_happenings : Spelled → Between → List Action → List Happening
-token_happenings t m [] = Takes t m ∷ []
-token_happenings t m (a ∷ actions) = Acts (plainly_at t.place) a ∷ token_happenings t m actions
-
--- what a conditional directive does that ends at a place
-abbrev pub directive_between : FileNames → Place → Between
-directive_between files place = record nothing_between {
-  report = λ o r. with_full files place (full (begun o)) r;
-  output = begun;
-  most_labels = λ o n. max n (labels (begun o).code);
-}
-
+-- next one comes. They are those of its events. So it is with tokens that the machine takes one after the other; where nothing is left behind
+-- them, they are a text.
 pub record TokensHappen : Type 0 where
   pub runs : (files : FileNames) (t : Spelled) (m : Between) (actions : List Action) (w : Work)
       → next_comes (passed m (took files t (all_acted files t.place actions w))) ≡ run files (token_happenings t m actions) (next_comes w)
   pub are : (t : Spelled) (m : Between) (actions : List Action) (atom : ℕ) → AreOf (events_of actions atom) (token_happenings t m actions)
+  pub all_run : (files : FileNames) (seen : List Seen) (symbols : List (Symbol Action)) (w : Work)
+      → next_comes (all_taken files seen symbols w) ≡ run files (all_happenings seen symbols) (next_comes w)
+  pub all_are : (seen : List Seen) (symbol : Symbol Action) → all_fit seen (symbol ∷ []) ≡ true → left_behind seen (symbol ∷ []) ≡ []
+      → IsRead symbol (all_happenings seen (symbol ∷ []))
   pub directives : (files : FileNames) (place : Place) (w : Work) → begun_at files place w ≡ passed (directive_between files place) w
 
 -- The statements that are open are those that were open before, and none is closed ahead.
@@ -80,6 +69,18 @@ pub record RoutinesAreLaidWhole : Type 0 where
   pub whole : (files : FileNames) (body : Symbol Action) (hs : List Happening) → IsOneOf body bodies → IsRead body hs
       → (s : Nested true) × IsWhole files s hs
   pub ends : (files : FileNames) (body : Symbol Action) (hs : List Happening) → IsOneOf body bodies → IsRead body hs → EndsOpen files hs
+
+-- So a routine is read as a whole, from its bracket on, by tokens that fit up to where nothing is left: its header, what stands in it, and
+-- its end, at which no statement is open.
+pub record RoutinesAreReadWhole : Type 0 where
+  pub are : (bracket : Seen) (seen : List Seen) → bracket.atom ≡ mark_atom mark.OpenBracket
+      → all_fit (bracket ∷ seen) (directive ∷ []) ≡ true
+      → left_behind (bracket ∷ seen) (directive ∷ []) ≡ []
+      → (r : Routine) × (routine_happenings r ≡ all_happenings (bracket ∷ seen) (directive ∷ []))
+  pub begin : taken grammar known (mark_atom mark.OpenBracket) (piece ∷ [])
+      ≡ taken grammar known (mark_atom mark.OpenBracket) (directive ∷ [])
+  pub lay : (files : FileNames) (r : Routine) (w : Work) → w.closed ≡ 0 → run files (routine_happenings r) w ≡ routine_laid files r w
+  pub end : (files : FileNames) (r : Routine) (w : Work) → w.closed ≡ 0 → w.constructs ≡ [] → depth (body_laid files r w).constructs ≡ 0
 
 -- So many statements end one behind the other.
 abbrev pub endings : List Place → List Happening

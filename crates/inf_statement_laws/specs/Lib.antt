@@ -1,4 +1,5 @@
 pub mod Happenings
 pub mod Nested
 pub mod Laid
+pub mod Readings
 pub mod Laws

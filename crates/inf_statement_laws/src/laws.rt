@@ -1,5 +1,5 @@
 //! What the definitions give together of whole statements.
-ghost use Rattle.inf_statement_laws.specs.Laws.{ClosingAheadIsClosing, RoutinesAreLaidWhole, StatementsAreLaidWhole, StatementsLeaveWhatIsOpen, TokensHappen, UnitsKeepLabels};
+ghost use Rattle.inf_statement_laws.specs.Laws.{ClosingAheadIsClosing, RoutinesAreLaidWhole, RoutinesAreReadWhole, StatementsAreLaidWhole, StatementsLeaveWhatIsOpen, TokensHappen, UnitsKeepLabels};
 
 /// What a token does that fits, by its actions and its taking, with what is done behind it before the next one comes, is what its
 /// happenings do, one by one, and these are those of its events.
@@ -27,14 +27,20 @@ pub fn routines_are_laid_whole()
     ensures { RoutinesAreLaidWhole }
 {}
 
+/// A routine is read as a whole, from its bracket on: by tokens that fit up to where nothing is left. They are its header, what stands in
+/// it, and its end, where no statement is open.
+pub fn routines_are_read_whole()
+    ensures { RoutinesAreReadWhole }
+{}
+
 /// What a loop over objects goes over, the step of a `for` and a case leave the innermost statement with its labels, and those around it as
 /// they are.
 pub fn units_keep_labels()
     ensures { UnitsKeepLabels }
 {}
 
-/// A conditional directive that ends where statements end, whatever the next token is, does what it would do behind their ends, and a second
-/// one there closes no more.
+/// A conditional directive that ends where statements end, whatever the next token is, does what it would do behind their ends, and a
+/// second one there closes no more.
 pub fn closing_ahead_is_closing()
     ensures { ClosingAheadIsClosing }
 {}

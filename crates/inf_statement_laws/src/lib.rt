@@ -5,6 +5,6 @@
 mod laws;
 
 pub use laws::{
-    closing_ahead_is_closing, routines_are_laid_whole, statements_are_laid_whole,
-    statements_leave_what_is_open, tokens_happen, units_keep_labels,
+    closing_ahead_is_closing, routines_are_laid_whole, routines_are_read_whole,
+    statements_are_laid_whole, statements_leave_what_is_open, tokens_happen, units_keep_labels,
 };

@@ -1,4 +1,4 @@
-use Rattle.inf_statement_laws.proofs.Laying.{tokens_happen}
+use Rattle.inf_statement_laws.proofs.Reading.{tokens_happen}
 use Rattle.inf_statement_laws.proofs.laws.tokens_happen.Goals as goal
 
 pub returns : goal.returns
