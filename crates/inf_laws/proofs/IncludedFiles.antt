@@ -22,14 +22,14 @@ use Rattle.inf_reader.specs.Handing.{said_told, site_of}
 use Rattle.inf_reader.specs.Reading.{is_mode_ended}
 use Rattle.inf_session.specs.Choices.{Choices}
 use Rattle.inf_session.specs.Session.{State, answered, asked_nothing, heeded, included_by, left, left_by, file_closed, none_included, stand_of, stepped, token_of, turn}
-use Rattle.inf_laws.specs.IncludedFiles.{Alone, AreFiles, AreOfAFile, Breaking, Cut, Enters, Files, FilesKeepSides, FilesTellUnended, Including, IsIncluded, KeepsFiles, Leaves, Passage, Stays, Step, TurnsKeep, TurnsKeepFiles, all_unended, around_behind, around_broken, around_included, asked_passage, behind_files, end_handed, handed_by, handed_files, lone_by, lone_files, opens, passage, passed_files, places, staying, step_at, step_behind, steps, steps_at, steps_behind, told_behind, unended_by, unended_files}
-use Rattle.inf_laws.specs.KeptSides.{Answers, Around, At, Handing, IsClear, IsPlain, Open, Parts, all_behind, all_handed_on, all_kept, all_lone_places, all_tokens, are_kept, as_kept, behind_parts, declared_tokens, ended_behind, handed_as, handed_on, judged_at, ended_in, kept_sides, lone_parts, lone_places, none_around, unended}
-use Rattle.inf_laws.specs.Unfinished.{Bare, HaveBegun, Hashed, IsMisfit, Misfit, Unfinished, all_begun_tokens, behind_all_begun, behind_misfit, handed_misfit, lone_all_begun, misfit_tokens}
+use Rattle.inf_laws.specs.IncludedFiles.{Alone, AreFiles, AreOfAFile, Breaking, Cut, Enters, Files, FilesKeepSides, FilesTellUnended, Including, Leaves, Stays, Step, TurnsKeepFiles, all_unended, around_behind, around_broken, around_included, asked_passage, behind_files, end_handed, handed_by, handed_files, opens, passage, passed_files, staying, step_at, step_behind, steps, steps_at, steps_behind, told_at, told_behind, told_by, told_files}
+use Rattle.inf_laws.specs.KeptSides.{Answers, Around, At, Handing, IsClear, IsPlain, Parts, all_behind, all_handed_on, all_kept, all_tokens, all_told, are_kept, as_kept, behind_parts, declared_tokens, ended_behind, ended_in, ended_places, handed_as, handed_on, judged_at, kept_sides, lone_places, missing_in, none_around, places, told_parts, unended}
+use Rattle.inf_laws.specs.Unfinished.{Bare, Hashed, HaveBegun, IsMisfit, Misfit, Unfinished, all_begun_tokens, behind_all_begun, behind_misfit, handed_misfit, misfit_tokens, told_all_begun, told_misfit}
 use Rattle.inf_laws.specs.KeptTurns.{given_by, given_in, turned}
 use Rattle.inf_laws.specs.MissingEnds.{with_all_at}
 use Rattle.inf_laws.specs.SideTurns.{at_turn, ends_there, shown}
-use Rattle.inf_laws.proofs.KeptSides.{AllStay, Hands, InnerLeft, Last, OuterLeft, Reader, Stands, StandsAt, all_handed, all_taken, among_of, are_open, at, conditionals, end_is_no_hash, end_kept_so, hands_on, inner_not_kept, inner_of, kept_at, last_at, led, not_kept, outer, plain_kept, stack_of, stands_at, state, told_both, unended_is}
-use Rattle.inf_laws.proofs.MissingEnds.{place_of, told_at}
+use Rattle.inf_laws.proofs.KeptSides.{AllStay, Hands, InnerLeft, Last, OuterLeft, Reader, Stands, StandsAt, all_handed, all_taken, among_of, are_open, at, conditionals, end_is_no_hash, end_kept_so, ended_told, hands_on, inner_not_kept, inner_of, kept_at, last_at, led, not_kept, outer, plain_kept, stack_of, stands_at, state, told_both, told_places}
+use Rattle.inf_laws.proofs.MissingEnds.{told_at as told_each}
 use Rattle.inf_laws.proofs.Unfinished.{AllBegun, all_begun_led, cut_by, end_cuts, given_up_at, sign_cut, sign_cut_so}
 use Rattle.inf_laws.proofs.SideTurns.{all_shown, rested_conditions}
 
@@ -41,17 +41,11 @@ handed_both (x ∷ first) second c =
     ap (λ hs. handed_on (judged_at x.at c).judged x.at.token ++ hs) (handed_both first second (step_behind x c))
     ∙ sym (append_assoc (handed_on (judged_at x.at c).judged x.at.token) (handed_by first (step_behind x c)) (handed_by second (steps_behind first (step_behind x c))))
 
-lone_both : (first second : List Step) (c : Conditions) → lone_by (first ++ second) c ≡ lone_by first c ++ lone_by second (steps_behind first c)
-lone_both [] second c = refl
-lone_both (x ∷ first) second c =
-    ap (λ ps. lone_places (judged_at x.at c).judged.lone ++ ps) (lone_both first second (step_behind x c))
-    ∙ sym (append_assoc (lone_places (judged_at x.at c).judged.lone) (lone_by first (step_behind x c)) (lone_by second (steps_behind first (step_behind x c))))
-
-unended_both : (first second : List Step) (c : Conditions) → unended_by (first ++ second) c ≡ unended_by first c ++ unended_by second (steps_behind first c)
-unended_both [] second c = refl
-unended_both (x ∷ first) second c =
-    ap (λ ps. told_behind x.passage (judged_at x.at c).now ++ ps) (unended_both first second (step_behind x c))
-    ∙ sym (append_assoc (told_behind x.passage (judged_at x.at c).now) (unended_by first (step_behind x c)) (unended_by second (steps_behind first (step_behind x c))))
+tells_both : (first second : List Step) (c : Conditions) → told_by (first ++ second) c ≡ told_by first c ++ told_by second (steps_behind first c)
+tells_both [] second c = refl
+tells_both (x ∷ first) second c =
+    ap (λ ps. told_at x c ++ ps) (tells_both first second (step_behind x c))
+    ∙ sym (append_assoc (told_at x c) (told_by first (step_behind x c)) (told_by second (steps_behind first (step_behind x c))))
 
 behind_both : (first second : List Step) (c : Conditions) → steps_behind (first ++ second) c ≡ steps_behind second (steps_behind first c)
 behind_both [] second c = refl
@@ -63,13 +57,13 @@ hands_staying : (tokens : List At) (c : Conditions) → handed_by (map staying t
 hands_staying [] c = refl
 hands_staying (t ∷ tokens) c = ap (λ hs. handed_on (judged_at t c).judged t.token ++ hs) (hands_staying tokens (step_behind (staying t) c))
 
-lone_staying : (tokens : List At) (c : Conditions) → lone_by (map staying tokens) c ≡ all_lone_places tokens c
-lone_staying [] c = refl
-lone_staying (t ∷ tokens) c = ap (λ ps. lone_places (judged_at t c).judged.lone ++ ps) (lone_staying tokens (step_behind (staying t) c))
-
-unended_staying : (tokens : List At) (c : Conditions) → unended_by (map staying tokens) c ≡ []
-unended_staying [] c = refl
-unended_staying (t ∷ tokens) c = unended_staying tokens (step_behind (staying t) c)
+tells_staying : (tokens : List At) (c : Conditions) → told_by (map staying tokens) c ≡ all_told tokens c
+tells_staying [] c = refl
+tells_staying (t ∷ tokens) c =
+    let b = judged_at t c in
+    let next = step_behind (staying t) c in
+    append_assoc (lone_places b.judged.lone) (ended_places t.ended b.now.inner) (told_by (map staying tokens) next)
+    ∙ ap (λ ps. lone_places b.judged.lone ++ (ended_places t.ended b.now.inner ++ ps)) (tells_staying tokens next)
 
 behind_staying : (tokens : List At) (c : Conditions) → steps_behind (map staying tokens) c ≡ all_behind tokens c
 behind_staying [] c = refl
@@ -77,23 +71,20 @@ behind_staying (t ∷ tokens) c = behind_staying tokens (step_behind (staying t)
 
 -- What steps come to
 
-record StepsLed (all : List Step) (c : Conditions) (given : List Handing) (alone missing : List Place) : Type 0 where
+record StepsLed (all : List Step) (c : Conditions) (given : List Handing) (told : List Place) : Type 0 where
   hands : handed_by all c ≡ given
-  tells : lone_by all c ≡ alone
-  misses : unended_by all c ≡ missing
+  tells : told_by all c ≡ told
 
-joined : (first second : List Step) (c : Conditions) (given more : List Handing) (alone others missing further : List Place)
-    → StepsLed first c given alone missing → StepsLed second (steps_behind first c) more others further
-    → StepsLed (first ++ second) c (given ++ more) (alone ++ others) (missing ++ further)
-joined first second c given more alone others missing further a b = record {
+joined : (first second : List Step) (c : Conditions) (given more : List Handing) (told others : List Place)
+    → StepsLed first c given told → StepsLed second (steps_behind first c) more others → StepsLed (first ++ second) c (given ++ more) (told ++ others)
+joined first second c given more told others a b = record {
   hands = handed_both first second c ∙ ap (λ hs. hs ++ handed_by second (steps_behind first c)) a.hands ∙ ap (λ hs. given ++ hs) b.hands;
-  tells = lone_both first second c ∙ ap (λ ps. ps ++ lone_by second (steps_behind first c)) a.tells ∙ ap (λ ps. alone ++ ps) b.tells;
-  misses = unended_both first second c ∙ ap (λ ps. ps ++ unended_by second (steps_behind first c)) a.misses ∙ ap (λ ps. missing ++ ps) b.misses;
+  tells = tells_both first second c ∙ ap (λ ps. ps ++ told_by second (steps_behind first c)) a.tells ∙ ap (λ ps. told ++ ps) b.tells;
 }
 
 -- tokens that stay in their file
-staying_led : (tokens : List At) (c : Conditions) (given : List Handing) (alone : List Place) → all_handed_on tokens c ≡ given → all_lone_places tokens c ≡ alone → StepsLed (map staying tokens) c given alone []
-staying_led tokens c given alone hands tells = record { hands = hands_staying tokens c ∙ hands; tells = lone_staying tokens c ∙ tells; misses = unended_staying tokens c }
+staying_led : (tokens : List At) (c : Conditions) (given : List Handing) (told : List Place) → all_handed_on tokens c ≡ given → all_told tokens c ≡ told → StepsLed (map staying tokens) c given told
+staying_led tokens c given told hands tells = record { hands = hands_staying tokens c ∙ hands; tells = tells_staying tokens c ∙ tells }
 
 -- how a file may end: so its end is handed on there, and nothing is left out or read behind it
 record EndsAs (h : Handed) (s : Around) (w : List (List Conditional)) (c : Conditions) : Type 0 where
@@ -121,7 +112,7 @@ abbrev stretch_last : Answers → Around → List (List Conditional) → Conditi
 stretch_last d s w c parts = last_at (behind_parts d s parts) (declared_tokens (all_tokens parts) c.declared) (0 + length (all_tokens parts)) w
 
 record Stretch (d : Answers) (s : Around) (w : List (List Conditional)) (c : Conditions) (parts : Parts) : Type 0 where
-  led : StepsLed (map staying (all_tokens parts)) c (map as_kept (kept_sides d s parts)) (lone_parts d s parts) []
+  led : StepsLed (map staying (all_tokens parts)) c (map as_kept (kept_sides d s parts)) (told_parts d s parts)
   stands : StandsAt Hands (stretch_last d s w c parts) (all_behind (all_tokens parts) c)
 
 stretch : (d : Answers) (s : Around) (w : List (List Conditional)) (c : Conditions) (parts : Parts) → Begun s w c → AreOfAFile d s c.declared parts → Stretch d s w c parts
@@ -135,7 +126,7 @@ stretch d s w c parts b are =
     let behind = all_behind tokens c in
     let last = stretch_last d s w c parts in
     record {
-      led = staying_led tokens c (map as_kept kept_so) (lone_parts d s parts) (all.hands ∙ all_handed kept_so) all.tells;
+      led = staying_led tokens c (map as_kept kept_so) (told_parts d s parts) (all.hands ∙ all_handed kept_so) all.tells;
       stands = subst (λ (q : Reader). StandsAt q last behind) (hands_on kept_so) all.ends;
     }
 
@@ -184,7 +175,7 @@ begun_in (Some now) s w base declared kept_so waits none = record { inside_kept 
 
 record Entered (t : At) (s : Around) (w : List (List Conditional)) (c : Conditions) : Type 0 where
   hands : handed_on (judged_at t c).judged t.token ≡ as_kept t.token ∷ []
-  tells : lone_places (judged_at t c).judged.lone ≡ []
+  tells : told_at (enters t) c ≡ missing_in t.ended s
   begun : Begun (around_included t s) (conditionals s.between ∷ w) (step_behind (enters t) c)
 
 entered_at : (t : At) (s : Around) (w : List (List Conditional)) (c : Conditions) → StaysAt s w c → IsPlain true false t → Entered t s w c
@@ -193,7 +184,9 @@ entered_at t s w c st plain =
     let keeps = ap (judged_at t) st.is ∙ plain_kept t st.base (conditionals s.inside) (conditionals s.between) st.declared st.none_read plain in
     record {
       hands = ap (λ (b : Behind). handed_on b.judged t.token) keeps;
-      tells = ap (λ (b : Behind). lone_places b.judged.lone) keeps;
+      tells =
+          ap (λ (b : Behind). lone_places b.judged.lone ++ ended_places t.ended (file_entered b.now).inner) keeps
+          ∙ ended_told t.ended (AllStay s.inside s.between st.inside_kept st.between_kept) st.declared st.base;
       begun = subst (λ (b : Behind). Begun (around_included t s) (conditionals s.between ∷ w) (ended_behind t.ended (file_entered (silent b.now)))) (sym keeps)
           (begun_in t.ended s w st.base st.declared st.inside_kept st.waits st.none_read);
     }
@@ -253,8 +246,9 @@ ends_cut d outer u s last toks alone c b =
           ∙ cut_by d s outer u b.p b.others b.ks k.base inner among last.declared end b.waits_for b.condition (end_is_no_hash end.token.kind is_last) (end_cuts d s outer u end is_last);
     }
 
-told_places : (around : List Open) (cs : List Conditional) → cs ≡ conditionals (outer around) → places (reverse cs) ≡ unended around
-told_places around cs e = ap (λ x. places (reverse x)) e ∙ sym (unended_is around)
+none_ended : (e : Option ℕ) → ended_places e [] ≡ []
+none_ended None = refl
+none_ended (Some now) = refl
 
 begun_behind : (e : Option ℕ) (s : Around) (w : List (List Conditional)) (base : Conditions) (inner among : List Conditional) (declared : ℕ) → are_kept s.between ≡ true
     → base.waiting ≡ conditionals s.between ∷ w → base.pending ≡ [] → Begun (around_behind s) w (ended_behind e (file_left (at base inner among None declared)))
@@ -267,8 +261,7 @@ begun_behind e s w base inner among declared kept_so waits none =
 
 record LeftAt (h : Handed) (t : At) (s inner : Around) (w : List (List Conditional)) (c : Conditions) : Type 0 where
   hands : handed_on (judged_at t c).judged t.token ≡ handed_as h t.token
-  tells : lone_places (judged_at t c).judged.lone ≡ []
-  misses : told_behind Leaves (judged_at t c).now ≡ all_unended inner
+  tells : told_at (leaves t) c ≡ all_unended inner
   begun : Begun (around_behind s) w (step_behind (leaves t) c)
 
 -- the places that are told at an end
@@ -286,10 +279,15 @@ left_at_end : (t : At) (h : Handed) (s inner : Around) (w : List (List Condition
     → is_end t.token.kind ≡ true → LeftAt h t s inner w c
 left_at_end t h s inner w c e kept_so is_last =
     let keeps = e.at_end t is_last in
+    let at_last = at e.base (inner_of e.stand) (among_of e.stand) None e.declared in
     record {
       hands = ap (λ (b : Behind). handed_on b.judged t.token) keeps;
-      tells = ap (λ (b : Behind). lone_places b.judged.lone) keeps;
-      misses = misses_at t h inner (conditionals s.between ∷ w) c e is_last;
+      tells =
+          ap (λ (b : Behind). lone_places b.judged.lone ++ (told_behind Leaves b.now ++ ended_places t.ended (file_left b.now).inner)) keeps
+          ∙ ap (λ ps. told_behind Leaves at_last ++ ps) (ap (λ ws. ended_places t.ended (file_left_to ws at_last).inner) e.waits ∙ none_ended t.ended)
+          ∙ append-nil (told_behind Leaves at_last)
+          ∙ ap (λ (b : Behind). told_behind Leaves b.now) (sym keeps)
+          ∙ misses_at t h inner (conditionals s.between ∷ w) c e is_last;
       begun = subst (λ (b : Behind). Begun (around_behind s) w (ended_behind t.ended (file_left (silent b.now)))) (sym keeps)
           (begun_behind t.ended s w e.base (inner_of e.stand) (among_of e.stand) e.declared kept_so e.waits e.none_read);
     }
@@ -303,7 +301,7 @@ begun_broken (Some now) s w base declared si sb waits none = record { inside_kep
 
 record MisfitLed (misfit : Misfit) (s : Around) (w : List (List Conditional)) (c : Conditions) : Type 0 where
   hands : all_handed_on (misfit_tokens misfit) c ≡ handed_misfit misfit
-  tells : all_lone_places (misfit_tokens misfit) c ≡ []
+  tells : all_told (misfit_tokens misfit) c ≡ told_misfit misfit s
   begun : Begun (behind_misfit misfit s) w (all_behind (misfit_tokens misfit) c)
 
 misfit_led : (d : Answers) (outer : List Unfinished) (u : Unfinished) (s : Around) (last : Last) (toks : List At) (alone : List Place) (c : Conditions) (misfit : Misfit) → AllBegun d outer u s last toks alone c → IsMisfit d s outer u misfit
@@ -313,10 +311,13 @@ misfit_led d outer u s last toks alone c (Bare t) b is =
     let k = kept_at b.p b.others b.ks last there b.led.ends b.stays in
     let inner = conditionals last.around.inside in
     let among = conditionals last.around.between in
+    let told_here : ended_places t.ended inner ≡ missing_in t.ended last.around = ended_told t.ended (AllStay last.around.inside last.around.between k.inside_kept k.between_kept) last.declared k.base in
     let cut = ap (judged_at t) k.is ∙ cut_by d s outer u b.p b.others b.ks k.base inner among last.declared t b.waits_for b.condition is.0 is.1 in
     record {
       hands = ap (λ (x : Behind). handed_on x.judged t.token ++ []) cut;
-      tells = ap (λ (x : Behind). lone_places x.judged.lone ++ []) cut;
+      tells =
+          ap (λ (x : Behind). lone_places x.judged.lone ++ (ended_places t.ended x.now.inner ++ [])) cut
+          ∙ append-nil (ended_places t.ended inner) ∙ told_here;
       begun = subst (λ (x : Behind). Begun (ended_in t.ended last.around) last.waiting (ended_behind t.ended (silent x.now))) (sym cut)
           (begun_broken t.ended last.around last.waiting (given_up_at k.base) last.declared k.inside_kept k.between_kept k.waits refl);
     }
@@ -325,6 +326,7 @@ misfit_led d outer u s last toks alone c (Hashed sign t) b is =
     let k = kept_at b.p b.others b.ks last there b.led.ends b.stays in
     let inner = conditionals last.around.inside in
     let among = conditionals last.around.between in
+    let told_here : ended_places t.ended inner ≡ missing_in t.ended last.around = ended_told t.ended (AllStay last.around.inside last.around.between k.inside_kept k.between_kept) last.declared k.base in
     let place = sign.token.place in
     let base = record k.base { pending = b.p ∷ b.others; conditions = b.ks } in
     let held_so = ap (judged_at sign) k.is ∙ sign_cut sign base b.p b.others inner among last.declared refl is.0.is in
@@ -336,8 +338,10 @@ misfit_led d outer u s last toks alone c (Hashed sign t) b is =
           ap (λ (x : Behind). handed_on x.judged sign.token ++ all_handed_on (t ∷ []) (ended_behind sign.ended (silent (judged_at sign there).now))) held_so
           ∙ ap (λ (x : Behind). handed_on x.judged t.token ++ []) cut;
       tells =
-          ap (λ (x : Behind). lone_places x.judged.lone ++ all_lone_places (t ∷ []) (ended_behind sign.ended (silent (judged_at sign there).now))) held_so
-          ∙ ap (λ (x : Behind). lone_places x.judged.lone ++ []) cut;
+          ap (λ (x : Behind). lone_places x.judged.lone ++ (ended_places sign.ended x.now.inner ++ all_told (t ∷ []) (ended_behind sign.ended (silent (judged_at sign there).now)))) held_so
+          ∙ ap (λ e. ended_places e inner ++ all_told (t ∷ []) (ended_behind sign.ended (silent (judged_at sign there).now))) is.0.goes_on
+          ∙ ap (λ (x : Behind). lone_places x.judged.lone ++ (ended_places t.ended x.now.inner ++ [])) cut
+          ∙ append-nil (ended_places t.ended inner) ∙ told_here;
       begun = subst (λ (x : Behind). Begun (ended_in t.ended last.around) last.waiting (ended_behind t.ended (silent x.now))) (sym cut)
           (begun_broken t.ended last.around last.waiting (given_up_at k.base) last.declared k.inside_kept k.between_kept k.waits refl);
     }
@@ -351,16 +355,16 @@ end_is_handed (Breaking parts outer u misfit more) end = end_is_handed more end
 end_is_handed (Including parts t f leaving more) end = end_is_handed more end
 
 record FilesLed (d : Answers) (f : Files) (s : Around) (w : List (List Conditional)) (c : Conditions) : Type 0 where
-  led : StepsLed (steps f) c (handed_files d s f) (lone_files d s f) (unended_files d s f)
+  led : StepsLed (steps f) c (handed_files d s f) (told_files d s f)
   ends : EndsAs (end_handed f) (behind_files d s f) w (steps_behind (steps f) c)
 
 -- a directive that is not whole, behind parts
 record BrokenLed (d : Answers) (s : Around) (w : List (List Conditional)) (c : Conditions) (parts : Parts) (outer : List Unfinished) (u : Unfinished) : Type 0 where
-  led : StepsLed (map staying (all_begun_tokens outer u)) (all_behind (all_tokens parts) c) [] (lone_all_begun d (behind_parts d s parts) outer u) []
+  led : StepsLed (map staying (all_begun_tokens outer u)) (all_behind (all_tokens parts) c) [] (told_all_begun d (behind_parts d s parts) outer u)
   last : Last
   around : last.around ≡ behind_all_begun d (behind_parts d s parts) outer u
   waiting : last.waiting ≡ w
-  begun : AllBegun d outer u (behind_parts d s parts) last (all_begun_tokens outer u) (lone_all_begun d (behind_parts d s parts) outer u) (all_behind (all_tokens parts) c)
+  begun : AllBegun d outer u (behind_parts d s parts) last (all_begun_tokens outer u) (told_all_begun d (behind_parts d s parts) outer u) (all_behind (all_tokens parts) c)
 
 broken_led : (d : Answers) (s : Around) (w : List (List Conditional)) (c : Conditions) (parts : Parts) (outer : List Unfinished) (u : Unfinished) → Stretch d s w c parts
     → HaveBegun d (behind_parts d s parts) (declared_tokens (all_tokens parts) c.declared) (length (all_tokens parts)) outer u → BrokenLed d s w c parts outer u
@@ -371,7 +375,7 @@ broken_led d s w c parts outer u first has =
     let few = has.few in
     let b = all_begun_led d outer u Hands l.around l.declared l.levels w here first.stands has.are (omega (arith, few)) in
     record {
-      led = staying_led toks here [] (lone_all_begun d l.around outer u) b.led.hands b.led.tells;
+      led = staying_led toks here [] (told_all_begun d l.around outer u) b.led.hands b.led.tells;
       last = last_at (behind_all_begun d l.around outer u) (declared_tokens toks l.declared) (l.levels + length toks) w;
       around = refl;
       waiting = refl;
@@ -390,13 +394,13 @@ files_led d (Cut parts outer u) s w c b are =
     let last = broken.last in
     let to_here = behind_staying (all_tokens parts) c in
     let given = map as_kept (kept_sides d s parts) in
-    let alone = lone_all_begun d (behind_parts d s parts) outer u in
+    let alone = told_all_begun d (behind_parts d s parts) outer u in
     let both =
-    joined (map staying (all_tokens parts)) (map staying toks) c given [] (lone_parts d s parts) alone [] [] first.led
-    (subst (λ (x : Conditions). StepsLed (map staying toks) x [] alone []) (sym to_here) broken.led) in
+    joined (map staying (all_tokens parts)) (map staying toks) c given [] (told_parts d s parts) alone first.led
+    (subst (λ (x : Conditions). StepsLed (map staying toks) x [] alone) (sym to_here) broken.led) in
     let ends = ends_cut d outer u (behind_parts d s parts) last toks alone here broken.begun in
     record {
-      led = record { hands = both.hands ∙ append-nil given; tells = both.tells; misses = both.misses };
+      led = record { hands = both.hands ∙ append-nil given; tells = both.tells };
       ends = subst (λ (x : Conditions). EndsAs handed.Unfit (behind_all_begun d (behind_parts d s parts) outer u) w x)
           (sym (behind_both (map staying (all_tokens parts)) (map staying toks) c ∙ ap (steps_behind (map staying toks)) to_here ∙ behind_staying toks here))
           (subst (λ (x : Around). EndsAs handed.Unfit x w (all_behind toks here)) broken.around (subst (λ ws. EndsAs handed.Unfit last.around ws (all_behind toks here)) broken.waiting ends));
@@ -411,27 +415,27 @@ files_led d (Breaking parts outer u misfit more) s w c b are =
     let there = all_behind toks here in
     let beyond = all_behind bad there in
     let last = broken.last in
-    let alone = lone_all_begun d (behind_parts d s parts) outer u in
+    let alone = told_all_begun d (behind_parts d s parts) outer u in
     let cut = misfit_led d outer u (behind_parts d s parts) last toks alone here misfit broken.begun are.1.1.0 in
     let around = around_broken d s parts outer u misfit in
     let begun : Begun around w beyond =
     subst (λ (x : Around). Begun (behind_misfit misfit x) w beyond) broken.around (subst (λ ws. Begun (behind_misfit misfit last.around) ws beyond) broken.waiting cut.begun) in
     let rest = files_led d more around w beyond begun are.1.1.1 in
     let given = handed_files d around more in
-    let others = lone_files d around more in
-    let further = unended_files d around more in
+    let told_bad = told_misfit misfit (behind_all_begun d (behind_parts d s parts) outer u) in
+    let others = told_files d around more in
     let to_here = behind_staying tokens c in
     let to_there = behind_staying toks here in
     let to_beyond = behind_staying bad there in
-    let third : StepsLed (map staying bad ++ steps more) there (handed_misfit misfit ++ given) others further =
-    joined (map staying bad) (steps more) there (handed_misfit misfit) given [] others [] further (staying_led bad there (handed_misfit misfit) [] cut.hands cut.tells)
-    (subst (λ (x : Conditions). StepsLed (steps more) x given others further) (sym to_beyond) rest.led) in
-    let second : StepsLed (map staying toks ++ (map staying bad ++ steps more)) here (handed_misfit misfit ++ given) (alone ++ others) further =
-    joined (map staying toks) (map staying bad ++ steps more) here [] (handed_misfit misfit ++ given) alone others [] further broken.led
-    (subst (λ (x : Conditions). StepsLed (map staying bad ++ steps more) x (handed_misfit misfit ++ given) others further) (sym to_there) third) in
+    let third : StepsLed (map staying bad ++ steps more) there (handed_misfit misfit ++ given) (told_bad ++ others) =
+    joined (map staying bad) (steps more) there (handed_misfit misfit) given told_bad others (staying_led bad there (handed_misfit misfit) told_bad cut.hands (cut.tells ∙ ap (told_misfit misfit) broken.around))
+    (subst (λ (x : Conditions). StepsLed (steps more) x given others) (sym to_beyond) rest.led) in
+    let second : StepsLed (map staying toks ++ (map staying bad ++ steps more)) here (handed_misfit misfit ++ given) (alone ++ (told_bad ++ others)) =
+    joined (map staying toks) (map staying bad ++ steps more) here [] (handed_misfit misfit ++ given) alone (told_bad ++ others) broken.led
+    (subst (λ (x : Conditions). StepsLed (map staying bad ++ steps more) x (handed_misfit misfit ++ given) (told_bad ++ others)) (sym to_there) third) in
     record {
-      led = joined (map staying tokens) (map staying toks ++ (map staying bad ++ steps more)) c (map as_kept (kept_sides d s parts)) (handed_misfit misfit ++ given) (lone_parts d s parts) (alone ++ others) [] further first.led
-          (subst (λ (x : Conditions). StepsLed (map staying toks ++ (map staying bad ++ steps more)) x (handed_misfit misfit ++ given) (alone ++ others) further) (sym to_here) second);
+      led = joined (map staying tokens) (map staying toks ++ (map staying bad ++ steps more)) c (map as_kept (kept_sides d s parts)) (handed_misfit misfit ++ given) (told_parts d s parts) (alone ++ (told_bad ++ others)) first.led
+          (subst (λ (x : Conditions). StepsLed (map staying toks ++ (map staying bad ++ steps more)) x (handed_misfit misfit ++ given) (alone ++ (told_bad ++ others))) (sym to_here) second);
       ends = subst (λ (x : Conditions). EndsAs (end_handed more) (behind_files d around more) w x)
           (sym
           (behind_both (map staying tokens) (map staying toks ++ (map staying bad ++ steps more)) c
@@ -458,30 +462,27 @@ files_led d (Including parts t f end more) s w c b are =
     let rest = files_led d more (around_behind here) w c_more leave.begun are.1.1.1 in
     let given = handed_files d (around_behind here) more in
     let last_so : Handing = record { handed = end_handed f; token = end.token } in
-    let others = lone_files d (around_behind here) more in
+    let others = told_files d (around_behind here) more in
     let missing_here = all_unended (behind_files d inside f) in
-    let further = unended_files d (around_behind here) more in
-    let leaving_on : StepsLed (leaves end ∷ steps more) c_end (last_so ∷ given) others (missing_here ++ further) =
+    let leaving_on : StepsLed (leaves end ∷ steps more) c_end (last_so ∷ given) (missing_here ++ others) =
     record {
       hands = ap (λ hs. hs ++ handed_by (steps more) c_more) (leave.hands ∙ end_is_handed f end) ∙ ap (λ hs. last_so ∷ hs) rest.led.hands;
-      tells = ap (λ ps. ps ++ lone_by (steps more) c_more) leave.tells ∙ rest.led.tells;
-      misses = ap (λ ps. ps ++ unended_by (steps more) c_more) leave.misses ∙ ap (λ ps. missing_here ++ ps) rest.led.misses;
+      tells = ap (λ ps. ps ++ told_by (steps more) c_more) leave.tells ∙ ap (λ ps. missing_here ++ ps) rest.led.tells;
     } in
     let all_inner = steps f ++ leaves end ∷ steps more in
     let inner_given = handed_files d inside f ++ last_so ∷ given in
-    let alone = lone_files d inside f ++ others in
-    let missing = unended_files d inside f ++ (missing_here ++ further) in
-    let inner_on : StepsLed all_inner c_in inner_given alone missing =
-    joined (steps f) (leaves end ∷ steps more) c_in (handed_files d inside f) (last_so ∷ given) (lone_files d inside f) others (unended_files d inside f) (missing_here ++ further) inner.led leaving_on in
-    let entering_on : StepsLed (enters t ∷ all_inner) c_here (as_kept t.token ∷ inner_given) alone missing =
+    let told_in = told_files d inside f ++ (missing_here ++ others) in
+    let told_entering = missing_in t.ended here in
+    let inner_on : StepsLed all_inner c_in inner_given told_in =
+    joined (steps f) (leaves end ∷ steps more) c_in (handed_files d inside f) (last_so ∷ given) (told_files d inside f) (missing_here ++ others) inner.led leaving_on in
+    let entering_on : StepsLed (enters t ∷ all_inner) c_here (as_kept t.token ∷ inner_given) (told_entering ++ told_in) =
     record {
       hands = ap (λ hs. hs ++ handed_by all_inner c_in) enter.hands ∙ ap (λ hs. as_kept t.token ∷ hs) inner_on.hands;
-      tells = ap (λ ps. ps ++ lone_by all_inner c_in) enter.tells ∙ inner_on.tells;
-      misses = inner_on.misses;
+      tells = ap (λ ps. ps ++ told_by all_inner c_in) enter.tells ∙ ap (λ ps. told_entering ++ ps) inner_on.tells;
     } in
     record {
-      led = joined (map staying tokens) (enters t ∷ all_inner) c (map as_kept (kept_sides d s parts)) (as_kept t.token ∷ inner_given) (lone_parts d s parts) alone [] missing first.led
-          (subst (λ (x : Conditions). StepsLed (enters t ∷ all_inner) x (as_kept t.token ∷ inner_given) alone missing) (sym to_here) entering_on);
+      led = joined (map staying tokens) (enters t ∷ all_inner) c (map as_kept (kept_sides d s parts)) (as_kept t.token ∷ inner_given) (told_parts d s parts) (told_entering ++ told_in) first.led
+          (subst (λ (x : Conditions). StepsLed (enters t ∷ all_inner) x (as_kept t.token ∷ inner_given) (told_entering ++ told_in)) (sym to_here) entering_on);
       ends = subst (λ (x : Conditions). EndsAs (end_handed more) (behind_files d (around_behind here) more) w x)
           (sym
           (behind_both (map staying tokens) (enters t ∷ all_inner) c
@@ -508,15 +509,14 @@ files_keep_sides d f c clear are =
     let all = files_led d f none_around c.waiting c (begun_clear c clear) are in
     record {
       handed_on = all.led.hands;
-      lone = all.led.tells;
-      unended = all.led.misses;
+      told = all.led.tells;
       at_last = λ end is_last. misses_at end (end_handed f) (behind_files d none_around f) c.waiting (steps_behind (steps f) c) all.ends is_last;
     }
 
 pub files_tell_unended : FilesTellUnended
 files_tell_unended files c r =
-    ap (λ r. with_all_lone files (reverse c.among) r) (told_at files (reverse c.inner) r)
-    ∙ told_at files (reverse c.among) (with_all_at files (places (reverse c.inner)) r)
+    ap (λ r. with_all_lone files (reverse c.among) r) (told_each files (reverse c.inner) r)
+    ∙ told_each files (reverse c.among) (with_all_at files (places (reverse c.inner)) r)
     ∙ sym (told_both files (places (reverse c.inner)) (places (reverse c.among)) r)
 
 -- Turns

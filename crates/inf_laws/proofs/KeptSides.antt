@@ -34,7 +34,7 @@ use Rattle.inf_conditionals.specs.Judging.{Behind, at_front, asking as asking_on
 use Rattle.inf_conditionals.specs.Open.{Conditions, ended_by, is_second, latest_among, levels_behind, most_levels, silent, turned_first}
 use Rattle.inf_conditionals.specs.Words.{word_of}
 use Rattle.inf_reader.specs.Handing.{hash}
-use Rattle.inf_laws.specs.KeptSides.{AddsNone, Answers, AreParts, AreTaken, Around, Asking, At, Begins, Closing, First, GoesOn, Handing, IsAsked, IsCondition, IsFirst, IsName, IsPart, IsPlain, IsSemicolon, IsSign, IsSignedPlain, NoneInside, NoneInsideBehind, NoParts, OneSideIsKept, Open, Opening, Part, Parts, Passed, Plain, Signed, StayAs, Then, Turning, acted, acting, all_behind, all_handed_on, all_kept, all_lone_places, all_tokens, among, are_kept, as_kept, asking, asking_parts, before_parts, begins, begins_at, behind_name, behind_part, behind_parts, closed, condition_behind, declared_behind, declared_first, declared_sign, declared_tokens, ended_behind, ended_in, first_side, first_tokens, going_on, handed_on, judged_at, kept_of, kept_sides, lone_at, lone_of, lone_parts, lone_places, none_around, opened_more, opening, opening_parts, other_side, part_tokens, passed_by as word_passed, placed_word, seconds, signed_tokens, turned, unended, whole_condition}
+use Rattle.inf_laws.specs.KeptSides.{AddsNone, Answers, AreParts, AreTaken, Around, Asking, At, Begins, Closing, First, GoesOn, Handing, IsAsked, IsCondition, IsFirst, IsName, IsPart, IsPlain, IsSemicolon, IsSign, IsSignedPlain, NoneInside, NoneInsideBehind, NoParts, OneSideIsKept, Open, Opening, Part, Parts, Passed, Plain, Signed, StayAs, Then, Turning, acted, acting, all_behind, all_handed_on, all_kept, all_told, all_tokens, among, are_kept, as_kept, asking, asking_parts, before_parts, begins, begins_at, behind_name, behind_part, behind_parts, closed, condition_behind, declared_behind, declared_first, declared_sign, declared_tokens, ended_behind, ended_in, ended_places, first_side, first_tokens, going_on, handed_on, judged_at, kept_of, kept_sides, lone_at, lone_places, missing_in, none_around, opened_more, opening, opening_parts, other_side, part_tokens, passed_by as word_passed, placed_word, places, seconds, signed_tokens, told_of, told_parts, turned, unended, whole_condition}
 use Rattle.inf_laws.specs.LoneEnds.{is_lone}
 use Rattle.inf_laws.specs.MissingEnds.{with_all_at}
 use Rattle.inf_laws.specs.Sides.{ends_side, level_behind}
@@ -308,15 +308,21 @@ abbrev Calm : Bool → List Conditional → Option LeftOut → Type 0
 Calm is_inner inner left = is_inner ≡ false → (inner ≡ []) × (side_kept left ≡ left)
 
 mid : (is_inner : Bool) (t : At) (c : Conditions) (sign : Option Place) (inner among : List Conditional) (left : Option LeftOut) (declared : ℕ) → GoesOn is_inner t → Calm is_inner inner left
-    → ended_behind t.ended (state c sign inner among left declared) ≡ state c sign inner among left (declared_behind t declared)
-mid true t c sign inner among left declared goes calm =
-    ap (λ e. ended_behind e (state c sign inner among left declared)) goes
-    ∙ sym (ap (λ e. state c sign inner among left (unwrap_or e declared)) goes)
+    → (ended_behind t.ended (state c sign inner among left declared) ≡ state c sign inner among left (declared_behind t declared))
+    × (ended_places t.ended inner ≡ [])
+mid true t c sign inner among left declared goes calm = (
+  ap (λ e. ended_behind e (state c sign inner among left declared)) goes
+      ∙ sym (ap (λ e. state c sign inner among left (unwrap_or e declared)) goes),
+  ap (λ e. ended_places e inner) goes,
+)
 mid false t c sign inner among left declared goes calm = go t.ended
   where
-    go : (e : Option ℕ) → ended_behind e (state c sign inner among left declared) ≡ state c sign inner among left (unwrap_or e declared)
-    go None = refl
-    go (Some now) = ap (λ x. state c sign [] among x now) (calm refl).1 ∙ ap (λ x. state c sign x among left now) (sym (calm refl).0)
+    go : (e : Option ℕ) → (ended_behind e (state c sign inner among left declared) ≡ state c sign inner among left (unwrap_or e declared)) × (ended_places e inner ≡ [])
+    go None = (refl, refl)
+    go (Some now) = (
+      ap (λ x. state c sign [] among x now) (calm refl).1 ∙ ap (λ x. state c sign x among left now) (sym (calm refl).0),
+      ap (λ x. places (reverse x)) (calm refl).0,
+    )
 
 -- where a side is left out
 abbrev CalmLeft : Bool → List Conditional → Bool → Type 0
@@ -324,6 +330,74 @@ CalmLeft is_inner inner b = is_inner ≡ false → (inner ≡ []) × (b ≡ fals
 
 calm_at : (is_inner : Bool) (inner : List Conditional) (b : Bool) (n : ℕ) → CalmLeft is_inner inner b → Calm is_inner inner (left_at b n)
 calm_at is_inner inner b n calm e = ((calm e).0, ap (λ x. cond x None (left_at b n)) (calm e).1)
+
+-- Facts of what is open
+
+pub not_kept : (deep : List Open) (x : Open) (around : List Open) → x.stays ≡ false → are_kept (deep ++ x ∷ around) ≡ false
+not_kept [] x around left = ap (λ b. b && are_kept around) left
+not_kept (y ∷ deep) x around left = ap (λ b. y.stays && b) (not_kept deep x around left) ∙ and-false y.stays
+
+pub both_kept : (inside between : List Open) → are_kept inside ≡ true → are_kept between ≡ true → all_kept (record { inside = inside; between = between }) ≡ true
+both_kept inside between si sb = ap (λ b. b && are_kept between) si ∙ sb
+
+pub inner_not_kept : (deep : List Open) (x : Open) (inside between : List Open) → x.stays ≡ false → all_kept (record { inside = deep ++ x ∷ inside; between = between }) ≡ false
+inner_not_kept deep x inside between left = ap (λ b. b && are_kept between) (not_kept deep x inside left)
+
+kept_head : (x : Open) (around : List Open) → are_kept (x ∷ around) ≡ true → (x.stays ≡ true) × (are_kept around ≡ true)
+kept_head x around e = go x.stays e
+  where
+    go : (b : Bool) → b && are_kept around ≡ true → (b ≡ true) × (are_kept around ≡ true)
+    go true e = (refl, e)
+    go false e = cc
+
+-- what is turned
+other_same : (x : Open) → x.is_second ≡ true → other_side x ≡ x
+other_same x e = ap (λ b. cond b x (record x { is_second = true; stays = not x.stays })) e
+
+other_is : (x : Open) → x.is_second ≡ false → other_side x ≡ record x { is_second = true; stays = not x.stays }
+other_is x e = ap (λ b. cond b x (record x { is_second = true; stays = not x.stays })) e
+
+-- what stays as it is
+kept_still : (x : Open) (around : List Open) → x.is_second ≡ true → are_kept (x ∷ around) ≡ true → are_kept (other_side x ∷ around) ≡ true
+kept_still x around e stay = ap (λ (o : Open). o.stays && are_kept around) (other_same x e) ∙ stay
+
+left_still : (x : Open) → x.is_second ≡ true → x.stays ≡ false → (other_side x).stays ≡ false
+left_still x e left = ap (λ (o : Open). o.stays) (other_same x e) ∙ left
+
+-- and what turns
+left_turned : (x : Open) → x.is_second ≡ false → x.stays ≡ true → (other_side x).stays ≡ false
+left_turned x e stays = ap (λ (o : Open). o.stays) (other_is x e) ∙ ap not stays
+
+kept_turned : (x : Open) (around : List Open) → x.is_second ≡ false → x.stays ≡ false → are_kept around ≡ true → are_kept (other_side x ∷ around) ≡ true
+kept_turned x around e left stay = ap (λ (o : Open). o.stays && are_kept around) (other_is x e) ∙ ap (λ b. not b && are_kept around) left ∙ stay
+
+-- Lone ones
+
+lone_is : (w : ConditionalWord) (first : First) (end : At) (s : Around) (b : Bool) → all_kept s ≡ true → b ≡ is_lone w (seconds (s.inside ++ s.between))
+    → lone_places (cond b (cond end.site.is_quiet None (Some (begins first))) None) ≡ lone_at w first end s
+lone_is w first end s b stay e = quiet_or end.site.is_quiet
+  where
+    none : (b : Bool) → lone_places (cond b None None) ≡ []
+    none true = refl
+    none false = refl
+
+    told : (b : Bool) → lone_places (cond b (Some (begins first)) None) ≡ cond b (begins first ∷ []) []
+    told true = refl
+    told false = refl
+
+    quiet_or : (q : Bool) → lone_places (cond b (cond q None (Some (begins first))) None) ≡ cond q [] (cond (all_kept s && is_lone w (seconds (s.inside ++ s.between))) (begins first ∷ []) [])
+    quiet_or true = none b
+    quiet_or false =
+        told b
+        ∙ ap (λ x. cond x (begins first ∷ []) []) e
+        ∙ ap (λ x. cond (x && is_lone w (seconds (s.inside ++ s.between))) (begins first ∷ []) []) (sym stay)
+
+no_lone : (w : ConditionalWord) (first : First) (end : At) (s : Around) → all_kept s ≡ false → lone_at w first end s ≡ []
+no_lone w first end s left = go end.site.is_quiet
+  where
+    go : (q : Bool) → cond q [] (cond (all_kept s && is_lone w (seconds (s.inside ++ s.between))) (begins first ∷ []) []) ≡ []
+    go true = refl
+    go false = ap (λ x. cond (x && is_lone w (seconds (s.inside ++ s.between))) (begins first ∷ []) []) left
 
 -- What is handed on
 
@@ -372,6 +446,50 @@ levels_of (OuterLeft deep x between left sb) = length deep
 
 abbrev pub stands_at : Conditions → Stands → ℕ → Conditions
 stands_at c st declared = at c (inner_of st) (among_of st) (left_of st) declared
+
+-- What is open at last
+
+outer_kept : (around : List Open) → are_kept around ≡ true → outer around ≡ around
+outer_kept [] stay = refl
+outer_kept (x ∷ around) stay =
+    let kept_so = (kept_head x around stay).1 in
+    ap (λ b. cond b (x ∷ outer around) (outer around)) kept_so ∙ ap (λ xs. x ∷ xs) (outer_kept around kept_so)
+
+outer_left : (deep : List Open) (x : Open) (around : List Open) → x.stays ≡ false → are_kept around ≡ true → outer (deep ++ x ∷ around) ≡ x ∷ around
+outer_left [] x around left stay = ap (λ b. cond b (x ∷ outer around) (outer around)) stay ∙ ap (λ xs. x ∷ xs) (outer_kept around stay)
+outer_left (y ∷ deep) x around left stay =
+    ap (λ b. cond b (y ∷ outer (deep ++ x ∷ around)) (outer (deep ++ x ∷ around))) (not_kept deep x around left) ∙ outer_left deep x around left stay
+
+pub record AreOpen (last : Around) (inner among : List Conditional) : Type 0 where
+  pub inside : inner ≡ conditionals (outer last.inside)
+  pub between : among ≡ conditionals (outer last.between)
+
+pub are_open : (st : Stands) → AreOpen (stack_of st) (inner_of st) (among_of st)
+are_open (AllStay inside between si sb) = record { inside = sym (ap conditionals (outer_kept inside si)); between = sym (ap conditionals (outer_kept between sb)) }
+are_open (InnerLeft deep x inside between left si sb) = record { inside = sym (ap conditionals (outer_left deep x inside left si)); between = sym (ap conditionals (outer_kept between sb)) }
+are_open (OuterLeft deep x between left sb) = record { inside = refl; between = sym (ap conditionals (outer_left deep x between left sb)) }
+
+pub unended_is : (around : List Open) → unended around ≡ map place_of (reverse (conditionals (outer around)))
+unended_is [] = refl
+unended_is (x ∷ around) = go (are_kept around) (unended_is around)
+  where
+    rest : List Conditional
+    rest = conditionals (outer around)
+
+    go : (b : Bool) → unended around ≡ map place_of (reverse rest) → unended around ++ cond b (x.place ∷ []) [] ≡ map place_of (reverse (conditionals (cond b (x ∷ outer around) (outer around))))
+    go true is =
+        ap (λ ps. ps ++ x.place ∷ []) is
+        ∙ sym (map-append place_of (reverse rest) (conditional_of x ∷ []))
+        ∙ sym (ap (map place_of) (reverse-append (conditional_of x ∷ []) rest))
+    go false is = append-nil (unended around) ∙ is
+
+pub told_places : (around : List Open) (cs : List Conditional) → cs ≡ conditionals (outer around) → places (reverse cs) ≡ unended around
+told_places around cs e = ap (λ x. places (reverse x)) e ∙ sym (unended_is around)
+
+-- at the end of a directive
+pub ended_told : (e : Option ℕ) (st : Stands) (declared : ℕ) (c : Conditions) → ended_places e (inner_of st) ≡ missing_in e (stack_of st)
+ended_told None st declared c = refl
+ended_told (Some now) st declared c = told_places (stack_of st).inside (inner_of st) (are_open st).inside
 
 -- What is kept is handed on, or a conditional directive takes it, which is read inside of others, with these conditions.
 pub data Reader : Type 0 where
@@ -489,7 +607,7 @@ pub record StandsAt (r : Reader) (last : Last) (c : Conditions) : Type 0 where
 
 pub record Led (r : Reader) (all : List At) (c : Conditions) (tokens : List Spelled) (places : List Place) (last : Last) : Type 0 where
   pub hands : all_handed_on all c ≡ handed_to r tokens
-  pub tells : all_lone_places all c ≡ places
+  pub tells : all_told all c ≡ places
   pub ends : StandsAt (read_on tokens r) last (all_behind all c)
 
 -- One after the other
@@ -500,11 +618,15 @@ hands_both (t ∷ first) second c =
     ap (λ hs. handed_on (judged_at t c).judged t.token ++ hs) (hands_both first second (going_on t c))
     ∙ sym (append_assoc (handed_on (judged_at t c).judged t.token) (all_handed_on first (going_on t c)) (all_handed_on second (all_behind first (going_on t c))))
 
-pub tells_both : (first second : List At) (c : Conditions) → all_lone_places (first ++ second) c ≡ all_lone_places first c ++ all_lone_places second (all_behind first c)
+pub tells_both : (first second : List At) (c : Conditions) → all_told (first ++ second) c ≡ all_told first c ++ all_told second (all_behind first c)
 tells_both [] second c = refl
 tells_both (t ∷ first) second c =
-    ap (λ ps. lone_places (judged_at t c).judged.lone ++ ps) (tells_both first second (going_on t c))
-    ∙ sym (append_assoc (lone_places (judged_at t c).judged.lone) (all_lone_places first (going_on t c)) (all_lone_places second (all_behind first (going_on t c))))
+    let alone = lone_places (judged_at t c).judged.lone in
+    let ended = ended_places t.ended (judged_at t c).now.inner in
+    let rest = all_told second (all_behind first (going_on t c)) in
+    ap (λ ps. alone ++ (ended ++ ps)) (tells_both first second (going_on t c))
+    ∙ ap (λ ps. alone ++ ps) (sym (append_assoc ended (all_told first (going_on t c)) rest))
+    ∙ sym (append_assoc alone (ended ++ all_told first (going_on t c)) rest)
 
 pub behind_both : (first second : List At) (c : Conditions) → all_behind (first ++ second) c ≡ all_behind second (all_behind first c)
 behind_both [] second c = refl
@@ -524,7 +646,7 @@ joined r first second c tokens more places others between last a b = record {
   hands =
       hands_both first second c ∙ ap (λ hs. hs ++ all_handed_on second (all_behind first c)) a.hands ∙ ap (λ hs. handed_to r tokens ++ hs) b.hands
       ∙ sym (handed_both tokens more r);
-  tells = tells_both first second c ∙ ap (λ ps. ps ++ all_lone_places second (all_behind first c)) a.tells ∙ ap (λ ps. places ++ ps) b.tells;
+  tells = tells_both first second c ∙ ap (λ ps. ps ++ all_told second (all_behind first c)) a.tells ∙ ap (λ ps. places ++ ps) b.tells;
   ends = subst (λ (x : Conditions). StandsAt (read_on (tokens ++ more) r) last x) (sym (behind_both first second c)) (subst (λ (q : Reader). StandsAt q last (all_behind second (all_behind first c))) (sym (read_both tokens more r)) b.ends);
 }
   where
@@ -557,32 +679,38 @@ relaxed r all c tokens places s declared declared_so n m w e few is =
 pub rests : (r : Reader) (c : Conditions) (last : Last) → StandsAt r last c → Led r [] c [] [] last
 rests r c last e = record { hands = refl; tells = refl; ends = e }
 
-pub passes : (r : Reader) (t : At) (all : List At) (c now next : Conditions) (tokens : List Spelled) (places : List Place) (last : Last) → judged_at t c ≡ passed now → ended_behind t.ended (silent now) ≡ next → Led r all next tokens places last
-    → Led r (t ∷ all) c tokens places last
-passes r t all c now next tokens places last e to rest = record {
+pub passes : (r : Reader) (t : At) (all : List At) (c now next : Conditions) (tokens : List Spelled) (missing places : List Place) (last : Last) → judged_at t c ≡ passed now → ended_behind t.ended (silent now) ≡ next
+    → ended_places t.ended now.inner ≡ missing → Led r all next tokens places last → Led r (t ∷ all) c tokens (missing ++ places) last
+passes r t all c now next tokens missing places last e to told rest = record {
   hands =
       ap (λ (b : Behind). handed_on b.judged t.token ++ all_handed_on all (ended_behind t.ended (silent b.now))) e ∙ ap (all_handed_on all) to ∙ rest.hands;
   tells =
-      ap (λ (b : Behind). lone_places b.judged.lone ++ all_lone_places all (ended_behind t.ended (silent b.now))) e ∙ ap (all_lone_places all) to ∙ rest.tells;
+      ap (λ (b : Behind). lone_places b.judged.lone ++ (ended_places t.ended b.now.inner ++ all_told all (ended_behind t.ended (silent b.now)))) e
+      ∙ ap (λ x. ended_places t.ended now.inner ++ all_told all x) to ∙ ap (λ ps. ps ++ all_told all next) told ∙ ap (λ ps. missing ++ ps) rest.tells;
   ends = subst (λ (x : Conditions). StandsAt (read_on tokens r) last (all_behind all x)) (sym (ap (λ (b : Behind). ended_behind t.ended (silent b.now)) e ∙ to)) rest.ends;
 }
 
+-- in the midst of a directive
+pub goes_by : (r : Reader) (t : At) (all : List At) (c now next : Conditions) (tokens : List Spelled) (places : List Place) (last : Last) → judged_at t c ≡ passed now
+    → (ended_behind t.ended (silent now) ≡ next) × (ended_places t.ended now.inner ≡ []) → Led r all next tokens places last → Led r (t ∷ all) c tokens places last
+goes_by r t all c now next tokens places last e both rest = passes r t all c now next tokens [] places last e both.0 both.1 rest
+
 -- one that is kept, alone or behind a `#`
-keeps : (t : At) (c : Conditions) (last : Last) → judged_at t c ≡ kept c → StandsAt Hands last (ended_behind t.ended (silent c)) → Led Hands (t ∷ []) c (t.token ∷ []) [] last
-keeps t c last e rest = record {
+keeps : (t : At) (c : Conditions) (missing : List Place) (last : Last) → judged_at t c ≡ kept c → StandsAt Hands last (ended_behind t.ended (silent c)) → ended_places t.ended c.inner ≡ missing → Led Hands (t ∷ []) c (t.token ∷ []) missing last
+keeps t c missing last e rest told = record {
   hands = ap (λ (b : Behind). handed_on b.judged t.token ++ []) e;
-  tells = ap (λ (b : Behind). lone_places b.judged.lone ++ []) e;
+  tells = ap (λ (b : Behind). lone_places b.judged.lone ++ (ended_places t.ended b.now.inner ++ [])) e ∙ append-nil (ended_places t.ended c.inner) ∙ told;
   ends = subst (λ (x : Conditions). StandsAt Hands last x) (sym (ap (λ (b : Behind). ended_behind t.ended (silent b.now)) e)) rest;
 }
 
 abbrev both_kept_so : Place → Conditions → Behind
 both_kept_so place now = record { now = now; judged = record none_handed { sign = Some (record { place = place; handed = handed.Kept }); token = Some handed.Kept } }
 
-keeps_both : (t : At) (place : Place) (c now : Conditions) (last : Last) → judged_at t c ≡ both_kept_so place now
-    → StandsAt Hands last (ended_behind t.ended (silent now)) → Led Hands (t ∷ []) c (hash place ∷ t.token ∷ []) [] last
-keeps_both t place c now last e rest = record {
+keeps_both : (t : At) (place : Place) (c now : Conditions) (missing : List Place) (last : Last) → judged_at t c ≡ both_kept_so place now
+    → StandsAt Hands last (ended_behind t.ended (silent now)) → ended_places t.ended now.inner ≡ missing → Led Hands (t ∷ []) c (hash place ∷ t.token ∷ []) missing last
+keeps_both t place c now missing last e rest told = record {
   hands = ap (λ (b : Behind). handed_on b.judged t.token ++ []) e;
-  tells = ap (λ (b : Behind). lone_places b.judged.lone ++ []) e;
+  tells = ap (λ (b : Behind). lone_places b.judged.lone ++ (ended_places t.ended b.now.inner ++ [])) e ∙ append-nil (ended_places t.ended now.inner) ∙ told;
   ends = subst (λ (x : Conditions). StandsAt Hands last x) (sym (ap (λ (b : Behind). ended_behind t.ended (silent b.now)) e)) rest;
 }
 
@@ -614,19 +742,19 @@ inside_kept place t c inner among declared none is =
 abbrev ended_so : Conditions → Option Place → Option Place → Behind
 ended_so now alone place = record { now = now; judged = record none_handed { lone = alone; ended = place } }
 
-acts : (r : Reader) (t : At) (c now : Conditions) (alone place : Option Place) (last : Last) → judged_at t c ≡ ended_so now alone place
-    → StandsAt r last (ended_behind t.ended (silent now)) → Led r (t ∷ []) c [] (lone_places alone) last
-acts r t c now alone place last e rest = record {
+acts : (r : Reader) (t : At) (c now : Conditions) (alone place : Option Place) (missing : List Place) (last : Last) → judged_at t c ≡ ended_so now alone place
+    → StandsAt r last (ended_behind t.ended (silent now)) → ended_places t.ended now.inner ≡ missing → Led r (t ∷ []) c [] (lone_places alone ++ missing) last
+acts r t c now alone place missing last e rest told = record {
   hands = ap (λ (b : Behind). handed_on b.judged t.token ++ []) e;
-  tells = ap (λ (b : Behind). lone_places b.judged.lone ++ []) e ∙ append-nil (lone_places alone);
+  tells = ap (λ (b : Behind). lone_places b.judged.lone ++ (ended_places t.ended b.now.inner ++ [])) e ∙ ap (λ ps. lone_places alone ++ ps) (append-nil (ended_places t.ended now.inner) ∙ told);
   ends = subst (λ (x : Conditions). StandsAt r last x) (sym (ap (λ (b : Behind). ended_behind t.ended (silent b.now)) e)) rest;
 }
 
-takes : (r : Reader) (t : At) (c now : Conditions) (last : Last) → handed_one r t.token ≡ [] → judged_at t c ≡ taken now
-    → StandsAt (read_one t.token r) last (ended_behind t.ended (silent now)) → Led r (t ∷ []) c (t.token ∷ []) [] last
-takes r t c now last none e rest = record {
+takes : (r : Reader) (t : At) (c now : Conditions) (missing : List Place) (last : Last) → handed_one r t.token ≡ [] → judged_at t c ≡ taken now
+    → StandsAt (read_one t.token r) last (ended_behind t.ended (silent now)) → ended_places t.ended now.inner ≡ missing → Led r (t ∷ []) c (t.token ∷ []) missing last
+takes r t c now missing last none e rest told = record {
   hands = ap (λ (b : Behind). handed_on b.judged t.token ++ []) e ∙ sym (ap (λ hs. hs ++ []) none);
-  tells = ap (λ (b : Behind). lone_places b.judged.lone ++ []) e;
+  tells = ap (λ (b : Behind). lone_places b.judged.lone ++ (ended_places t.ended b.now.inner ++ [])) e ∙ append-nil (ended_places t.ended now.inner) ∙ told;
   ends = subst (λ (x : Conditions). StandsAt (read_one t.token r) last x) (sym (ap (λ (b : Behind). ended_behind t.ended (silent b.now)) e)) rest;
 }
 
@@ -663,16 +791,16 @@ pub begins_kept : (r q : Reader) (is_inner : Bool) (w : ConditionalWord) (a : Aw
     → Led q (signed_tokens sign (t ∷ all)) (at c inner among None declared) [] places last
 begins_kept Hands q false w a None t all c after inner among declared places last holds between is goes waits calm rest =
     let place = t.token.place in
-    passes q t all (at c inner among None declared) (reading false place a after inner among declared) (reading false place a after inner among (declared_behind t declared)) [] places last
+    goes_by q t all (at c inner among None declared) (reading false place a after inner among declared) (reading false place a after inner among (declared_behind t declared)) [] places last
     (word_kept w t c inner among declared holds between is ∙ waits declared)
     (mid false t (awaits_it false place a after) None inner among None declared goes calm) rest
 begins_kept Hands q false w a (Some sign) t all c after inner among declared places last holds between is goes waits calm rest =
     let place = sign.token.place in
     let now = declared_behind sign declared in
-    passes q sign (t ∷ all) (at c inner among None declared) (reading false place awaits.Word c inner among declared) (reading false place awaits.Word c inner among now) [] places last
+    goes_by q sign (t ∷ all) (at c inner among None declared) (reading false place awaits.Word c inner among declared) (reading false place awaits.Word c inner among now) [] places last
     (sign_kept sign c inner among declared (outer_front sign c holds between.0) between.1.is)
     (mid false sign (awaits_it false place awaits.Word c) None inner among None declared tt calm)
-    (passes q t all (reading false place awaits.Word c inner among now) (reading false place a after inner among now) (reading false place a after inner among (declared_behind t now)) [] places last
+    (goes_by q t all (reading false place awaits.Word c inner among now) (reading false place a after inner among now) (reading false place a after inner among (declared_behind t now)) [] places last
     (signed_kept w place t c inner among now is ∙ waits now)
     (mid false t (awaits_it false place a after) None inner among None now goes calm) rest)
 begins_kept (Reads p others ks) q false w a sign t all c after inner among declared places last holds between is goes waits calm rest = absurd between
@@ -680,10 +808,10 @@ begins_kept r q true w a None t all c after inner among declared places last hol
 begins_kept r q true w a (Some sign) t all c after inner among declared places last holds between is goes waits calm rest =
     let place = sign.token.place in
     let now = declared_behind sign declared in
-    passes q sign (t ∷ all) (at c inner among None declared) (state c (Some place) inner among None declared) (state c (Some place) inner among None now) [] places last
+    goes_by q sign (t ∷ all) (at c inner among None declared) (state c (Some place) inner among None declared) (state c (Some place) inner among None now) [] places last
     (sign_inner sign c inner among declared (inner_front r sign c holds between.0) between.1.is)
     (mid true sign c (Some place) inner among None declared between.1.goes_on calm)
-    (passes q t all (state c (Some place) inner among None now) (reading true place a after inner among now) (reading true place a after inner among (declared_behind t now)) [] places last
+    (goes_by q t all (state c (Some place) inner among None now) (reading true place a after inner among now) (reading true place a after inner among (declared_behind t now)) [] places last
     (signed_inner w place t c inner among now is ∙ waits now)
     (mid true t (awaits_it true place a after) None inner among None now goes calm) rest)
 
@@ -694,17 +822,17 @@ begins_left : (r : Reader) (is_inner is_within : Bool) (w : ConditionalWord) (m 
     → Led r all (at c inner among (left_at b m) (declared_behind t (declared_sign sign declared))) [] places last
     → Led r (signed_tokens sign (t ∷ all)) (at c inner among (left_at b n) declared) [] places last
 begins_left r is_inner is_within w m None t all c inner among b n declared places last between is goes calm few stays level rest =
-    passes r t all (at c inner among (left_at b n) declared) (at c inner among (left_at b m) declared) (at c inner among (left_at b m) (declared_behind t declared)) [] places last
+    goes_by r t all (at c inner among (left_at b n) declared) (at c inner among (left_at b m) declared) (at c inner among (left_at b m) (declared_behind t declared)) [] places last
     (word_left w t None c inner among b n declared is few stays ∙ ap (λ l. passed (at c inner among (left_at b l) declared)) level)
     (mid is_inner t c None inner among (left_at b m) declared goes (calm_at is_inner inner b m calm)) rest
 begins_left r is_inner is_within w m (Some sign) t all c inner among b n declared places last between is goes calm few stays level rest =
     let place = sign.token.place in
     let now = declared_behind sign declared in
     let held_back : ℕ → Conditions = state c (Some place) inner among (left_at b n) in
-    passes r sign (t ∷ all) (at c inner among (left_at b n) declared) (held_back declared) (held_back now) [] places last
+    goes_by r sign (t ∷ all) (at c inner among (left_at b n) declared) (held_back declared) (held_back now) [] places last
     (sign_left sign c inner among b n declared between.is few)
     (mid is_inner sign c (Some place) inner among (left_at b n) declared between.goes_on (calm_at is_inner inner b n calm))
-    (passes r t all (held_back now) (at c inner among (left_at b m) now) (at c inner among (left_at b m) (declared_behind t now)) [] places last
+    (goes_by r t all (held_back now) (at c inner among (left_at b m) now) (at c inner among (left_at b m) (declared_behind t now)) [] places last
     (word_left w t (Some place) c inner among b n now is few stays ∙ ap (λ l. passed (at c inner among (left_at b l) now)) level)
     (mid is_inner t c None inner among (left_at b m) now goes (calm_at is_inner inner b m calm)) rest)
 
@@ -717,7 +845,7 @@ begins_end : (r : Reader) (is_inner is_within : Bool) (w : ConditionalWord) (sig
 begins_end r is_inner is_within w None t all c inner among inner_now among_now b declared places last between is goes calm calm_now few ends acted rest =
     let place = t.token.place in
     let a = awaits.End effect.Nothing in
-    passes r t all (at c inner among (left_at b 0) declared) (reading false place a c inner_now among_now declared) (reading false place a c inner_now among_now (declared_behind t declared)) [] places last
+    goes_by r t all (at c inner among (left_at b 0) declared) (reading false place a c inner_now among_now declared) (reading false place a c inner_now among_now (declared_behind t declared)) [] places last
     (word_ends w t None c inner among inner_now among_now b declared is ends acted)
     (mid is_inner t (awaits_it false place a c) None inner_now among_now None declared goes calm_now) rest
 begins_end r is_inner is_within w (Some sign) t all c inner among inner_now among_now b declared places last between is goes calm calm_now few ends acted rest =
@@ -725,10 +853,10 @@ begins_end r is_inner is_within w (Some sign) t all c inner among inner_now amon
     let now = declared_behind sign declared in
     let a = awaits.End effect.Nothing in
     let held_back : ℕ → Conditions = state c (Some place) inner among (left_at b 0) in
-    passes r sign (t ∷ all) (at c inner among (left_at b 0) declared) (held_back declared) (held_back now) [] places last
+    goes_by r sign (t ∷ all) (at c inner among (left_at b 0) declared) (held_back declared) (held_back now) [] places last
     (sign_left sign c inner among b 0 declared between.is few)
     (mid is_inner sign c (Some place) inner among (left_at b 0) declared between.goes_on (calm_at is_inner inner b 0 calm))
-    (passes r t all (held_back now) (reading false place a c inner_now among_now now) (reading false place a c inner_now among_now (declared_behind t now)) [] places last
+    (goes_by r t all (held_back now) (reading false place a c inner_now among_now now) (reading false place a c inner_now among_now (declared_behind t now)) [] places last
     (word_ends w t (Some place) c inner among inner_now among_now b now is ends acted)
     (mid is_inner t (awaits_it false place a c) None inner_now among_now None now goes calm_now) rest)
 
@@ -792,74 +920,6 @@ next_ends is_inner wanted place t k c inner among declared plain is_taken whole 
     next_taken is_inner wanted place t k c inner among declared plain is_taken
     ∙ ap (λ (b : Bool). cond b (decided (verdict_of declared t.out next) wanted quiet next p here)
     (taken (asking_on place is_inner wanted next (saying quiet (too_much c.longest t.token next) (tokens_counted quiet next here))))) whole
-
--- Facts of what is open
-
-pub not_kept : (deep : List Open) (x : Open) (around : List Open) → x.stays ≡ false → are_kept (deep ++ x ∷ around) ≡ false
-not_kept [] x around left = ap (λ b. b && are_kept around) left
-not_kept (y ∷ deep) x around left = ap (λ b. y.stays && b) (not_kept deep x around left) ∙ and-false y.stays
-
-pub both_kept : (inside between : List Open) → are_kept inside ≡ true → are_kept between ≡ true → all_kept (record { inside = inside; between = between }) ≡ true
-both_kept inside between si sb = ap (λ b. b && are_kept between) si ∙ sb
-
-pub inner_not_kept : (deep : List Open) (x : Open) (inside between : List Open) → x.stays ≡ false → all_kept (record { inside = deep ++ x ∷ inside; between = between }) ≡ false
-inner_not_kept deep x inside between left = ap (λ b. b && are_kept between) (not_kept deep x inside left)
-
-kept_head : (x : Open) (around : List Open) → are_kept (x ∷ around) ≡ true → (x.stays ≡ true) × (are_kept around ≡ true)
-kept_head x around e = go x.stays e
-  where
-    go : (b : Bool) → b && are_kept around ≡ true → (b ≡ true) × (are_kept around ≡ true)
-    go true e = (refl, e)
-    go false e = cc
-
--- what is turned
-other_same : (x : Open) → x.is_second ≡ true → other_side x ≡ x
-other_same x e = ap (λ b. cond b x (record x { is_second = true; stays = not x.stays })) e
-
-other_is : (x : Open) → x.is_second ≡ false → other_side x ≡ record x { is_second = true; stays = not x.stays }
-other_is x e = ap (λ b. cond b x (record x { is_second = true; stays = not x.stays })) e
-
--- what stays as it is
-kept_still : (x : Open) (around : List Open) → x.is_second ≡ true → are_kept (x ∷ around) ≡ true → are_kept (other_side x ∷ around) ≡ true
-kept_still x around e stay = ap (λ (o : Open). o.stays && are_kept around) (other_same x e) ∙ stay
-
-left_still : (x : Open) → x.is_second ≡ true → x.stays ≡ false → (other_side x).stays ≡ false
-left_still x e left = ap (λ (o : Open). o.stays) (other_same x e) ∙ left
-
--- and what turns
-left_turned : (x : Open) → x.is_second ≡ false → x.stays ≡ true → (other_side x).stays ≡ false
-left_turned x e stays = ap (λ (o : Open). o.stays) (other_is x e) ∙ ap not stays
-
-kept_turned : (x : Open) (around : List Open) → x.is_second ≡ false → x.stays ≡ false → are_kept around ≡ true → are_kept (other_side x ∷ around) ≡ true
-kept_turned x around e left stay = ap (λ (o : Open). o.stays && are_kept around) (other_is x e) ∙ ap (λ b. not b && are_kept around) left ∙ stay
-
--- Lone ones
-
-lone_is : (w : ConditionalWord) (first : First) (end : At) (s : Around) (b : Bool) → all_kept s ≡ true → b ≡ is_lone w (seconds (s.inside ++ s.between))
-    → lone_places (cond b (cond end.site.is_quiet None (Some (begins first))) None) ≡ lone_at w first end s
-lone_is w first end s b stay e = quiet_or end.site.is_quiet
-  where
-    none : (b : Bool) → lone_places (cond b None None) ≡ []
-    none true = refl
-    none false = refl
-
-    told : (b : Bool) → lone_places (cond b (Some (begins first)) None) ≡ cond b (begins first ∷ []) []
-    told true = refl
-    told false = refl
-
-    quiet_or : (q : Bool) → lone_places (cond b (cond q None (Some (begins first))) None) ≡ cond q [] (cond (all_kept s && is_lone w (seconds (s.inside ++ s.between))) (begins first ∷ []) [])
-    quiet_or true = none b
-    quiet_or false =
-        told b
-        ∙ ap (λ x. cond x (begins first ∷ []) []) e
-        ∙ ap (λ x. cond (x && is_lone w (seconds (s.inside ++ s.between))) (begins first ∷ []) []) (sym stay)
-
-no_lone : (w : ConditionalWord) (first : First) (end : At) (s : Around) → all_kept s ≡ false → lone_at w first end s ≡ []
-no_lone w first end s left = go end.site.is_quiet
-  where
-    go : (q : Bool) → cond q [] (cond (all_kept s && is_lone w (seconds (s.inside ++ s.between))) (begins first ∷ []) []) ≡ []
-    go true = refl
-    go false = ap (λ x. cond (x && is_lone w (seconds (s.inside ++ s.between))) (begins first ∷ []) []) left
 
 -- Small facts
 
@@ -956,7 +1016,7 @@ last_behind d parts s declared n w = last_at (behind_parts d s parts) (declared_
 abbrev pub Leads : Answers → Parts → Type 0
 Leads d parts = (r : Reader) (s : Around) (declared n : ℕ) (w : List (List Conditional)) (c : Conditions) → StandsAt r (last_at s declared n w) c → AreParts d (within r) s declared parts → TakesAll r (kept_sides d s parts)
     → n + length (all_tokens parts) ≤ most_levels
-    → Led r (all_tokens parts) c (kept_sides d s parts) (lone_parts d s parts) (last_behind d parts s declared n w)
+    → Led r (all_tokens parts) c (kept_sides d s parts) (told_parts d s parts) (last_behind d parts s declared n w)
 
 -- of one that is kept
 pub within_led : (d : Answers) (parts : Parts) → Leads d parts → (r : Reader) (rest : List At) (is_inner : Bool) (place : Place) (a : Awaits) (c : Conditions) (ks after : List Condition) (s : Around) (declared n : ℕ) (w : List (List Conditional)) (start : Conditions) (places : List Place) (last : Last)
@@ -965,7 +1025,7 @@ pub within_led : (d : Answers) (parts : Parts) → Leads d parts → (r : Reader
     → read_on (kept_sides d s parts) (Reads p c.pending ks) ≡ Reads p c.pending after → n + length (all_tokens parts) ≤ most_levels
     → ((base : Conditions) → base.waiting ≡ w → are_kept l.around.inside ≡ true → are_kept l.around.between ≡ true
     → Led r rest (reading is_inner place a (record base { pending = c.pending; conditions = after }) (conditionals l.around.inside) (conditionals l.around.between) l.declared) [] places last)
-    → Led r (all_tokens parts ++ rest) start [] (lone_parts d s parts ++ places) last
+    → Led r (all_tokens parts ++ rest) start [] (told_parts d s parts ++ places) last
 within_led d parts leads r rest is_inner place a c ks after s declared n w start places last e all are stay taken_so read few further =
     let p = directive is_inner place a in
     let l = last_behind d parts s declared n w in
@@ -980,7 +1040,7 @@ within_led d parts leads r rest is_inner place a c ks after s declared n w start
           hands_both (all_tokens parts) rest start
           ∙ ap (λ hs. hs ++ all_handed_on rest there) (first.hands ∙ nothing_handed (kept_sides d s parts) p c.pending ks)
           ∙ second.hands;
-      tells = tells_both (all_tokens parts) rest start ∙ ap (λ ps. ps ++ all_lone_places rest there) first.tells ∙ ap (λ ps. lone_parts d s parts ++ ps) second.tells;
+      tells = tells_both (all_tokens parts) rest start ∙ ap (λ ps. ps ++ all_told rest there) first.tells ∙ ap (λ ps. told_parts d s parts ++ ps) second.tells;
       ends = subst (λ (x : Conditions). StandsAt r last x) (sym (behind_both (all_tokens parts) rest start)) second.ends;
     }
 
@@ -995,7 +1055,7 @@ reads_none tokens r e = ap (λ ts. read_on ts r) e
 left_led : (d : Answers) (parts : Parts) → Leads d parts → (r : Reader) (rest : List At) (s : Around) (declared n : ℕ) (w : List (List Conditional)) (start : Conditions) (places : List Place) (last : Last)
     → StandsAt r (last_at s declared n w) start → AreParts d (within r) s declared parts → kept_sides d s parts ≡ [] → n + length (all_tokens parts) ≤ most_levels
     → ((c : Conditions) → StandsAt r (last_behind d parts s declared n w) c → Led r rest c [] places last)
-    → Led r (all_tokens parts ++ rest) start [] (lone_parts d s parts ++ places) last
+    → Led r (all_tokens parts ++ rest) start [] (told_parts d s parts ++ places) last
 left_led d parts leads r rest s declared n w start places last e are none few further =
     let l = last_behind d parts s declared n w in
     let there = all_behind (all_tokens parts) start in
@@ -1007,7 +1067,7 @@ left_led d parts leads r rest s declared n w start places last e are none few fu
           hands_both (all_tokens parts) rest start
           ∙ ap (λ hs. hs ++ all_handed_on rest there) (first.hands ∙ ap (handed_to r) none)
           ∙ second.hands;
-      tells = tells_both (all_tokens parts) rest start ∙ ap (λ ps. ps ++ all_lone_places rest there) first.tells ∙ ap (λ ps. lone_parts d s parts ++ ps) second.tells;
+      tells = tells_both (all_tokens parts) rest start ∙ ap (λ ps. ps ++ all_told rest there) first.tells ∙ ap (λ ps. told_parts d s parts ++ ps) second.tells;
       ends = subst (λ (x : Conditions). StandsAt r last x) (sym (behind_both (all_tokens parts) rest start)) second.ends;
     }
 
@@ -1015,11 +1075,11 @@ left_led d parts leads r rest s declared n w start places last e are none few fu
 left_token : (r : Reader) (is_within : Bool) (t : At) (all : List At) (s : Around) (declared n : ℕ) (w : List (List Conditional)) (start : Conditions) (tokens : List Spelled) (places : List Place) (last : Last)
     → StandsAt r (last_at s declared n w) start → all_kept s ≡ false → IsPlain false is_within t → n + 1 ≤ most_levels
     → ((c : Conditions) → StandsAt r (last_at (ended_in t.ended s) (declared_behind t declared) n w) c → Led r all c tokens places last)
-    → Led r (t ∷ all) start tokens places last
+    → Led r (t ∷ all) start tokens (missing_in t.ended s ++ places) last
 left_token r is_within t all s declared n w start tokens places last e left plain few further =
-    subst (λ (x : Conditions). Led r (t ∷ all) x tokens places last) (sym e.is) (go e.stand e.stack e.few)
+    subst (λ (x : Conditions). Led r (t ∷ all) x tokens (missing_in t.ended s ++ places) last) (sym e.is) (go e.stand e.stack e.few)
   where
-    goes : (st : Stands) (b : Bool) (m : ℕ) → stack_of st ≡ s → left_of st ≡ left_at b m → m ≤ n → levels_of st ≤ n → Led r (t ∷ all) (stands_at e.base st declared) tokens places last
+    goes : (st : Stands) (b : Bool) (m : ℕ) → stack_of st ≡ s → left_of st ≡ left_at b m → m ≤ n → levels_of st ≤ n → Led r (t ∷ all) (stands_at e.base st declared) tokens (missing_in t.ended s ++ places) last
     goes st b m stack is_left few_m few_st =
         let here = stands_at e.base st declared in
         let there = at e.base (inner_of st) (among_of st) (left_at b m) declared in
@@ -1028,11 +1088,12 @@ left_token r is_within t all s declared n w start tokens places last e left plai
         subst (λ (x : Conditions). StandsAt r (last_at (ended_in t.ended s) (declared_behind t declared) n w) (ended_behind t.ended x)) (sym same)
         (subst (λ (x : Around). StandsAt r (last_at (ended_in t.ended x) (declared_behind t declared) n w) (ended_behind t.ended here)) stack
         (ended_stands r t.ended st declared n w e.base e.holds e.waits few_st)) in
-        subst (λ (x : Conditions). Led r (t ∷ all) x tokens places last) same
-        (passes r t all there there (ended_behind t.ended there) tokens places last (plain_left is_within t e.base (inner_of st) (among_of st) b m declared plain (omega (arith, few, few_m))) refl
+        subst (λ (x : Conditions). Led r (t ∷ all) x tokens (missing_in t.ended s ++ places) last) same
+        (passes r t all there there (ended_behind t.ended there) tokens (missing_in t.ended s) places last (plain_left is_within t e.base (inner_of st) (among_of st) b m declared plain (omega (arith, few, few_m))) refl
+        (ended_told t.ended st declared e.base ∙ ap (missing_in t.ended) stack)
         (further (ended_behind t.ended there) behind))
 
-    go : (st : Stands) → stack_of st ≡ s → levels_of st ≤ n → Led r (t ∷ all) (stands_at e.base st declared) tokens places last
+    go : (st : Stands) → stack_of st ≡ s → levels_of st ≤ n → Led r (t ∷ all) (stands_at e.base st declared) tokens (missing_in t.ended s ++ places) last
     go (AllStay inside between si sb) stack few_st = absurd (let never : true ≡ false = sym (both_kept inside between si sb) ∙ ap all_kept stack ∙ left in cc)
     go (InnerLeft deep x inside between gone si sb) stack few_st = goes (InnerLeft deep x inside between gone si sb) true (length deep) stack refl few_st few_st
     go (OuterLeft deep x between gone sb) stack few_st = goes (OuterLeft deep x between gone sb) false (length deep) stack refl few_st few_st
@@ -1074,11 +1135,27 @@ opened_stands r false false place t inside between declared n w c holds waits si
         subst (λ i. StandsAt r (last_at (record { inside = i; between = x ∷ between }) declared n w) (opened_at false false place c (conditionals i) (conditionals between) declared)) (sym (none refl))
         (record { base = c; stand = OuterLeft [] x between refl sb; holds = holds; waits = waits; is = refl; stack = refl; few = omega arith })
 
+opened_told : (is_inner b : Bool) (place : Place) (t : At) (inside between : List Open) (declared : ℕ) (c : Conditions) → are_kept inside ≡ true → are_kept between ≡ true
+    → ended_places t.ended (opened_at is_inner b place c (conditionals inside) (conditionals between) declared).inner
+    ≡ missing_in t.ended (opened_more is_inner (new_open place b) (record { inside = inside; between = between }))
+opened_told true b place t inside between declared c si sb =
+    go b
+    ∙ sym (ap (λ k. missing_in t.ended (cond k (record { inside = new_open place b ∷ inside; between = between }) (record { inside = inside; between = new_open place b ∷ between }))) sb)
+  where
+    go : (b : Bool) → ended_places t.ended (opened_at true b place c (conditionals inside) (conditionals between) declared).inner ≡ missing_in t.ended (record { inside = new_open place b ∷ inside; between = between })
+    go true = ended_told t.ended (AllStay (new_open place true ∷ inside) between si sb) declared c
+    go false = ended_told t.ended (InnerLeft [] (new_open place false) inside between refl si sb) declared c
+opened_told false b place t inside between declared c si sb = go t.ended
+  where
+    go : (e : Option ℕ) → ended_places e (opened_at false b place c (conditionals inside) (conditionals between) declared).inner ≡ missing_in e (record { inside = inside; between = new_open place b ∷ between })
+    go None = refl
+    go (Some now) = told_places inside (conditionals inside) (sym (ap conditionals (outer_kept inside si)))
+
 -- the semicolon of an `Ifnot`
 abbrev LastLed : ConditionalWord → (Around → Around) → Effect → Type 0
 LastLed w act e = (r : Reader) (is_inner : Bool) (first : First) (t : At) (inside between : List Open) (declared n : ℕ) (v : List (List Conditional)) (c : Conditions) → Holds r c → c.waiting ≡ v
     → are_kept inside ≡ true → are_kept between ≡ true → IsSemicolon t
-    → Led r (t ∷ []) (reading is_inner (begins first) (awaits.End e) c (conditionals inside) (conditionals between) declared) [] (lone_at w first t (record { inside = inside; between = between }))
+    → Led r (t ∷ []) (reading is_inner (begins first) (awaits.End e) c (conditionals inside) (conditionals between) declared) [] (lone_at w first t (record { inside = inside; between = between }) ++ missing_in t.ended (act (record { inside = inside; between = between })))
     (last_at (ended_in t.ended (act (record { inside = inside; between = between }))) (declared_behind t declared) n v)
 
 abbrev unless_quiet : At → Place → Option Place
@@ -1121,46 +1198,68 @@ still_is x around e = ap (λ (o : Open). conditionals (o ∷ around)) (other_sam
 turned_is : (x : Open) (around : List Open) → x.is_second ≡ false → conditionals (other_side x ∷ around) ≡ record { place = x.place; is_second = true } ∷ conditionals around
 turned_is x around e = ap (λ (o : Open). conditionals (o ∷ around)) (other_is x e)
 
-told_as : (r : Reader) (t : At) (c : Conditions) (places told : List Place) (last : Last) → places ≡ told → Led r (t ∷ []) c [] places last → Led r (t ∷ []) c [] told last
-told_as r t c places told last e is = subst (λ ps. Led r (t ∷ []) c [] ps last) e is
+told_as : (r : Reader) (t : At) (c : Conditions) (alone told missing : List Place) (last : Last) → alone ≡ told → Led r (t ∷ []) c [] (alone ++ missing) last → Led r (t ∷ []) c [] (told ++ missing) last
+told_as r t c alone told missing last e is = subst (λ ps. Led r (t ∷ []) c [] (ps ++ missing) last) e is
+
+-- where what is open now is known
+stands_told : (r : Reader) (t : At) (st : Stands) (s : Around) (declared n : ℕ) (v : List (List Conditional)) (c x : Conditions) → stands_at c st declared ≡ x → stack_of st ≡ s → Holds r c → c.waiting ≡ v → levels_of st ≤ n
+    → StandsAt r (last_at (ended_in t.ended s) (declared_behind t declared) n v) (ended_behind t.ended x) × (ended_places t.ended x.inner ≡ missing_in t.ended s)
+stands_told r t st s declared n v c x is stack holds waits few = (
+  subst (λ (y : Around). StandsAt r (last_at (ended_in t.ended y) (declared_behind t declared) n v) (ended_behind t.ended x)) stack
+      (subst (λ (y : Conditions). StandsAt r (last_at (ended_in t.ended (stack_of st)) (declared_behind t declared) n v) (ended_behind t.ended y)) is (ended_stands r t.ended st declared n v c holds waits few)),
+  ap (λ (y : Conditions). ended_places t.ended y.inner) (sym is) ∙ ended_told t.ended st declared c ∙ ap (missing_in t.ended) stack,
+)
 
 turns_last : LastLed word.Ifnot turned effect.Turns
 turns_last r is_inner first t [] [] declared n v c holds waits si sb is =
     let place = begins first in
     let m = reading is_inner place (awaits.End effect.Turns) c [] [] declared in
     let last = last_at (ended_in t.ended none_around) (declared_behind t declared) n v in
-    told_as r t m (lone_places (unless_quiet t place)) (lone_at word.Ifnot first t none_around) last (lone_is word.Ifnot first t none_around true refl refl)
-    (acts r t m (at c [] [] None declared) (unless_quiet t place) (unless_quiet t place) last (end_kept effect.Turns is_inner place t c [] [] declared is)
-    (ended_stands r t.ended (AllStay [] [] si sb) declared n v c holds waits (omega arith)))
+    let missing = missing_in t.ended none_around in
+    let both = stands_told r t (AllStay [] [] si sb) none_around declared n v c (at c [] [] None declared) refl refl holds waits (omega arith) in
+    told_as r t m (lone_places (unless_quiet t place)) (lone_at word.Ifnot first t none_around) missing last (lone_is word.Ifnot first t none_around true refl refl)
+    (acts r t m (at c [] [] None declared) (unless_quiet t place) (unless_quiet t place) missing last (end_kept effect.Turns is_inner place t c [] [] declared is) both.0 both.1)
 turns_last r is_inner first t [] (y ∷ between) declared n v c holds waits si sb is =
     let place = begins first in
     let s : Around = record { inside = []; between = y ∷ between } in
     let m = reading is_inner place (awaits.End effect.Turns) c [] (conditionals (y ∷ between)) declared in
     let last = last_at (ended_in t.ended (turned s)) (declared_behind t declared) n v in
+    let missing = missing_in t.ended (turned s) in
     let here = at c [] (conditionals (y ∷ between)) None declared in
     let there = at c [] (record { place = y.place; is_second = true } ∷ conditionals between) (left_at false 0) declared in
-    told_as r t m (lone_places (cond y.is_second (unless_quiet t place) None)) (lone_at word.Ifnot first t s) last (lone_is word.Ifnot first t s y.is_second sb refl)
-    (acts r t m (cond y.is_second here there) (cond y.is_second (unless_quiet t place) None) (unless_quiet t place) last (turns_among is_inner place t c (conditional_of y) (conditionals between) declared is)
+    let both : (StandsAt r last (ended_behind t.ended (cond y.is_second here there))) × (ended_places t.ended (cond y.is_second here there).inner ≡ missing) =
+    of_both (λ (x : Conditions). (StandsAt r last (ended_behind t.ended x)) × (ended_places t.ended x.inner ≡ missing)) y.is_second here there
+    (λ e. stands_told r t (AllStay [] (other_side y ∷ between) si (kept_still y between e sb)) (turned s) declared n v c here (ap (λ cs. at c [] cs None declared) (still_is y between e)) refl holds waits (omega arith))
+    (λ e. stands_told r t (OuterLeft [] (other_side y) between (left_turned y e (kept_head y between sb).0) (kept_head y between sb).1) (turned s) declared n v c there
+    (ap (λ cs. at c [] cs (left_at false 0) declared) (turned_is y between e)) refl holds waits (omega arith)) in
+    told_as r t m (lone_places (cond y.is_second (unless_quiet t place) None)) (lone_at word.Ifnot first t s) missing last (lone_is word.Ifnot first t s y.is_second sb refl)
+    (acts r t m (cond y.is_second here there) (cond y.is_second (unless_quiet t place) None) (unless_quiet t place) missing last (turns_among is_inner place t c (conditional_of y) (conditionals between) declared is)
     (of_both (λ (x : Conditions). StandsAt r last (ended_behind t.ended (silent x))) y.is_second here there
     (λ e. subst (λ cs. StandsAt r last (ended_behind t.ended (at c [] cs None declared))) (still_is y between e)
     (ended_stands r t.ended (AllStay [] (other_side y ∷ between) si (kept_still y between e sb)) declared n v c holds waits (omega arith)))
     (λ e. subst (λ cs. StandsAt r last (ended_behind t.ended (at c [] cs (left_at false 0) declared))) (turned_is y between e)
-    (ended_stands r t.ended (OuterLeft [] (other_side y) between (left_turned y e (kept_head y between sb).0) (kept_head y between sb).1) declared n v c holds waits (omega arith)))))
+    (ended_stands r t.ended (OuterLeft [] (other_side y) between (left_turned y e (kept_head y between sb).0) (kept_head y between sb).1) declared n v c holds waits (omega arith)))) both.1)
 turns_last r is_inner first t (y ∷ inside) between declared n v c holds waits si sb is =
     let place = begins first in
     let s : Around = record { inside = y ∷ inside; between = between } in
     let among = conditionals between in
     let m = reading is_inner place (awaits.End effect.Turns) c (conditionals (y ∷ inside)) among declared in
     let last = last_at (ended_in t.ended (turned s)) (declared_behind t declared) n v in
+    let missing = missing_in t.ended (turned s) in
     let here = at c (conditionals (y ∷ inside)) among None declared in
     let there = at c (record { place = y.place; is_second = true } ∷ conditionals inside) among (left_at true 0) declared in
-    told_as r t m (lone_places (cond y.is_second (unless_quiet t place) None)) (lone_at word.Ifnot first t s) last (lone_is word.Ifnot first t s y.is_second (both_kept (y ∷ inside) between si sb) refl)
-    (acts r t m (cond y.is_second here there) (cond y.is_second (unless_quiet t place) None) (unless_quiet t place) last (turns_inner is_inner place t c (conditional_of y) (conditionals inside) among declared is)
+    let both : (StandsAt r last (ended_behind t.ended (cond y.is_second here there))) × (ended_places t.ended (cond y.is_second here there).inner ≡ missing) =
+    of_both (λ (x : Conditions). (StandsAt r last (ended_behind t.ended x)) × (ended_places t.ended x.inner ≡ missing)) y.is_second here there
+    (λ e. stands_told r t (AllStay (other_side y ∷ inside) between (kept_still y inside e si) sb) (turned s) declared n v c here (ap (λ cs. at c cs among None declared) (still_is y inside e)) refl holds waits (omega arith))
+    (λ e. stands_told r t (InnerLeft [] (other_side y) inside between (left_turned y e (kept_head y inside si).0) (kept_head y inside si).1 sb) (turned s) declared n v c there
+    (ap (λ cs. at c cs among (left_at true 0) declared) (turned_is y inside e)) refl holds waits (omega arith)) in
+    told_as r t m (lone_places (cond y.is_second (unless_quiet t place) None)) (lone_at word.Ifnot first t s) missing last (lone_is word.Ifnot first t s y.is_second (both_kept (y ∷ inside) between si sb) refl)
+    (acts r t m (cond y.is_second here there) (cond y.is_second (unless_quiet t place) None) (unless_quiet t place) missing last (turns_inner is_inner place t c (conditional_of y) (conditionals inside) among declared is)
     (of_both (λ (x : Conditions). StandsAt r last (ended_behind t.ended (silent x))) y.is_second here there
     (λ e. subst (λ cs. StandsAt r last (ended_behind t.ended (at c cs among None declared))) (still_is y inside e)
     (ended_stands r t.ended (AllStay (other_side y ∷ inside) between (kept_still y inside e si) sb) declared n v c holds waits (omega arith)))
     (λ e. subst (λ cs. StandsAt r last (ended_behind t.ended (at c cs among (left_at true 0) declared))) (turned_is y inside e)
-    (ended_stands r t.ended (InnerLeft [] (other_side y) inside between (left_turned y e (kept_head y inside si).0) (kept_head y inside si).1 sb) declared n v c holds waits (omega arith)))))
+    (ended_stands r t.ended (InnerLeft [] (other_side y) inside between (left_turned y e (kept_head y inside si).0) (kept_head y inside si).1 sb) declared n v c holds waits (omega arith)))) both.1)
 
 -- and that of an `Endif`
 closes_last : LastLed word.Endif closed effect.Closes
@@ -1168,25 +1267,30 @@ closes_last r is_inner first t [] [] declared n v c holds waits si sb is =
     let place = begins first in
     let m = reading is_inner place (awaits.End effect.Closes) c [] [] declared in
     let last = last_at (ended_in t.ended none_around) (declared_behind t declared) n v in
-    told_as r t m (lone_places (unless_quiet t place)) (lone_at word.Endif first t none_around) last (lone_is word.Endif first t none_around true refl refl)
-    (acts r t m (at c [] [] None declared) (unless_quiet t place) (unless_quiet t place) last (end_kept effect.Closes is_inner place t c [] [] declared is)
-    (ended_stands r t.ended (AllStay [] [] si sb) declared n v c holds waits (omega arith)))
+    let missing = missing_in t.ended none_around in
+    let both = stands_told r t (AllStay [] [] si sb) none_around declared n v c (at c [] [] None declared) refl refl holds waits (omega arith) in
+    told_as r t m (lone_places (unless_quiet t place)) (lone_at word.Endif first t none_around) missing last (lone_is word.Endif first t none_around true refl refl)
+    (acts r t m (at c [] [] None declared) (unless_quiet t place) (unless_quiet t place) missing last (end_kept effect.Closes is_inner place t c [] [] declared is) both.0 both.1)
 closes_last r is_inner first t [] (y ∷ between) declared n v c holds waits si sb is =
     let place = begins first in
     let s : Around = record { inside = []; between = y ∷ between } in
     let m = reading is_inner place (awaits.End effect.Closes) c [] (conditionals (y ∷ between)) declared in
     let last = last_at (ended_in t.ended (closed s)) (declared_behind t declared) n v in
-    told_as r t m [] (lone_at word.Endif first t s) last (lone_is word.Endif first t s false sb refl)
-    (acts r t m (at c [] (conditionals between) None declared) None (unless_quiet t place) last (end_kept effect.Closes is_inner place t c [] (conditionals (y ∷ between)) declared is)
-    (ended_stands r t.ended (AllStay [] between si (kept_head y between sb).1) declared n v c holds waits (omega arith)))
+    let missing = missing_in t.ended (closed s) in
+    let now = at c [] (conditionals between) None declared in
+    let both = stands_told r t (AllStay [] between si (kept_head y between sb).1) (closed s) declared n v c now refl refl holds waits (omega arith) in
+    told_as r t m [] (lone_at word.Endif first t s) missing last (lone_is word.Endif first t s false sb refl)
+    (acts r t m now None (unless_quiet t place) missing last (end_kept effect.Closes is_inner place t c [] (conditionals (y ∷ between)) declared is) both.0 both.1)
 closes_last r is_inner first t (y ∷ inside) between declared n v c holds waits si sb is =
     let place = begins first in
     let s : Around = record { inside = y ∷ inside; between = between } in
     let m = reading is_inner place (awaits.End effect.Closes) c (conditionals (y ∷ inside)) (conditionals between) declared in
     let last = last_at (ended_in t.ended (closed s)) (declared_behind t declared) n v in
-    told_as r t m [] (lone_at word.Endif first t s) last (lone_is word.Endif first t s false (both_kept (y ∷ inside) between si sb) refl)
-    (acts r t m (at c (conditionals inside) (conditionals between) None declared) None (unless_quiet t place) last (end_kept effect.Closes is_inner place t c (conditionals (y ∷ inside)) (conditionals between) declared is)
-    (ended_stands r t.ended (AllStay inside between (kept_head y inside si).1 sb) declared n v c holds waits (omega arith)))
+    let missing = missing_in t.ended (closed s) in
+    let now = at c (conditionals inside) (conditionals between) None declared in
+    let both = stands_told r t (AllStay inside between (kept_head y inside si).1 sb) (closed s) declared n v c now refl refl holds waits (omega arith) in
+    told_as r t m [] (lone_at word.Endif first t s) missing last (lone_is word.Endif first t s false (both_kept (y ∷ inside) between si sb) refl)
+    (acts r t m now None (unless_quiet t place) missing last (end_kept effect.Closes is_inner place t c (conditionals (y ∷ inside)) (conditionals between) declared is) both.0 both.1)
 
 -- The word of a directive in a side that is left out
 
@@ -1344,7 +1448,7 @@ last_part d part s declared n v = last_at (behind_part d part s) (declared_token
 abbrev StandLeads : Answers → Part → Type 0
 StandLeads d part = (r : Reader) (st : Stands) (declared n : ℕ) (v : List (List Conditional)) (c : Conditions) → Holds r c → c.waiting ≡ v → levels_of st ≤ n → IsPart d (within r) (stack_of st) declared part
     → TakesAll r (kept_of part (stack_of st)) → n + length (part_tokens part) ≤ most_levels
-    → Led r (part_tokens part) (stands_at c st declared) (kept_of part (stack_of st)) (lone_of d part (stack_of st)) (last_part d part (stack_of st) declared n v)
+    → Led r (part_tokens part) (stands_at c st declared) (kept_of part (stack_of st)) (told_of d part (stack_of st)) (last_part d part (stack_of st) declared n v)
 
 -- where all is kept
 kept_only : (P : Stands → Type 0) → ((inside between : List Open) (si : are_kept inside ≡ true) (sb : are_kept between ≡ true) → P (AllStay inside between si sb)) → (st : Stands) → all_kept (stack_of st) ≡ true → P st
@@ -1366,7 +1470,7 @@ told_so r all c tokens places told last e is = subst (λ ps. Led r all c tokens 
 -- a condition takes one
 reads_one : (a : Awaits) (ks : List Condition) (is_inner : Bool) (place : Place) (others : List Pending) (t : At) (inside between : List Open) (declared n : ℕ) (v : List (List Conditional)) (c : Conditions)
     → c.pending ≡ directive is_inner place a ∷ others → c.conditions ≡ ks → c.waiting ≡ v → are_kept inside ≡ true → are_kept between ≡ true → TakenBy a t.token ks → IsPlain true true t
-    → Led (Reads (directive is_inner place a) others ks) (t ∷ []) (at c (conditionals inside) (conditionals between) None declared) (t.token ∷ []) []
+    → Led (Reads (directive is_inner place a) others ks) (t ∷ []) (at c (conditionals inside) (conditionals between) None declared) (t.token ∷ []) (missing_in t.ended (record { inside = inside; between = between }))
     (last_at (ended_in t.ended (record { inside = inside; between = between })) (declared_behind t declared) n v)
 reads_one (awaits.Condition wanted) (k ∷ ks) is_inner place others t inside between declared n v c hp hk waits si sb is plain =
     let base = record c { pending = others; conditions = ks } in
@@ -1379,12 +1483,14 @@ reads_one (awaits.Condition wanted) (k ∷ ks) is_inner place others t inside be
     let last = last_at (ended_in t.ended (record { inside = inside; between = between })) (declared_behind t declared) n v in
     let here = reading is_inner place a (with_condition k base) inner among declared in
     let now = asking_on place is_inner wanted next (saying quiet (too_much base.longest t.token next) (tokens_counted quiet next (at base inner among None declared))) in
+    let missing = missing_in t.ended (record { inside = inside; between = between }) in
     let same : here ≡ at c inner among None declared =
     ap (λ cs. at (record c { pending = directive is_inner place a ∷ others; conditions = cs }) inner among None declared) (sym hk)
     ∙ ap (λ ps. at (record c { pending = ps }) inner among None declared) (sym hp) in
-    subst (λ (x : Conditions). Led r (t ∷ []) x (t.token ∷ []) [] last) same
-    (takes r t here now last refl (next_goes is_inner wanted place t k base inner among declared plain.no_hash is.0 is.1)
-    (ended_stands (Reads (directive is_inner place a) others (next ∷ ks)) t.ended (AllStay inside between si sb) declared n v (awaits_it is_inner place a (with_condition next (counted quiet next base))) (refl, refl) waits (omega arith)))
+    subst (λ (x : Conditions). Led r (t ∷ []) x (t.token ∷ []) missing last) same
+    (takes r t here now missing last refl (next_goes is_inner wanted place t k base inner among declared plain.no_hash is.0 is.1)
+    (ended_stands (Reads (directive is_inner place a) others (next ∷ ks)) t.ended (AllStay inside between si sb) declared n v (awaits_it is_inner place a (with_condition next (counted quiet next base))) (refl, refl) waits (omega arith))
+    (ended_told t.ended (AllStay inside between si sb) declared base))
 reads_one (awaits.Condition wanted) [] is_inner place others t inside between declared n v c hp hk waits si sb is plain = absurd is
 reads_one awaits.Word ks is_inner place others t inside between declared n v c hp hk waits si sb is plain = absurd is
 reads_one (awaits.Name if_declared) ks is_inner place others t inside between declared n v c hp hk waits si sb is plain = absurd is
@@ -1392,11 +1498,12 @@ reads_one (awaits.End e) ks is_inner place others t inside between declared n v 
 
 one_kept : (r : Reader) (t : At) (inside between : List Open) (declared n : ℕ) (v : List (List Conditional)) (c : Conditions) → Holds r c → c.waiting ≡ v → are_kept inside ≡ true → are_kept between ≡ true
     → TakesAll r (t.token ∷ []) → IsPlain true (within r) t
-    → Led r (t ∷ []) (at c (conditionals inside) (conditionals between) None declared) (t.token ∷ []) []
+    → Led r (t ∷ []) (at c (conditionals inside) (conditionals between) None declared) (t.token ∷ []) (missing_in t.ended (record { inside = inside; between = between }))
     (last_at (ended_in t.ended (record { inside = inside; between = between })) (declared_behind t declared) n v)
 one_kept Hands t inside between declared n v c holds waits si sb takes plain =
-    keeps t (at c (conditionals inside) (conditionals between) None declared) (last_at (ended_in t.ended (record { inside = inside; between = between })) (declared_behind t declared) n v)
+    keeps t (at c (conditionals inside) (conditionals between) None declared) (missing_in t.ended (record { inside = inside; between = between })) (last_at (ended_in t.ended (record { inside = inside; between = between })) (declared_behind t declared) n v)
     (plain_kept t c (conditionals inside) (conditionals between) declared holds plain) (ended_stands Hands t.ended (AllStay inside between si sb) declared n v c holds waits (omega arith))
+    (ended_told t.ended (AllStay inside between si sb) declared c)
 one_kept (Reads p others ks) t inside between declared n v c holds waits si sb takes plain =
     reads_one p.awaits ks p.is_inner p.place others t inside between declared n v c holds.0 holds.1 waits si sb takes.0 plain
 
@@ -1404,20 +1511,21 @@ abbrev plain_last : At → Around → ℕ → ℕ → List (List Conditional) �
 plain_last t s declared n v = last_at (ended_in t.ended s) (declared_behind t declared) n v
 
 plain_gone : (d : Answers) (t : At) (r : Reader) (st : Stands) (declared n : ℕ) (v : List (List Conditional)) (c : Conditions) → all_kept (stack_of st) ≡ false → Holds r c → c.waiting ≡ v → levels_of st ≤ n → IsPlain false (within r) t
-    → n + length (t ∷ []) ≤ most_levels → Led r (t ∷ []) (stands_at c st declared) (kept_of (Plain t) (stack_of st)) [] (last_part d (Plain t) (stack_of st) declared n v)
+    → n + length (t ∷ []) ≤ most_levels → Led r (t ∷ []) (stands_at c st declared) (kept_of (Plain t) (stack_of st)) (missing_in t.ended (stack_of st)) (last_part d (Plain t) (stack_of st) declared n v)
 plain_gone d t r st declared n v c left holds waits few_st plain few =
-    subst (λ k. Led r (t ∷ []) (stands_at c st declared) (cond k (t.token ∷ []) []) [] (last_part d (Plain t) (stack_of st) declared n v)) (sym left)
-    (relaxed r (t ∷ []) (stands_at c st declared) [] [] (ended_in t.ended (stack_of st)) (declared_behind t declared) (declared_behind t declared) n (n + length (t ∷ [])) v refl (omega arith)
+    subst (λ k. Led r (t ∷ []) (stands_at c st declared) (cond k (t.token ∷ []) []) (missing_in t.ended (stack_of st)) (last_part d (Plain t) (stack_of st) declared n v)) (sym left)
+    (relaxed r (t ∷ []) (stands_at c st declared) [] (missing_in t.ended (stack_of st)) (ended_in t.ended (stack_of st)) (declared_behind t declared) (declared_behind t declared) n (n + length (t ∷ [])) v refl (omega arith)
+    (told_so r (t ∷ []) (stands_at c st declared) [] (missing_in t.ended (stack_of st) ++ []) (missing_in t.ended (stack_of st)) (plain_last t (stack_of st) declared n v) (append-nil (missing_in t.ended (stack_of st)))
     (left_token r (within r) t [] (stack_of st) declared n v (stands_at c st declared) [] [] (plain_last t (stack_of st) declared n v) (stands r st declared n v c holds waits few_st) left plain (omega (arith, few))
-    (λ x e. rests r x (plain_last t (stack_of st) declared n v) e)))
+    (λ x e. rests r x (plain_last t (stack_of st) declared n v) e))))
 
 plain_leads : (d : Answers) (t : At) → StandLeads d (Plain t)
 plain_leads d t r (AllStay inside between si sb) declared n v c holds waits few_st are takes few =
     let s : Around = record { inside = inside; between = between } in
     let here = at c (conditionals inside) (conditionals between) None declared in
     let all = both_kept inside between si sb in
-    subst (λ k. TakesAll r (cond k (t.token ∷ []) []) → Led r (t ∷ []) here (cond k (t.token ∷ []) []) [] (last_part d (Plain t) s declared n v)) (sym all)
-    (λ taken_so. relaxed r (t ∷ []) here (t.token ∷ []) [] (ended_in t.ended s) (declared_behind t declared) (declared_behind t declared) n (n + length (t ∷ [])) v refl (omega arith)
+    subst (λ k. TakesAll r (cond k (t.token ∷ []) []) → Led r (t ∷ []) here (cond k (t.token ∷ []) []) (missing_in t.ended s) (last_part d (Plain t) s declared n v)) (sym all)
+    (λ taken_so. relaxed r (t ∷ []) here (t.token ∷ []) (missing_in t.ended s) (ended_in t.ended s) (declared_behind t declared) (declared_behind t declared) n (n + length (t ∷ [])) v refl (omega arith)
     (one_kept r t inside between declared n v c holds waits si sb taken_so (subst (λ k. IsPlain k (within r) t) all are))) takes
 plain_leads d t r (InnerLeft deep x inside between left si sb) declared n v c holds waits few_st are takes few =
     plain_gone d t r (InnerLeft deep x inside between left si sb) declared n v c (inner_not_kept deep x inside between left) holds waits few_st (subst (λ k. IsPlain k (within r) t) (inner_not_kept deep x inside between left) are) few
@@ -1431,7 +1539,7 @@ signed_last sign t s declared n v = last_at (ended_in t.ended s) (declared_behin
 
 signed_left_led : (d : Answers) (is_inner : Bool) (sign t : At) (r : Reader) (st : Stands) (b : Bool) (m declared n : ℕ) (v : List (List Conditional)) (c : Conditions) → left_of st ≡ left_at b m → m ≤ n → all_kept (stack_of st) ≡ false → CalmLeft is_inner (inner_of st) b
     → Holds r c → c.waiting ≡ v → levels_of st ≤ n → IsSign is_inner sign → IsSignedPlain t → n + length (sign ∷ t ∷ []) ≤ most_levels
-    → Led r (sign ∷ t ∷ []) (stands_at c st declared) (kept_of (Signed is_inner sign t) (stack_of st)) [] (last_part d (Signed is_inner sign t) (stack_of st) declared n v)
+    → Led r (sign ∷ t ∷ []) (stands_at c st declared) (kept_of (Signed is_inner sign t) (stack_of st)) (missing_in t.ended (stack_of st)) (last_part d (Signed is_inner sign t) (stack_of st) declared n v)
 signed_left_led d is_inner sign t r st b m declared n v c is_left_at few_m left calm holds waits few_st is plain few =
     let inner = inner_of st in
     let among = among_of st in
@@ -1444,13 +1552,16 @@ signed_left_led d is_inner sign t r st b m declared n v c is_left_at few_m left 
     let behind : StandsAt r last (ended_behind t.ended (here now)) =
     subst (λ x. StandsAt r last (ended_behind t.ended (at c inner among x now))) is_left_at
     (ended_stands r t.ended st now (n + length (sign ∷ t ∷ [])) v c holds waits (omega (arith, few_st))) in
-    subst (λ k. Led r (sign ∷ t ∷ []) (stands_at c st declared) (cond k (hash place ∷ t.token ∷ []) []) [] last) (sym left)
-    (subst (λ (x : Conditions). Led r (sign ∷ t ∷ []) x [] [] last) same
-    (passes r sign (t ∷ []) (here declared) (held_back declared) (held_back now) [] [] last
+    let missing = missing_in t.ended (stack_of st) in
+    subst (λ k. Led r (sign ∷ t ∷ []) (stands_at c st declared) (cond k (hash place ∷ t.token ∷ []) []) missing last) (sym left)
+    (subst (λ (x : Conditions). Led r (sign ∷ t ∷ []) x [] missing last) same
+    (told_so r (sign ∷ t ∷ []) (here declared) [] (missing ++ []) missing last (append-nil missing)
+    (goes_by r sign (t ∷ []) (here declared) (held_back declared) (held_back now) [] (missing ++ []) last
     (sign_left sign c inner among b m declared is.is (omega (arith, few, few_m)))
     (mid is_inner sign c (Some place) inner among (left_at b m) declared is.goes_on (calm_at is_inner inner b m calm))
-    (passes r t [] (held_back now) (here now) (ended_behind t.ended (here now)) [] [] last
-    (signed_left t place c inner among b m now plain (omega (arith, few, few_m))) refl (rests r (ended_behind t.ended (here now)) last behind))))
+    (passes r t [] (held_back now) (here now) (ended_behind t.ended (here now)) [] missing [] last
+    (signed_left t place c inner among b m now plain (omega (arith, few, few_m))) refl
+    (ended_told t.ended st now c) (rests r (ended_behind t.ended (here now)) last behind)))))
 
 signed_leads : (d : Answers) (is_inner : Bool) (sign t : At) → StandLeads d (Signed is_inner sign t)
 signed_leads d is_inner sign t (Reads p others ks) (AllStay inside between si sb) declared n v c holds waits few_st are takes few =
@@ -1466,13 +1577,14 @@ signed_leads d true sign t Hands (AllStay inside between si sb) declared n v c h
     let is = subst (λ k. Begins k true false (Some sign) t) all are.0 in
     let last = last_part d (Signed true sign t) s declared n v in
     let both = hash place ∷ t.token ∷ [] in
-    subst (λ k. Led Hands (sign ∷ t ∷ []) here (cond k both []) [] last) (sym all)
-    (passes Hands sign (t ∷ []) here (state c (Some place) inner among None declared) (state c (Some place) inner among None now) both [] last
+    let missing = missing_in t.ended s in
+    subst (λ k. Led Hands (sign ∷ t ∷ []) here (cond k both []) missing last) (sym all)
+    (goes_by Hands sign (t ∷ []) here (state c (Some place) inner among None declared) (state c (Some place) inner among None now) both missing last
     (sign_inner sign c inner among declared (inner_front Hands sign c holds is.0) is.1.is)
     (mid true sign c (Some place) inner among None declared is.1.goes_on (λ e. absurd (no_false e)))
-    (keeps_both t place (state c (Some place) inner among None now) (at (given_up_so c) inner among None now) last
+    (keeps_both t place (state c (Some place) inner among None now) (at (given_up_so c) inner among None now) missing last
     (inside_kept place t c inner among now holds are.1.1.0)
-    (ended_stands Hands t.ended (AllStay inside between si sb) now (n + length (sign ∷ t ∷ [])) v (given_up_so c) refl waits (omega arith))))
+    (ended_stands Hands t.ended (AllStay inside between si sb) now (n + length (sign ∷ t ∷ [])) v (given_up_so c) refl waits (omega arith)) (ended_told t.ended (AllStay inside between si sb) now (given_up_so c))))
 signed_leads d false sign t Hands (AllStay [] between si sb) declared n v c holds waits few_st are takes few =
     let s : Around = record { inside = []; between = between } in
     let among = conditionals between in
@@ -1483,13 +1595,14 @@ signed_leads d false sign t Hands (AllStay [] between si sb) declared n v c hold
     let is = subst (λ k. Begins k false false (Some sign) t) all are.0 in
     let last = last_part d (Signed false sign t) s declared n v in
     let both = hash place ∷ t.token ∷ [] in
-    subst (λ k. Led Hands (sign ∷ t ∷ []) here (cond k both []) [] last) (sym all)
-    (passes Hands sign (t ∷ []) here (reading false place awaits.Word c [] among declared) (reading false place awaits.Word c [] among now) both [] last
+    let missing = missing_in t.ended s in
+    subst (λ k. Led Hands (sign ∷ t ∷ []) here (cond k both []) missing last) (sym all)
+    (goes_by Hands sign (t ∷ []) here (reading false place awaits.Word c [] among declared) (reading false place awaits.Word c [] among now) both missing last
     (sign_kept sign c [] among declared (outer_front sign c holds is.0) is.1.is)
     (mid false sign (awaits_it false place awaits.Word c) None [] among None declared tt (λ _. (refl, refl)))
-    (keeps_both t place (reading false place awaits.Word c [] among now) (at c [] among None now) last
+    (keeps_both t place (reading false place awaits.Word c [] among now) (at c [] among None now) missing last
     (front_kept place t c [] among now are.1.1.0)
-    (ended_stands Hands t.ended (AllStay [] between si sb) now (n + length (sign ∷ t ∷ [])) v c holds waits (omega arith))))
+    (ended_stands Hands t.ended (AllStay [] between si sb) now (n + length (sign ∷ t ∷ [])) v c holds waits (omega arith)) (ended_told t.ended (AllStay [] between si sb) now c)))
 signed_leads d false sign t Hands (AllStay (y ∷ inside) between si sb) declared n v c holds waits few_st are takes few = absurd (some_open [] y inside are.1.0)
 signed_leads d false sign t r (InnerLeft deep x inside between left si sb) declared n v c holds waits few_st are takes few = absurd (some_open deep x inside are.1.0)
 signed_leads d true sign t r (InnerLeft deep x inside between left si sb) declared n v c holds waits few_st are takes few =
@@ -1528,7 +1641,8 @@ EndingIs w act d is_within is_inner first parts end declared s k =
     × (NoneInside is_inner s × ((AreParts d (among is_within (cond k s (act s))) (cond k s (act s)) (declared_first first declared) parts × AddsNone d (cond k s (act s)) parts) × IsSemicolon end))
 
 abbrev ending_places : ConditionalWord → (Around → Around) → Answers → First → Parts → At → Around → Bool → List Place
-ending_places w act d first parts end s k = lone_parts d (cond k s (act s)) parts ++ lone_at w first end (cond k (behind_parts d s parts) s)
+ending_places w act d first parts end s k =
+    told_parts d (cond k s (act s)) parts ++ (lone_at w first end (cond k (behind_parts d s parts) s) ++ missing_in end.ended (cond k (act (behind_parts d s parts)) (behind_parts d (act s) parts)))
 
 abbrev ending_last : (Around → Around) → Answers → First → Parts → At → ℕ → ℕ → List (List Conditional) → Around → Bool → Last
 ending_last act d first parts end declared n v s k =
@@ -1561,9 +1675,10 @@ ending_kept w act e begins_so last_led d is_inner first parts end leads r declar
     let p = directive is_inner place a in
     let less = fewer first (tokens ++ end ∷ []) in
     let sum = length_both tokens (end ∷ []) in
-    let places = lone_parts d s parts ++ lone_at w first end l.around in
+    let places_end = lone_at w first end l.around ++ missing_in end.ended (act l.around) in
+    let places = told_parts d s parts ++ places_end in
     let rest : Led r (tokens ++ end ∷ []) start [] places last =
-    within_led d parts leads r (end ∷ []) is_inner place a c c.conditions c.conditions s now n v start (lone_at w first end l.around) last
+    within_led d parts leads r (end ∷ []) is_inner place a c c.conditions c.conditions s now n v start places_end last
     (record { base = awaits_it is_inner place a c; stand = AllStay inside between si sb; holds = (refl, refl); waits = waits; is = refl; stack = refl; few = omega arith })
     all (among_kept d (within r) s now parts all are.1.1.0.0) are.1.1.0.1.0 (takes_none kept_so (Reads p c.pending c.conditions) are.1.1.0.1.1) (reads_none kept_so (Reads p c.pending c.conditions) are.1.1.0.1.1) (omega (arith, few, less, sum))
     (λ base bw bi bb. last_led r is_inner first end l.around.inside l.around.between l.declared m v (record base { pending = c.pending; conditions = c.conditions }) (holds_on r c base holds) bw bi bb are.1.1.1) in
@@ -1587,28 +1702,31 @@ ending_left w act left_word d is_inner first parts end leads r st declared n v c
     let less = fewer first (tokens ++ end ∷ []) in
     let sum = length_both tokens (end ∷ []) in
     let alone = lone_at w first end s in
+    let missing = missing_in end.ended l.around in
     let none_lone : [] ≡ alone = sym (no_lone w first end s left) in
-    let places = lone_parts d x parts ++ alone in
+    let places = told_parts d x parts ++ (alone ++ missing) in
+    let told_end : missing ++ [] ≡ alone ++ missing = append-nil missing ∙ ap (λ ps. ps ++ missing) none_lone in
     let adds = are.1.1.0.1 in
     let still : all_kept x ≡ false → Further r r (tokens ++ end ∷ []) places (last_at x now n v) last = λ gone m e.
-    left_led d parts leads r (end ∷ []) x now n v m alone last e (among_left d (within r) x now parts gone are.1.1.0.0) adds.1 (omega (arith, few, less, sum))
-    (λ m2 e2. left_token r true end [] l.around l.declared l.levels v m2 [] alone last e2 (adds.0 ∙ gone) (semicolon_plain false true end are.1.1.1) (omega (arith, few, less, sum))
-    (λ m3 e3. told_so r [] m3 [] [] alone last none_lone (rests r m3 last e3))) in
+    left_led d parts leads r (end ∷ []) x now n v m (alone ++ missing) last e (among_left d (within r) x now parts gone are.1.1.0.0) adds.1 (omega (arith, few, less, sum))
+    (λ m2 e2. told_so r (end ∷ []) m2 [] (missing ++ []) (alone ++ missing) last told_end
+    (left_token r true end [] l.around l.declared l.levels v m2 [] [] last e2 (adds.0 ∙ gone) (semicolon_plain false true end are.1.1.1) (omega (arith, few, less, sum))
+    (λ m3 e3. rests r m3 last e3))) in
     let a = awaits.End effect.Nothing in
     let p = directive false place a in
     let ended : (inside between : List Open) → are_kept inside ≡ true → are_kept between ≡ true → record { inside = inside; between = between } ≡ x
     → Led r (tokens ++ end ∷ []) (reading false place a c (conditionals inside) (conditionals between) now) [] places last = λ inside between si sb is.
     let all : all_kept x ≡ true = sym (ap all_kept is) ∙ both_kept inside between si sb in
-    within_led d parts leads r (end ∷ []) false place a c c.conditions c.conditions x now n v (reading false place a c (conditionals inside) (conditionals between) now) alone last
+    within_led d parts leads r (end ∷ []) false place a c c.conditions c.conditions x now n v (reading false place a c (conditionals inside) (conditionals between) now) (alone ++ missing) last
     (record { base = awaits_it false place a c; stand = AllStay inside between si sb; holds = (refl, refl); waits = waits; is = refl; stack = is; few = omega arith })
     all (among_kept d (within r) x now parts all are.1.1.0.0) adds.0 (takes_none kept_so (Reads p c.pending c.conditions) adds.1) (reads_none kept_so (Reads p c.pending c.conditions) adds.1) (omega (arith, few, less, sum))
     (λ base bw bi bb.
     let after = record base { pending = c.pending; conditions = c.conditions } in
     let i = conditionals l.around.inside in
     let b = conditionals l.around.between in
-    told_so r (end ∷ []) (reading false place a after i b l.declared) [] [] alone last none_lone
-    (acts r end (reading false place a after i b l.declared) (at after i b None l.declared) None (unless_quiet end place) last (end_kept effect.Nothing false place end after i b l.declared are.1.1.1)
-    (ended_stands r end.ended (AllStay l.around.inside l.around.between bi bb) l.declared l.levels v after (holds_on r c base holds) bw (omega arith)))) in
+    told_as r end (reading false place a after i b l.declared) [] alone missing last none_lone
+    (acts r end (reading false place a after i b l.declared) (at after i b None l.declared) None (unless_quiet end place) missing last (end_kept effect.Nothing false place end after i b l.declared are.1.1.1)
+    (ended_stands r end.ended (AllStay l.around.inside l.around.between bi bb) l.declared l.levels v after (holds_on r c base holds) bw (omega arith)) (ended_told end.ended (AllStay l.around.inside l.around.between bi bb) l.declared after))) in
     relaxed r (directive_tokens first tokens end) (stands_at c st declared) [] places (ended_in end.ended l.around) (declared_behind end l.declared) (declared_tokens (directive_tokens first tokens end) declared) l.levels (n + length (directive_tokens first tokens end)) v
     (last_declared first tokens end declared) (omega (arith, less, sum))
     (left_word r r is_inner (within r) first (tokens ++ end ∷ []) st declared n v c places last holds waits few_st (omega (arith, few, less, sum)) left are.1.0 are.0 still ended)
@@ -1663,7 +1781,7 @@ AskingLed d is_inner wanted first parts end r st declared n v c k =
     let act : Around → Around = opened_more is_inner (asked_open d wanted first parts end s) in
     let toks = directive_tokens first (all_tokens parts) end in
     AskingIs d (within r) is_inner wanted first parts end declared s k
-    → Led r toks (stands_at c st declared) [] (lone_parts d (cond k s (act s)) parts)
+    → Led r toks (stands_at c st declared) [] (told_parts d (cond k s (act s)) parts ++ missing_in end.ended (cond k (act (behind_parts d s parts)) (behind_parts d (act s) parts)))
     (last_at (ended_in end.ended (cond k (act (behind_parts d s parts)) (behind_parts d (act s) parts))) (declared_tokens toks declared) (n + length toks) v)
 
 asking_kept : (d : Answers) (is_inner wanted : Bool) (first : First) (parts : Parts) (end : At) → Leads d parts → (r : Reader) (declared n : ℕ) (v : List (List Conditional)) (c : Conditions) → Holds r c → c.waiting ≡ v
@@ -1694,10 +1812,11 @@ asking_kept d is_inner wanted first parts end leads r declared n v c holds waits
     let p = directive is_inner place a in
     let less = fewer first (tokens ++ end ∷ []) in
     let sum = length_both tokens (end ∷ []) in
-    let places = lone_parts d s parts ++ [] in
+    let missing = missing_in end.ended (opened_more is_inner (new_open place stays) l.around) in
+    let places = told_parts d s parts ++ missing in
     let taken_last = last_taken kept_so end begun_so condition.are_taken in
     let rest : Led r (tokens ++ end ∷ []) start [] places last =
-    within_led d parts leads r (end ∷ []) is_inner place a c (begun_so ∷ c.conditions) (read ∷ c.conditions) s now n v start [] last
+    within_led d parts leads r (end ∷ []) is_inner place a c (begun_so ∷ c.conditions) (read ∷ c.conditions) s now n v start missing last
     (record { base = awaits_it is_inner place a (with_condition begun_so c); stand = AllStay inside between si sb; holds = (refl, refl); waits = waits; is = refl; stack = refl; few = omega arith })
     all (among_kept d (within r) s now parts all are.1.1.0.0) are.1.1.0.1 (takes_condition kept_so end begun_so is_inner wanted place c.pending c.conditions condition.are_taken)
     (read_condition kept_so p c.pending begun_so c.conditions) (omega (arith, few, less, sum))
@@ -1707,15 +1826,15 @@ asking_kept d is_inner wanted first parts end leads r declared n v c holds waits
     let b = conditionals l.around.between in
     let said = cond end.site.is_quiet None (told_by place whole verdict.finding) in
     let opened_now : Bool → Conditions = λ x. record (opened_at is_inner x place after i b l.declared) { said = said } in
-    acts r end (reading is_inner place a (with_condition read after) i b l.declared) (opened_now stays) None (unless_quiet end place) last
+    acts r end (reading is_inner place a (with_condition read after) i b l.declared) (opened_now stays) None (unless_quiet end place) missing last
     (next_ends is_inner wanted place end read after i b l.declared are.1.1.1.0.no_hash taken_last.0 taken_last.1
     ∙ ap (λ x. ended_so (opened_now x) None (unless_quiet end place)) agrees)
-    (opened_stands r is_inner stays place end l.around.inside l.around.between l.declared m v after (holds_on r c base holds) bw bi bb are.1.1.1.1.1)) in
-    relaxed r (directive_tokens first tokens end) (at c inner among_now None declared) [] (lone_parts d s parts) last.around (declared_behind end l.declared) (declared_tokens (directive_tokens first tokens end) declared) m m v
+    (opened_stands r is_inner stays place end l.around.inside l.around.between l.declared m v after (holds_on r c base holds) bw bi bb are.1.1.1.1.1)
+    (opened_told is_inner stays place end l.around.inside l.around.between l.declared after bi bb)) in
+    relaxed r (directive_tokens first tokens end) (at c inner among_now None declared) [] places last.around (declared_behind end l.declared) (declared_tokens (directive_tokens first tokens end) declared) m m v
     (last_declared first tokens end declared) (omega arith)
-    (told_so r (directive_tokens first tokens end) (at c inner among_now None declared) [] places (lone_parts d s parts) last (append-nil (lone_parts d s parts))
     (begins_kept r r is_inner (asking wanted) a first.sign first.word (tokens ++ end ∷ []) c (with_condition begun_so c) inner among_now declared places last holds are.0.begins are.0.is are.0.goes_on
-    (λ x. begun_asking is_inner wanted first.word.token place c inner among_now x condition.begins) (calm_open is_inner inside between are.1.0) rest))
+    (λ x. begun_asking is_inner wanted first.word.token place c inner among_now x condition.begins) (calm_open is_inner inside between are.1.0) rest)
 
 asking_left : (d : Answers) (is_inner wanted : Bool) (first : First) (parts : Parts) (end : At) → Leads d parts → (r : Reader) (st : Stands) (declared n : ℕ) (v : List (List Conditional)) (c : Conditions) → Holds r c → c.waiting ≡ v → levels_of st ≤ n
     → n + length (directive_tokens first (all_tokens parts) end) ≤ most_levels → all_kept (stack_of st) ≡ false → AskingLed d is_inner wanted first parts end r st declared n v c false
@@ -1730,15 +1849,16 @@ asking_left d is_inner wanted first parts end leads r st declared n v c holds wa
     let last = last_at (ended_in end.ended l.around) (declared_behind end l.declared) l.levels v in
     let less = fewer first (tokens ++ end ∷ []) in
     let sum = length_both tokens (end ∷ []) in
-    let places = lone_parts d x parts ++ [] in
+    let missing = missing_in end.ended l.around in
+    let places = told_parts d x parts ++ missing in
     let toks = directive_tokens first tokens end in
-    relaxed r toks (stands_at c st declared) [] (lone_parts d x parts) (ended_in end.ended l.around) (declared_behind end l.declared) (declared_tokens toks declared) l.levels (n + length toks) v
+    relaxed r toks (stands_at c st declared) [] places (ended_in end.ended l.around) (declared_behind end l.declared) (declared_tokens toks declared) l.levels (n + length toks) v
     (last_declared first tokens end declared) (omega (arith, less, sum))
-    (told_so r toks (stands_at c st declared) [] places (lone_parts d x parts) last (append-nil (lone_parts d x parts))
     (opens_left r r is_inner (within r) (asking wanted) first (tokens ++ end ∷ []) more st declared n v c places last holds waits few_st (omega (arith, few, less, sum)) left are.1.0 are.0 (λ m b. asking_stays wanted m b) (asking_level wanted)
     (λ m e.
-    left_led d parts leads r (end ∷ []) x now (n + 1) v m [] last e (among_left d (within r) x now parts gone are.1.1.0.0) are.1.1.1.1.0 (omega (arith, few, less, sum))
-    (λ m2 e2. left_token r true end [] l.around l.declared l.levels v m2 [] [] last e2 (are.1.1.0.1 ∙ gone) are.1.1.1.0 (omega (arith, few, less, sum))
+    left_led d parts leads r (end ∷ []) x now (n + 1) v m missing last e (among_left d (within r) x now parts gone are.1.1.0.0) are.1.1.1.1.0 (omega (arith, few, less, sum))
+    (λ m2 e2. told_so r (end ∷ []) m2 [] (missing ++ []) missing last (append-nil missing)
+    (left_token r true end [] l.around l.declared l.levels v m2 [] [] last e2 (are.1.1.0.1 ∙ gone) are.1.1.1.0 (omega (arith, few, less, sum))
     (λ m3 e3. rests r m3 last e3)))))
 
 asking_leads : (d : Answers) (is_inner wanted : Bool) (first : First) (parts : Parts) (end : At) → Leads d parts → StandLeads d (Asking is_inner wanted first parts end)
@@ -1776,7 +1896,9 @@ OpeningLed d is_inner if_declared first before name behind end r st declared n v
     let x = cond k s (act s) in
     let toks = opening_tokens first before name behind end in
     OpeningIs d (within r) is_inner if_declared first before name behind end declared s k
-    → Led r toks (stands_at c st declared) [] (lone_parts d x before ++ lone_parts d (behind_name d before name x) behind)
+    → Led r toks (stands_at c st declared) []
+    (told_parts d x before ++ (missing_in name.ended (behind_parts d x before) ++ (told_parts d (behind_name d before name x) behind
+    ++ missing_in end.ended (cond k (act (behind_parts d (behind_name d before name s) behind)) (behind_parts d (behind_name d before name (act s)) behind)))))
     (last_at (ended_in end.ended (cond k (act (behind_parts d (behind_name d before name s) behind)) (behind_parts d (behind_name d before name (act s)) behind))) (declared_tokens toks declared) (n + length toks) v)
 
 opening_declared : (first : First) (before : Parts) (name : At) (behind : Parts) (end : At) (declared : ℕ)
@@ -1815,22 +1937,24 @@ opening_kept d is_inner if_declared first before name behind end leads_before le
     let less = fewer first (all_tokens before ++ name ∷ rest_behind) in
     let sum = length_both (all_tokens before) (name ∷ rest_behind) in
     let sum_behind = length_both (all_tokens behind) (end ∷ []) in
-    let places_behind = lone_parts d y behind in
-    let places = lone_parts d s before ++ places_behind in
+    let missing = missing_in end.ended (opened_more is_inner (new_open place stays) l2.around) in
+    let places_behind = told_parts d y behind ++ missing in
+    let places_name = missing_in name.ended l.around ++ places_behind in
+    let places = told_parts d s before ++ places_name in
     let adds = are.1.1.0.1 in
     let adds_behind = are.1.1.1.1.0.1 in
     let all_behind_name : all_kept y ≡ true = are.1.1.1.0.1.1 ∙ all in
     let further : (base : Conditions) → base.waiting ≡ v → are_kept l.around.inside ≡ true → are_kept l.around.between ≡ true
-    → Led r (name ∷ rest_behind) (reading is_inner place waits_name (record base { pending = c.pending; conditions = c.conditions }) (conditionals l.around.inside) (conditionals l.around.between) l.declared) [] places_behind last = λ base bw bi bb.
+    → Led r (name ∷ rest_behind) (reading is_inner place waits_name (record base { pending = c.pending; conditions = c.conditions }) (conditionals l.around.inside) (conditionals l.around.between) l.declared) [] places_name last = λ base bw bi bb.
     let after = record base { pending = c.pending; conditions = c.conditions } in
     let i = conditionals l.around.inside in
     let b = conditionals l.around.between in
     let named_so = reading is_inner place waits_end after i b l.declared in
     let p = directive is_inner place waits_end in
     let there = ended_behind name.ended named_so in
-    passes r name rest_behind (reading is_inner place waits_name after i b l.declared) named_so there [] places_behind last (name_kept is_inner if_declared place name after i b l.declared are.1.1.1.0.0.is) refl
-    (told_so r rest_behind there [] (places_behind ++ []) places_behind last (append-nil places_behind)
-    (within_led d behind leads_behind r (end ∷ []) is_inner place waits_end after after.conditions after.conditions y later l.levels v there [] last
+    passes r name rest_behind (reading is_inner place waits_name after i b l.declared) named_so there [] (missing_in name.ended l.around) places_behind last (name_kept is_inner if_declared place name after i b l.declared are.1.1.1.0.0.is) refl
+    (ended_told name.ended (AllStay l.around.inside l.around.between bi bb) l.declared (awaits_it is_inner place waits_end after))
+    (within_led d behind leads_behind r (end ∷ []) is_inner place waits_end after after.conditions after.conditions y later l.levels v there missing last
     (ended_stands (Reads p after.pending after.conditions) name.ended (AllStay l.around.inside l.around.between bi bb) l.declared l.levels v (awaits_it is_inner place waits_end after) (refl, refl) bw (omega arith))
     all_behind_name (among_kept d (within r) y later behind all_behind_name are.1.1.1.1.0.0) adds_behind.0
     (takes_none (kept_sides d y behind) (Reads p after.pending after.conditions) adds_behind.1) (reads_none (kept_sides d y behind) (Reads p after.pending after.conditions) adds_behind.1) (omega (arith, few, less, sum, sum_behind))
@@ -1838,13 +1962,14 @@ opening_kept d is_inner if_declared first before name behind end leads_before le
     let last_base = record base2 { pending = after.pending; conditions = after.conditions } in
     let i2 = conditionals l2.around.inside in
     let b2 = conditionals l2.around.between in
-    acts r end (reading is_inner place waits_end last_base i2 b2 l2.declared) (opened_at is_inner stays place last_base i2 b2 l2.declared) None (unless_quiet end place) last
+    acts r end (reading is_inner place waits_end last_base i2 b2 l2.declared) (opened_at is_inner stays place last_base i2 b2 l2.declared) None (unless_quiet end place) missing last
     (end_kept (effect.Opens is_so) is_inner place end last_base i2 b2 l2.declared are.1.1.1.1.1.0
     ∙ ap (λ x. ended_so (opened_at is_inner x place last_base i2 b2 l2.declared) None (unless_quiet end place)) agrees)
-    (opened_stands r is_inner stays place end l2.around.inside l2.around.between l2.declared m v last_base (holds_on r c base2 holds) bw2 bi2 bb2 are.1.1.1.1.1.1)))) in
+    (opened_stands r is_inner stays place end l2.around.inside l2.around.between l2.declared m v last_base (holds_on r c base2 holds) bw2 bi2 bb2 are.1.1.1.1.1.1)
+    (opened_told is_inner stays place end l2.around.inside l2.around.between l2.declared last_base bi2 bb2))) in
     let p_name = directive is_inner place waits_name in
     let rest : Led r (all_tokens before ++ name ∷ rest_behind) start [] places last =
-    within_led d before leads_before r (name ∷ rest_behind) is_inner place waits_name c c.conditions c.conditions s now n v start places_behind last
+    within_led d before leads_before r (name ∷ rest_behind) is_inner place waits_name c c.conditions c.conditions s now n v start places_name last
     (record { base = awaits_it is_inner place waits_name c; stand = AllStay inside between si sb; holds = (refl, refl); waits = waits; is = refl; stack = refl; few = omega arith })
     all (among_kept d (within r) s now before all are.1.1.0.0) adds.0
     (takes_none (kept_sides d s before) (Reads p_name c.pending c.conditions) adds.1) (reads_none (kept_sides d s before) (Reads p_name c.pending c.conditions) adds.1) (omega (arith, few, less, sum)) further in
@@ -1871,23 +1996,25 @@ opening_left d is_inner if_declared first before name behind end leads_before le
     let less = fewer first (all_tokens before ++ name ∷ rest_behind) in
     let sum = length_both (all_tokens before) (name ∷ rest_behind) in
     let sum_behind = length_both (all_tokens behind) (end ∷ []) in
-    let places_behind = lone_parts d y behind in
-    let places = lone_parts d x before ++ places_behind in
+    let missing = missing_in end.ended l2.around in
+    let places_behind = told_parts d y behind ++ missing in
+    let places_name = missing_in name.ended l.around ++ places_behind in
+    let places = told_parts d x before ++ places_name in
     let adds = are.1.1.0.1 in
     let adds_behind = are.1.1.1.1.0.1 in
     let gone_behind : all_kept y ≡ false = are.1.1.1.0.1.1 ∙ gone in
     let name_is = are.1.1.1.0.0 in
-    let from_name : Further r r (name ∷ rest_behind) places_behind l last = λ m e.
+    let from_name : Further r r (name ∷ rest_behind) places_name l last = λ m e.
     left_token r true name rest_behind l.around l.declared l.levels v m [] places_behind last e (adds.0 ∙ gone) (name_plain true name name_is.is (name_is.no_word refl)) (omega (arith, few, less, sum))
     (λ m2 e2.
-    told_so r rest_behind m2 [] (places_behind ++ []) places_behind last (append-nil places_behind)
-    (left_led d behind leads_behind r (end ∷ []) y later l.levels v m2 [] last e2 (among_left d (within r) y later behind gone_behind are.1.1.1.1.0.0) adds_behind.1 (omega (arith, few, less, sum, sum_behind))
-    (λ m3 e3. left_token r true end [] l2.around l2.declared l2.levels v m3 [] [] last e3 (adds_behind.0 ∙ gone_behind) (semicolon_plain false true end are.1.1.1.1.1.0) (omega (arith, few, less, sum, sum_behind))
+    left_led d behind leads_behind r (end ∷ []) y later l.levels v m2 missing last e2 (among_left d (within r) y later behind gone_behind are.1.1.1.1.0.0) adds_behind.1 (omega (arith, few, less, sum, sum_behind))
+    (λ m3 e3. told_so r (end ∷ []) m3 [] (missing ++ []) missing last (append-nil missing)
+    (left_token r true end [] l2.around l2.declared l2.levels v m3 [] [] last e3 (adds_behind.0 ∙ gone_behind) (semicolon_plain false true end are.1.1.1.1.1.0) (omega (arith, few, less, sum, sum_behind))
     (λ m4 e4. rests r m4 last e4)))) in
     relaxed r toks (stands_at c st declared) [] places (ended_in end.ended l2.around) (declared_behind end l2.declared) (declared_tokens toks declared) l2.levels (n + length toks) v
     (opening_declared first before name behind end declared) (omega (arith, less, sum, sum_behind))
     (opens_left r r is_inner (within r) (opening if_declared) first (all_tokens before ++ name ∷ rest_behind) more st declared n v c places last holds waits few_st (omega (arith, few, less, sum)) left are.1.0 are.0 (λ m b. opening_stays if_declared m b) (opening_level if_declared)
-    (λ m e. left_led d before leads_before r (name ∷ rest_behind) x now (n + 1) v m places_behind last e (among_left d (within r) x now before gone are.1.1.0.0) adds.1 (omega (arith, few, less, sum)) from_name))
+    (λ m e. left_led d before leads_before r (name ∷ rest_behind) x now (n + 1) v m places_name last e (among_left d (within r) x now before gone are.1.1.0.0) adds.1 (omega (arith, few, less, sum)) from_name))
 
 opening_leads : (d : Answers) (is_inner if_declared : Bool) (first : First) (before : Parts) (name : At) (behind : Parts) (end : At) → Leads d before → Leads d behind → StandLeads d (Opening is_inner if_declared first before name behind end)
 opening_leads d is_inner if_declared first before name behind end leads_before leads_behind r st declared n v c holds waits few_st are takes few = go (all_kept (stack_of st)) refl are
@@ -1944,14 +2071,14 @@ passed_leads d is_inner word.Iffalse first r st declared n v c holds waits few_s
 abbrev PartLeads : Answers → Part → Type 0
 PartLeads d part = (r : Reader) (s : Around) (declared n : ℕ) (v : List (List Conditional)) (c : Conditions) → StandsAt r (last_at s declared n v) c → IsPart d (within r) s declared part → TakesAll r (kept_of part s)
     → n + length (part_tokens part) ≤ most_levels
-    → Led r (part_tokens part) c (kept_of part s) (lone_of d part s) (last_part d part s declared n v)
+    → Led r (part_tokens part) c (kept_of part s) (told_of d part s) (last_part d part s declared n v)
 
 part_from : (d : Answers) (part : Part) → StandLeads d part → PartLeads d part
 part_from d part leads r s declared n v c e are takes few =
     let P : Around → Type 0 = λ x. IsPart d (within r) x declared part → TakesAll r (kept_of part x)
-    → Led r (part_tokens part) (stands_at e.base e.stand declared) (kept_of part x) (lone_of d part x) (last_part d part x declared n v) in
+    → Led r (part_tokens part) (stands_at e.base e.stand declared) (kept_of part x) (told_of d part x) (last_part d part x declared n v) in
     let led : P s = subst P e.stack (λ are_so takes_so. leads r e.stand declared n v e.base e.holds e.waits e.few are_so takes_so few) in
-    subst (λ (x : Conditions). Led r (part_tokens part) x (kept_of part s) (lone_of d part s) (last_part d part s declared n v)) (sym e.is) (led are takes)
+    subst (λ (x : Conditions). Led r (part_tokens part) x (kept_of part s) (told_of d part s) (last_part d part s declared n v)) (sym e.is) (led are takes)
 
 none_leads : (d : Answers) → Leads d NoParts
 none_leads d r s declared n v c e are takes few =
@@ -1969,9 +2096,9 @@ then_leads d part parts leads_part leads r s declared n v c e are takes few =
     let q = read_on kept_so r in
     let l2 = last_behind d parts l.around l.declared l.levels v in
     let second = leads q l.around l.declared l.levels v there first.ends (subst (λ b. AreParts d b l.around l.declared parts) (sym (within_same kept_so r)) are.1) both.1 (omega (arith, few, sum)) in
-    relaxed r (toks ++ all_tokens parts) c (kept_so ++ kept_sides d l.around parts) (lone_of d part s ++ lone_parts d l.around parts) l2.around l2.declared (declared_tokens (toks ++ all_tokens parts) declared) l2.levels (n + length (toks ++ all_tokens parts)) v
+    relaxed r (toks ++ all_tokens parts) c (kept_so ++ kept_sides d l.around parts) (told_of d part s ++ told_parts d l.around parts) l2.around l2.declared (declared_tokens (toks ++ all_tokens parts) declared) l2.levels (n + length (toks ++ all_tokens parts)) v
     (sym (declared_both toks (all_tokens parts) declared)) (omega (arith, sum))
-    (joined r toks (all_tokens parts) c kept_so (kept_sides d l.around parts) (lone_of d part s) (lone_parts d l.around parts) l l2 first second)
+    (joined r toks (all_tokens parts) c kept_so (kept_sides d l.around parts) (told_of d part s) (told_parts d l.around parts) l l2 first second)
 
 mutual
   part_led : (d : Answers) (part : Part) → PartLeads d part
@@ -1990,26 +2117,6 @@ mutual
 
 -- What is open at last
 
-outer_kept : (around : List Open) → are_kept around ≡ true → outer around ≡ around
-outer_kept [] stay = refl
-outer_kept (x ∷ around) stay =
-    let kept_so = (kept_head x around stay).1 in
-    ap (λ b. cond b (x ∷ outer around) (outer around)) kept_so ∙ ap (λ xs. x ∷ xs) (outer_kept around kept_so)
-
-outer_left : (deep : List Open) (x : Open) (around : List Open) → x.stays ≡ false → are_kept around ≡ true → outer (deep ++ x ∷ around) ≡ x ∷ around
-outer_left [] x around left stay = ap (λ b. cond b (x ∷ outer around) (outer around)) stay ∙ ap (λ xs. x ∷ xs) (outer_kept around stay)
-outer_left (y ∷ deep) x around left stay =
-    ap (λ b. cond b (y ∷ outer (deep ++ x ∷ around)) (outer (deep ++ x ∷ around))) (not_kept deep x around left) ∙ outer_left deep x around left stay
-
-pub record AreOpen (last : Around) (inner among : List Conditional) : Type 0 where
-  pub inside : inner ≡ conditionals (outer last.inside)
-  pub between : among ≡ conditionals (outer last.between)
-
-pub are_open : (st : Stands) → AreOpen (stack_of st) (inner_of st) (among_of st)
-are_open (AllStay inside between si sb) = record { inside = sym (ap conditionals (outer_kept inside si)); between = sym (ap conditionals (outer_kept between sb)) }
-are_open (InnerLeft deep x inside between left si sb) = record { inside = sym (ap conditionals (outer_left deep x inside left si)); between = sym (ap conditionals (outer_kept between sb)) }
-are_open (OuterLeft deep x between left sb) = record { inside = refl; between = sym (ap conditionals (outer_left deep x between left sb)) }
-
 pub open_of : (r : Reader) (last : Last) (c : Conditions) → StandsAt r last c → AreOpen last.around c.inner c.among
 open_of r last c e =
     let all = are_open e.stand in
@@ -2017,20 +2124,6 @@ open_of r last c e =
       inside = ap (λ (x : Conditions). x.inner) e.is ∙ all.inside ∙ ap (λ (s : Around). conditionals (outer s.inside)) e.stack;
       between = ap (λ (x : Conditions). x.among) e.is ∙ all.between ∙ ap (λ (s : Around). conditionals (outer s.between)) e.stack;
     }
-
-pub unended_is : (around : List Open) → unended around ≡ map place_of (reverse (conditionals (outer around)))
-unended_is [] = refl
-unended_is (x ∷ around) = go (are_kept around) (unended_is around)
-  where
-    rest : List Conditional
-    rest = conditionals (outer around)
-
-    go : (b : Bool) → unended around ≡ map place_of (reverse rest) → unended around ++ cond b (x.place ∷ []) [] ≡ map place_of (reverse (conditionals (cond b (x ∷ outer around) (outer around))))
-    go true is =
-        ap (λ ps. ps ++ x.place ∷ []) is
-        ∙ sym (map-append place_of (reverse rest) (conditional_of x ∷ []))
-        ∙ sym (ap (map place_of) (reverse-append (conditional_of x ∷ []) rest))
-    go false is = append-nil (unended around) ∙ is
 
 told_all : (files : FileNames) (cs : List Conditional) (around : List Open) (r : Reported) → cs ≡ conditionals (outer around) → with_all_lone files (reverse cs) r ≡ with_all_at files (unended around) r
 told_all files cs around r e =
@@ -2061,7 +2154,7 @@ one_side_is_kept d parts c clear file =
     let open_so = open_of Hands l behind ends in
     record {
       handed_on = all.hands ∙ all_handed kept_so;
-      lone = all.tells;
+      told = all.tells;
       in_file = λ end files r is_last.
           let now = (judged_at end behind).now in
           let same = end_stays end behind is_last (ap (λ (x : Conditions). x.pending) ends.is ∙ ends.holds) (ap (λ (x : Conditions). x.sign) ends.is) in

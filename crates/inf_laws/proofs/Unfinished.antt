@@ -24,9 +24,9 @@ use Rattle.inf_conditionals.specs.declared.words.ConditionalWord.TheVariants as 
 use Rattle.inf_conditionals.specs.Judging.{Behind, behind_sign, begun, is_none_pending, effected, is_kept, kept, held, named, none_handed, awaiting, passed, unfit, went_on}
 use Rattle.inf_conditionals.specs.Open.{Conditions, most_levels}
 use Rattle.inf_conditionals.proofs.Misfits.{end_fits_nothing}
-use Rattle.inf_laws.specs.KeptSides.{AddsNone, Answers, AreParts, Around, At, First, IsFirst, IsSignedPlain, NoneInside, Open, Parts, all_behind, all_handed_on, all_kept, all_lone_places, all_tokens, are_kept, asking, before_parts, begins, behind_name, behind_parts, closed, condition_behind, declared_behind, declared_first, declared_tokens, ended_behind, ended_in, first_tokens, judged_at, kept_sides, lone_parts, opening, placed_word, turned}
-use Rattle.inf_laws.specs.Unfinished.{Asked, AreBegun, AreCutBy, Closes, GoOn, IsBegun, IsCutBy, Named, Turns, Unfinished, Unnamed, all_begun_tokens, behind_all_begun, behind_begun, begun_tokens, condition_so, lone_all_begun, lone_begun}
-use Rattle.inf_laws.proofs.KeptSides.{AllStay, Holds, InnerLeft, Last, Leads, LeftLed, Led, OuterLeft, Reader, Reads, Stands, StandsAt, TakesAll, at, awaits_it, begins_kept, begun_asking, begun_opening, behind_both, both_kept, calm_open, closes_left, conditionals, declared_behind_first, declared_both, directive, ended_stands, fewer, hands_both, inner_not_kept, kept_at, last_at, last_behind, led, length_both, name_kept, not_kept, nothing_handed, passes, read_condition, read_on, reading, reads_none, relaxed, rests, sign_inner, stack_of, stands_at, state, takes_none, tells_both, told_so, turns_left, with_condition, within, within_led}
+use Rattle.inf_laws.specs.KeptSides.{Answers, AreParts, Around, At, First, IsFirst, IsSignedPlain, NoneInside, Parts, all_behind, all_handed_on, all_kept, all_tokens, all_told, are_kept, asking, before_parts, begins, behind_name, behind_parts, closed, declared_behind, declared_first, declared_tokens, ended_behind, ended_in, first_tokens, judged_at, kept_sides, missing_in, opening, placed_word, told_parts, turned}
+use Rattle.inf_laws.specs.Unfinished.{Asked, AreBegun, AreCutBy, Closes, GoOn, IsBegun, IsCutBy, Named, Turns, Unfinished, Unnamed, all_begun_tokens, behind_all_begun, behind_begun, begun_tokens, condition_so, told_all_begun, told_begun}
+use Rattle.inf_laws.proofs.KeptSides.{AllStay, Holds, InnerLeft, Last, Led, LeftLed, OuterLeft, Reader, Reads, Stands, StandsAt, TakesAll, at, awaits_it, begins_kept, begun_asking, begun_opening, behind_both, calm_open, closes_left, conditionals, declared_behind_first, declared_both, directive, ended_stands, ended_told, fewer, hands_both, inner_not_kept, kept_at, last_at, last_behind, led, length_both, name_kept, not_kept, nothing_handed, passes, read_condition, read_on, reading, reads_none, relaxed, sign_inner, stack_of, stands_at, state, takes_none, tells_both, turns_left, with_condition, within, within_led}
 
 -- what the innermost one waits for
 abbrev IsAwaited : Unfinished → Awaits → Type 0
@@ -92,7 +92,7 @@ name_stays (Some now) s all = go (are_kept s.inside) all
 parts_read : (d : Answers) (parts : Parts) (p : Pending) (others : List Pending) (ks after : List Condition) (s : Around) (declared n : ℕ) (v : List (List Conditional)) (c : Conditions)
     → StandsAt (Reads p others ks) (last_at s declared n v) c → AreParts d true s declared parts → TakesAll (Reads p others ks) (kept_sides d s parts)
     → read_on (kept_sides d s parts) (Reads p others ks) ≡ Reads p others after → n + length (all_tokens parts) ≤ most_levels
-    → Led (Reads p others after) (all_tokens parts) c [] (lone_parts d s parts) (last_behind d parts s declared n v)
+    → Led (Reads p others after) (all_tokens parts) c [] (told_parts d s parts) (last_behind d parts s declared n v)
 parts_read d parts p others ks after s declared n v c e are takes read few =
     let l = last_behind d parts s declared n v in
     let is = led d parts (Reads p others ks) s declared n v c e are takes few in
@@ -120,7 +120,7 @@ begun_kept : (d : Answers) (parts : Parts) (r : Reader) (is_inner : Bool) (w : C
     ≡ passed (reading is_inner (begins first) a (record base { conditions = ks }) (conditionals s.inside) (conditionals s.between) m))
     → AreParts d true s (declared_first first declared) parts → TakesAll (Reads p base.pending ks) (kept_sides d s parts)
     → read_on (kept_sides d s parts) (Reads p base.pending ks) ≡ Reads p base.pending after → n + length (first_tokens first (all_tokens parts)) ≤ most_levels
-    → Led (Reads p base.pending after) (first_tokens first (all_tokens parts)) c [] (lone_parts d s parts)
+    → Led (Reads p base.pending after) (first_tokens first (all_tokens parts)) c [] (told_parts d s parts)
     (last_at (behind_parts d s parts) (declared_tokens (first_tokens first (all_tokens parts)) declared) (n + length (first_tokens first (all_tokens parts))) v)
 begun_kept d parts r is_inner w a first ks after s declared n v c base holds waits si sb is is_first none begins_so are takes read few =
     let p = directive is_inner (begins first) a in
@@ -133,9 +133,9 @@ begun_kept d parts r is_inner w a first ks after s declared n v c base holds wai
     let less = fewer first (all_tokens parts) in
     let start : StandsAt (Reads p base.pending ks) (last_at s now n v) (reading is_inner (begins first) a (record base { conditions = ks }) inner among now) =
     record { base = awaits_it is_inner (begins first) a (record base { conditions = ks }); stand = AllStay s.inside s.between si sb; holds = (refl, refl); waits = waits; is = refl; stack = refl; few = omega arith } in
-    subst (λ (x : Conditions). Led q toks x [] (lone_parts d s parts) (last_at l.around (declared_tokens toks declared) (n + length toks) v)) (sym is)
-    (relaxed q toks (at base inner among None declared) [] (lone_parts d s parts) l.around l.declared (declared_tokens toks declared) l.levels (n + length toks) v (begun_declared first (all_tokens parts) declared) (omega (arith, less))
-    (begins_kept r q is_inner w a first.sign first.word (all_tokens parts) base (record base { conditions = ks }) inner among declared (lone_parts d s parts) l holds is_first.begins is_first.is is_first.goes_on begins_so
+    subst (λ (x : Conditions). Led q toks x [] (told_parts d s parts) (last_at l.around (declared_tokens toks declared) (n + length toks) v)) (sym is)
+    (relaxed q toks (at base inner among None declared) [] (told_parts d s parts) l.around l.declared (declared_tokens toks declared) l.levels (n + length toks) v (begun_declared first (all_tokens parts) declared) (omega (arith, less))
+    (begins_kept r q is_inner w a first.sign first.word (all_tokens parts) base (record base { conditions = ks }) inner among declared (told_parts d s parts) l holds is_first.begins is_first.is is_first.goes_on begins_so
     (calm_open is_inner s.inside s.between none)
     (parts_read d parts p base.pending ks after s now n v (reading is_inner (begins first) a (record base { conditions = ks }) inner among now) start are takes read (omega (arith, few, less)))))
 
@@ -143,7 +143,7 @@ begun_kept d parts r is_inner w a first ks after s declared n v c base holds wai
 begun_left : (w : ConditionalWord) (act : Around → Around) → LeftLed w act → (d : Answers) (parts : Parts) (r : Reader) (is_inner : Bool) (first : First) (s : Around) (declared n : ℕ) (v : List (List Conditional)) (c : Conditions)
     → (e : StandsAt r (last_at s declared n v) c) → all_kept s ≡ false → all_kept (act s) ≡ true → IsFirst false is_inner (within r) w first → NoneInside is_inner s
     → AreParts d true (act s) (declared_first first declared) parts → kept_sides d (act s) parts ≡ [] → n + length (first_tokens first (all_tokens parts)) ≤ most_levels
-    → Led (Reads (directive false (begins first) (awaits.End effect.Nothing)) e.base.pending e.base.conditions) (first_tokens first (all_tokens parts)) c [] (lone_parts d (act s) parts)
+    → Led (Reads (directive false (begins first) (awaits.End effect.Nothing)) e.base.pending e.base.conditions) (first_tokens first (all_tokens parts)) c [] (told_parts d (act s) parts)
     (last_at (behind_parts d (act s) parts) (declared_tokens (first_tokens first (all_tokens parts)) declared) (n + length (first_tokens first (all_tokens parts))) v)
 begun_left w act left_word d parts r is_inner first s declared n v c e left all is_first none are kept_none few =
     let base = e.base in
@@ -155,7 +155,7 @@ begun_left w act left_word d parts r is_inner first s declared n v c e left all 
     let now = declared_first first declared in
     let toks = first_tokens first (all_tokens parts) in
     let l = last_behind d parts x now n v in
-    let places = lone_parts d x parts in
+    let places = told_parts d x parts in
     let less = fewer first (all_tokens parts) in
     let same : act (stack_of st) ≡ x = ap act e.stack in
     let kept_so = kept_sides d x parts in
@@ -175,7 +175,7 @@ record EndingLed (d : Answers) (parts : Parts) (x : Around) (last : Last) (toks 
   p : Pending
   others : List Pending
   ks : List Condition
-  led : Led (Reads p others ks) toks c [] (lone_parts d x parts) last
+  led : Led (Reads p others ks) toks c [] (told_parts d x parts) last
   waits_for : (e : Effect) × (p.awaits ≡ awaits.End e)
 
 ending_begun : (w : ConditionalWord) (act : Around → Around) (e : Effect) → ((t : Spelled) (place : Place) (is_inner : Bool) (c : Conditions) → begun w t place is_inner c ≡ passed (awaiting place is_inner (awaits.End e) c)) → LeftLed w act
@@ -208,7 +208,7 @@ ending_begun w act eff begins_so left_word d parts r is_inner first s declared n
 -- Any of them
 
 begun_led : (d : Answers) (u : Unfinished) (r : Reader) (s : Around) (declared n : ℕ) (v : List (List Conditional)) (c : Conditions) → StandsAt r (last_at s declared n v) c → IsBegun d (within r) s declared u
-    → n + length (begun_tokens u) ≤ most_levels → Begun d u s (begun_last d u s declared n v) (begun_tokens u) (lone_begun d s u) c
+    → n + length (begun_tokens u) ≤ most_levels → Begun d u s (begun_last d u s declared n v) (begun_tokens u) (told_begun d s u) c
 begun_led d (Unnamed is_inner if_declared first before) r s declared n v c e are few =
     let all = are.1.1.0 in
     let k = kept_so r (last_at s declared n v) c e all in
@@ -248,14 +248,15 @@ begun_led d (Named is_inner if_declared first before name behind) r s declared n
     let p_end = directive is_inner place waits_end in
     let q = Reads p_end base.pending base.conditions in
     let toks = begun_tokens (Named is_inner if_declared first before name behind) in
-    let places_behind = lone_parts d y behind in
-    let places = lone_parts d s before ++ places_behind in
+    let places_behind = told_parts d y behind in
+    let places_name = missing_in name.ended l.around ++ places_behind in
+    let places = told_parts d s before ++ places_name in
     let adds_behind = are.1.1.1.1.1.1 in
     let less = fewer first (all_tokens before ++ name ∷ all_tokens behind) in
     let sum = length_both (all_tokens before) (name ∷ all_tokens behind) in
     let start = reading is_inner place a base inner among now in
     let rest : Led q (all_tokens before ++ name ∷ all_tokens behind) start [] places l2 =
-    within_led d before (led d before) q (name ∷ all_tokens behind) is_inner place a base base.conditions base.conditions s now n v start places_behind l2
+    within_led d before (led d before) q (name ∷ all_tokens behind) is_inner place a base base.conditions base.conditions s now n v start places_name l2
     (record { base = awaits_it is_inner place a base; stand = AllStay s.inside s.between k.inside_kept k.between_kept; holds = (refl, refl); waits = k.waits; is = refl; stack = refl; few = omega arith })
     all are.1.1.1.0.0 adds.0 (takes_none tokens (Reads p base.pending base.conditions) adds.1) (reads_none tokens (Reads p base.pending base.conditions) adds.1) (omega (arith, few, less, sum))
     (λ more bw bi bb.
@@ -265,7 +266,8 @@ begun_led d (Named is_inner if_declared first before name behind) r s declared n
     let named_so = reading is_inner place waits_end after i b l.declared in
     let there = ended_behind name.ended named_so in
     let kept_behind = kept_sides d y behind in
-    passes q name (all_tokens behind) (reading is_inner place a after i b l.declared) named_so there [] places_behind l2 (name_kept is_inner if_declared place name after i b l.declared are.1.1.1.1.0) refl
+    passes q name (all_tokens behind) (reading is_inner place a after i b l.declared) named_so there [] (missing_in name.ended l.around) places_behind l2 (name_kept is_inner if_declared place name after i b l.declared are.1.1.1.1.0) refl
+    (ended_told name.ended (AllStay l.around.inside l.around.between bi bb) l.declared (awaits_it is_inner place waits_end after))
     (parts_read d behind p_end base.pending base.conditions base.conditions y later l.levels v there
     (ended_stands q name.ended (AllStay l.around.inside l.around.between bi bb) l.declared l.levels v (awaits_it is_inner place waits_end after) (refl, refl) bw (omega arith))
     are.1.1.1.1.1.0 (takes_none kept_behind q adds_behind.1) (reads_none kept_behind q adds_behind.1) (omega (arith, few, less, sum)))) in
@@ -331,7 +333,7 @@ pub record AllBegun (d : Answers) (outer : List Unfinished) (u : Unfinished) (s 
   pub condition : HasAllCondition d s outer u ks
 
 pub all_begun_led : (d : Answers) (outer : List Unfinished) (u : Unfinished) (r : Reader) (s : Around) (declared n : ℕ) (v : List (List Conditional)) (c : Conditions) → StandsAt r (last_at s declared n v) c → AreBegun d (within r) s declared outer u
-    → n + length (all_begun_tokens outer u) ≤ most_levels → AllBegun d outer u s (all_begun_last d outer u s declared n v) (all_begun_tokens outer u) (lone_all_begun d s outer u) c
+    → n + length (all_begun_tokens outer u) ≤ most_levels → AllBegun d outer u s (all_begun_last d outer u s declared n v) (all_begun_tokens outer u) (told_all_begun d s outer u) c
 all_begun_led d [] u r s declared n v c e are few =
     let is = begun_led d u r s declared n v c e are few in
     record { p = is.p; others = is.others; ks = is.ks; led = is.led; stays = is.stays; waits_for = is.waits_for; condition = is.condition }
@@ -345,10 +347,10 @@ all_begun_led d (x ∷ outer) u r s declared n v c e are few =
     let rest = all_begun_led d outer u (Reads first.p first.others first.ks) l.around l.declared l.levels v there first.led.ends are.1 (omega (arith, few, sum)) in
     let l2 = all_begun_last d outer u l.around l.declared l.levels v in
     let q = Reads rest.p rest.others rest.ks in
-    let places = lone_begun d s x ++ lone_all_begun d l.around outer u in
+    let places = told_begun d s x ++ told_all_begun d l.around outer u in
     let both : Led q (toks ++ more) c [] places l2 = record {
       hands = hands_both toks more c ∙ ap (λ hs. hs ++ all_handed_on more there) first.led.hands ∙ rest.led.hands;
-      tells = tells_both toks more c ∙ ap (λ ps. ps ++ all_lone_places more there) first.led.tells ∙ ap (λ ps. lone_begun d s x ++ ps) rest.led.tells;
+      tells = tells_both toks more c ∙ ap (λ ps. ps ++ all_told more there) first.led.tells ∙ ap (λ ps. told_begun d s x ++ ps) rest.led.tells;
       ends = subst (λ (y : Conditions). StandsAt q l2 y) (sym (behind_both toks more c)) rest.led.ends;
     } in
     record {

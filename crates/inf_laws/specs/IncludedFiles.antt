@@ -8,14 +8,13 @@ use Rattle.inf_unit.specs.Messages.{FileNames, Reported}
 use Rattle.inf_unit.specs.Tokens.{Spelled, is_end}
 use Rattle.inf_conditionals.specs.declared.judged.Handed.{Handed}
 use Rattle.inf_conditionals.specs.declared.judged.Handed.TheVariants as handed
-use Rattle.inf_conditionals.specs.declared.open.Conditional.{Conditional}
 use Rattle.inf_conditionals.specs.Ends.{file_entered, file_left, file_told}
 use Rattle.inf_conditionals.specs.Open.{Conditions, most_levels, silent}
 use Rattle.inf_reader.specs.Reading.{is_mode_ended}
 use Rattle.inf_session.specs.Choices.{Choices}
 use Rattle.inf_session.specs.Session.{State, file_closed, stepped, token_of, turn}
-use Rattle.inf_laws.specs.KeptSides.{Answers, AreParts, Around, At, Handing, IsClear, IsPlain, Parts, all_behind, all_kept, all_tokens, as_kept, behind_parts, declared_tokens, ended_behind, ended_in, handed_on, judged_at, kept_sides, lone_parts, lone_places, none_around, unended}
-use Rattle.inf_laws.specs.Unfinished.{HaveBegun, IsMisfit, Misfit, Unfinished, all_begun_tokens, behind_all_begun, behind_misfit, handed_misfit, lone_all_begun, misfit_tokens}
+use Rattle.inf_laws.specs.KeptSides.{Answers, AreParts, Around, At, Handing, IsClear, IsPlain, Parts, all_behind, all_kept, all_tokens, as_kept, behind_parts, declared_tokens, ended_behind, ended_in, ended_places, handed_on, judged_at, kept_sides, lone_places, missing_in, none_around, places, told_parts, unended}
+use Rattle.inf_laws.specs.Unfinished.{HaveBegun, IsMisfit, Misfit, Unfinished, all_begun_tokens, behind_all_begun, behind_misfit, handed_misfit, misfit_tokens, told_all_begun, told_misfit}
 use Rattle.inf_laws.specs.KeptTurns.{given_in, turned}
 use Rattle.inf_laws.specs.MissingEnds.{with_all_at}
 use Rattle.inf_laws.specs.SideTurns.{at_turn, shown}
@@ -53,22 +52,17 @@ abbrev pub handed_by : List Step → Conditions → List Handing
 handed_by [] c = []
 handed_by (x ∷ steps) c = handed_on (judged_at x.at c).judged x.at.token ++ handed_by steps (step_behind x c)
 
--- the places of directives that are told to have no conditional to turn or to end
-abbrev pub lone_by : List Step → Conditions → List Place
-lone_by [] c = []
-lone_by (x ∷ steps) c = lone_places (judged_at x.at c).judged.lone ++ lone_by steps (step_behind x c)
-
--- and those of conditionals that are told at the end of a file
-abbrev pub places : List Conditional → List Place
-places cs = map (λ (x : Conditional). x.place) cs
-
+-- and what is told: at the end of a file those conditionals that are open in it
 abbrev pub told_behind : Passage → Conditions → List Place
 told_behind Leaves c = places (reverse c.inner) ++ places (reverse c.among)
 told_behind _ c = []
 
-abbrev pub unended_by : List Step → Conditions → List Place
-unended_by [] c = []
-unended_by (x ∷ steps) c = told_behind x.passage (judged_at x.at c).now ++ unended_by steps (step_behind x c)
+abbrev pub told_at : Step → Conditions → List Place
+told_at x c = let b = judged_at x.at c in lone_places b.judged.lone ++ (told_behind x.passage b.now ++ ended_places x.at.ended (passed_files x.passage b.now).inner)
+
+abbrev pub told_by : List Step → Conditions → List Place
+told_by [] c = []
+told_by (x ∷ steps) c = told_at x c ++ told_by steps (step_behind x c)
 
 -- Files
 
@@ -126,27 +120,23 @@ handed_files answers s (Including parts entering included leaving behind) =
     ∷ (handed_files answers (around_included entering (behind_parts answers s parts)) included
     ++ record { handed = end_handed included; token = leaving.token } ∷ handed_files answers (around_behind (behind_parts answers s parts)) behind)
 
-abbrev pub lone_files : Answers → Around → Files → List Place
-lone_files answers s (Alone parts) = lone_parts answers s parts
-lone_files answers s (Cut parts outer u) = lone_parts answers s parts ++ lone_all_begun answers (behind_parts answers s parts) outer u
-lone_files answers s (Breaking parts outer u misfit behind) =
-    lone_parts answers s parts
-    ++ (lone_all_begun answers (behind_parts answers s parts) outer u ++ lone_files answers (around_broken answers s parts outer u misfit) behind)
-lone_files answers s (Including parts entering included leaving behind) =
-    lone_parts answers s parts
-    ++ (lone_files answers (around_included entering (behind_parts answers s parts)) included ++ lone_files answers (around_behind (behind_parts answers s parts)) behind)
-
--- at the end of each included file those are told that are open in it
+-- what is told: of each file by its own conditionals, and at the end of each included one what is open in it
 abbrev pub all_unended : Around → List Place
 all_unended s = unended s.inside ++ unended s.between
 
-abbrev pub unended_files : Answers → Around → Files → List Place
-unended_files answers s (Alone parts) = []
-unended_files answers s (Cut parts outer u) = []
-unended_files answers s (Breaking parts outer u misfit behind) = unended_files answers (around_broken answers s parts outer u misfit) behind
-unended_files answers s (Including parts entering included leaving behind) =
-    unended_files answers (around_included entering (behind_parts answers s parts)) included
-    ++ (all_unended (behind_files answers (around_included entering (behind_parts answers s parts)) included) ++ unended_files answers (around_behind (behind_parts answers s parts)) behind)
+abbrev pub told_files : Answers → Around → Files → List Place
+told_files answers s (Alone parts) = told_parts answers s parts
+told_files answers s (Cut parts outer u) = told_parts answers s parts ++ told_all_begun answers (behind_parts answers s parts) outer u
+told_files answers s (Breaking parts outer u misfit behind) =
+    told_parts answers s parts
+    ++ (told_all_begun answers (behind_parts answers s parts) outer u
+    ++ (told_misfit misfit (behind_all_begun answers (behind_parts answers s parts) outer u) ++ told_files answers (around_broken answers s parts outer u misfit) behind))
+told_files answers s (Including parts entering included leaving behind) =
+    let here = behind_parts answers s parts in
+    let inside = around_included entering here in
+    told_parts answers s parts
+    ++ (missing_in entering.ended here
+    ++ (told_files answers inside included ++ (all_unended (behind_files answers inside included) ++ told_files answers (around_behind here) behind)))
 
 -- The law
 
@@ -178,12 +168,11 @@ AreFiles answers s c (Including parts entering included leaving behind) =
     × AreFiles answers (around_behind (behind_parts answers s parts))
     (step_behind (record { at = leaving; passage = Leaves }) (steps_behind (steps included) (step_behind (record { at = entering; passage = Enters }) (all_behind (all_tokens parts) c)))) behind))
 
--- Just these tokens are handed on, each as one that is kept or as one that does not fit, and just these places are told; at the end of the outermost
--- file those of what is open in it.
+-- Just these tokens are handed on, each as one that is kept or as one that does not fit, and just these places are told, in this order; at the end of the
+-- outermost file those of what is open in it.
 pub record KeepsFiles (answers : Answers) (files : Files) (c : Conditions) : Type 0 where
   pub handed_on : handed_by (steps files) c ≡ handed_files answers none_around files
-  pub lone : lone_by (steps files) c ≡ lone_files answers none_around files
-  pub unended : unended_by (steps files) c ≡ unended_files answers none_around files
+  pub told : told_by (steps files) c ≡ told_files answers none_around files
   pub at_last : (end : At) → is_end end.token.kind ≡ true
       → told_behind Leaves (judged_at end (steps_behind (steps files) c)).now ≡ all_unended (behind_files answers none_around files)
 

@@ -1,5 +1,5 @@
 -- Which tokens of a file are kept, with conditionals between its directives and inside them: of each conditional one side is.
-use Rattle.std.specs.Prelude.{◌≡◌, ◌≤◌, ◌&&◌, ◌||◌, ℕ, List, [], ◌∷◌, ◌++◌, drop, length, map, Bool, true, false, not, if◌then◌else◌, Option, Some, None, unwrap_or}
+use Rattle.std.specs.Prelude.{◌≡◌, ◌≤◌, ◌&&◌, ◌||◌, ℕ, List, [], ◌∷◌, ◌++◌, drop, length, map, reverse, Bool, true, false, not, if◌then◌else◌, Option, Some, None, unwrap_or}
 use Rattle.inf_names.specs.Symbols.{declared_before}
 use Rattle.inf_output.specs.Output.{Out}
 use Rattle.inf_scanner.specs.declared.tokens.Mark.TheVariants as mark
@@ -11,6 +11,7 @@ use Rattle.inf_unit.specs.Messages.{FileNames, Reported}
 use Rattle.inf_unit.specs.Tokens.{Spelled, is_end, is_mark}
 use Rattle.inf_conditionals.specs.Atoms.{atom_of}
 use Rattle.inf_conditionals.specs.Condition.{Condition, condition_begun, condition_took, is_whole, verdict_of}
+use Rattle.inf_conditionals.specs.declared.open.Conditional.{Conditional}
 use Rattle.inf_conditionals.specs.declared.judged.Handed.{Handed}
 use Rattle.inf_conditionals.specs.declared.judged.Handed.TheVariants as handed
 use Rattle.inf_conditionals.specs.declared.judged.Judged.{Judged}
@@ -80,14 +81,22 @@ abbrev pub all_behind : List At → Conditions → Conditions
 all_behind [] c = c
 all_behind (t ∷ tokens) c = all_behind tokens (going_on t c)
 
--- and the places of the directives that are told to be without their other end
+-- and what is told of it: where directives begin that are without their other end, and at the end of a directive where those do that were opened
+-- inside of it
 abbrev pub lone_places : Option Place → List Place
 lone_places None = []
 lone_places (Some place) = place ∷ []
 
-abbrev pub all_lone_places : List At → Conditions → List Place
-all_lone_places [] c = []
-all_lone_places (t ∷ tokens) c = lone_places (judged_at t c).judged.lone ++ all_lone_places tokens (going_on t c)
+abbrev pub places : List Conditional → List Place
+places cs = map (λ (x : Conditional). x.place) cs
+
+abbrev pub ended_places : Option ℕ → List Conditional → List Place
+ended_places None inner = []
+ended_places (Some declared) inner = places (reverse inner)
+
+abbrev pub all_told : List At → Conditions → List Place
+all_told [] c = []
+all_told (t ∷ tokens) c = lone_places (judged_at t c).judged.lone ++ (ended_places t.ended (judged_at t c).now.inner ++ all_told tokens (going_on t c))
 
 -- What stands in a file
 
@@ -292,6 +301,16 @@ asking_parts answers is_inner wanted first within end s =
 abbrev pub behind_name : Answers → Parts → At → Around → Around
 behind_name answers before name s = ended_in name.ended (behind_parts answers s before)
 
+-- where those began that are open, in order, but for what was opened in a side that is left out
+abbrev pub unended : List Open → List Place
+unended [] = []
+unended (x ∷ around) = unended around ++ (if are_kept around then x.place ∷ [] else [])
+
+-- those that were opened inside a directive are told at its end
+abbrev pub missing_in : Option ℕ → Around → List Place
+missing_in None s = []
+missing_in (Some declared) s = unended s.inside
+
 -- where directives begin that have no conditional to turn or to end, of those that are kept and do not end among tokens that are passed over
 abbrev pub seconds : List Open → List Bool
 seconds around = map (λ (x : Open). x.is_second) around
@@ -304,26 +323,33 @@ lone_at w first end s =
 abbrev pub acting : Answers → Parts → Around → Around
 acting answers within s = if all_kept s then behind_parts answers s within else s
 
+-- what is told of parts, in order
 abbrev mutual
-  pub lone_of : Answers → Part → Around → List Place
-  lone_of answers (Opening is_inner if_declared first before name behind end) s =
+  pub told_of : Answers → Part → Around → List Place
+  told_of answers (Plain t) s = missing_in t.ended s
+  told_of answers (Signed is_inner sign t) s = missing_in t.ended s
+  told_of answers (Opening is_inner if_declared first before name behind end) s =
+      let act : Around → Around = opened_more is_inner (first_side first if_declared (answers.is_declared name)) in
       let x = opening_parts answers is_inner if_declared first name s in
-      lone_parts answers x before ++ lone_parts answers (behind_name answers before name x) behind
-  lone_of answers (Asking is_inner wanted first within end) s = lone_parts answers (asking_parts answers is_inner wanted first within end s) within
-  lone_of answers (Turning is_inner first within end) s =
-      lone_parts answers (before_parts turned s) within ++ lone_at word.Ifnot first end (acting answers within s)
-  lone_of answers (Closing is_inner first within end) s =
-      lone_parts answers (before_parts closed s) within ++ lone_at word.Endif first end (acting answers within s)
-  lone_of answers _ s = []
+      told_parts answers x before
+      ++ (missing_in name.ended (behind_parts answers x before)
+      ++ (told_parts answers (behind_name answers before name x) behind
+      ++ missing_in end.ended (acted act (λ y. behind_parts answers (behind_name answers before name y) behind) s)))
+  told_of answers (Asking is_inner wanted first within end) s =
+      let act : Around → Around = opened_more is_inner (first_side first wanted (answers.is_true (whole_condition first (kept_sides answers s within) end) end)) in
+      told_parts answers (asking_parts answers is_inner wanted first within end s) within
+      ++ missing_in end.ended (acted act (λ y. behind_parts answers y within) s)
+  told_of answers (Turning is_inner first within end) s =
+      told_parts answers (before_parts turned s) within
+      ++ (lone_at word.Ifnot first end (acting answers within s) ++ missing_in end.ended (acted turned (λ y. behind_parts answers y within) s))
+  told_of answers (Closing is_inner first within end) s =
+      told_parts answers (before_parts closed s) within
+      ++ (lone_at word.Endif first end (acting answers within s) ++ missing_in end.ended (acted closed (λ y. behind_parts answers y within) s))
+  told_of answers (Passed is_inner w first) s = []
 
-  pub lone_parts : Answers → Around → Parts → List Place
-  lone_parts answers s NoParts = []
-  lone_parts answers s (Then part parts) = lone_of answers part s ++ lone_parts answers (behind_part answers part s) parts
-
--- where those began that are open, in order, but for what was opened in a side that is left out
-abbrev pub unended : List Open → List Place
-unended [] = []
-unended (x ∷ around) = unended around ++ (if are_kept around then x.place ∷ [] else [])
+  pub told_parts : Answers → Around → Parts → List Place
+  told_parts answers s NoParts = []
+  told_parts answers s (Then part parts) = told_of answers part s ++ told_parts answers (behind_part answers part s) parts
 
 -- What parts are
 
@@ -477,10 +503,11 @@ pub record IsClear (c : Conditions) : Type 0 where
   pub none_said : c.said ≡ None
 
 -- Of each conditional one side is kept: just these tokens are handed on, each as one that is kept, and just these directives are told to be without
--- their other end: where they end, and where the file does then, or the directive at hand. No file has as many levels as are counted at most.
+-- their other end, in this order: where they end, or where the directive does in which they were opened; and where the file does then, or the
+-- directive at hand. No file has as many levels as are counted at most.
 pub record KeepsSides (answers : Answers) (parts : Parts) (c : Conditions) : Type 0 where
   pub handed_on : all_handed_on (all_tokens parts) c ≡ map as_kept (kept_sides answers none_around parts)
-  pub lone : all_lone_places (all_tokens parts) c ≡ lone_parts answers none_around parts
+  pub told : all_told (all_tokens parts) c ≡ told_parts answers none_around parts
   pub in_file : (end : At) (files : FileNames) (r : Reported) → is_end end.token.kind ≡ true
       → let s = behind_parts answers none_around parts in file_told files (judged_at end (all_behind (all_tokens parts) c)).now r ≡ with_all_at files (unended s.inside ++ unended s.between) r
   pub in_directive : (files : FileNames) (r : Reported) → let s = behind_parts answers none_around parts in piece_told files (all_behind (all_tokens parts) c) r ≡ with_all_at files (unended s.inside) r

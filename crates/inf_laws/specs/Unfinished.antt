@@ -12,7 +12,7 @@ use Rattle.inf_conditionals.specs.declared.judged.Handed.TheVariants as handed
 use Rattle.inf_conditionals.specs.declared.words.ConditionalWord.TheVariants as word
 use Rattle.inf_conditionals.specs.Open.{most_levels}
 use Rattle.inf_reader.specs.Handing.{hash}
-use Rattle.inf_laws.specs.KeptSides.{AddsNone, Answers, AreParts, Around, At, First, Handing, IsFirst, IsSign, IsSignedPlain, NoneInside, Parts, StayAs, all_kept, all_tokens, as_kept, asking, before_parts, behind_name, behind_parts, closed, condition_behind, declared_behind, declared_first, declared_tokens, ended_in, first_tokens, kept_sides, lone_parts, opening, placed_word, turned}
+use Rattle.inf_laws.specs.KeptSides.{AddsNone, Answers, AreParts, Around, At, First, Handing, IsFirst, IsSign, IsSignedPlain, NoneInside, Parts, StayAs, all_kept, all_tokens, as_kept, asking, before_parts, behind_name, behind_parts, closed, condition_behind, declared_behind, declared_first, declared_tokens, ended_in, first_tokens, kept_sides, missing_in, opening, placed_word, told_parts, turned}
 
 -- What is there of one
 
@@ -40,14 +40,14 @@ behind_begun answers s (Asked is_inner wanted first within) = behind_parts answe
 behind_begun answers s (Turns is_inner first within) = behind_parts answers (before_parts turned s) within
 behind_begun answers s (Closes is_inner first within) = behind_parts answers (before_parts closed s) within
 
--- where directives of its parts begin that have no conditional to turn or to end
-abbrev pub lone_begun : Answers → Around → Unfinished → List Place
-lone_begun answers s (Unnamed is_inner if_declared first before) = lone_parts answers s before
-lone_begun answers s (Named is_inner if_declared first before name behind) =
-    lone_parts answers s before ++ lone_parts answers (behind_name answers before name s) behind
-lone_begun answers s (Asked is_inner wanted first within) = lone_parts answers s within
-lone_begun answers s (Turns is_inner first within) = lone_parts answers (before_parts turned s) within
-lone_begun answers s (Closes is_inner first within) = lone_parts answers (before_parts closed s) within
+-- what is told of its parts
+abbrev pub told_begun : Answers → Around → Unfinished → List Place
+told_begun answers s (Unnamed is_inner if_declared first before) = told_parts answers s before
+told_begun answers s (Named is_inner if_declared first before name behind) =
+    told_parts answers s before ++ (missing_in name.ended (behind_parts answers s before) ++ told_parts answers (behind_name answers before name s) behind)
+told_begun answers s (Asked is_inner wanted first within) = told_parts answers s within
+told_begun answers s (Turns is_inner first within) = told_parts answers (before_parts turned s) within
+told_begun answers s (Closes is_inner first within) = told_parts answers (before_parts closed s) within
 
 -- the kept tokens of a condition so far, of which the grammar takes each, and none is the last
 abbrev pub GoOn : List Spelled → Condition → Type 0
@@ -101,9 +101,9 @@ abbrev pub behind_all_begun : Answers → Around → List Unfinished → Unfinis
 behind_all_begun answers s [] u = behind_begun answers s u
 behind_all_begun answers s (x ∷ outer) u = behind_all_begun answers (behind_begun answers s x) outer u
 
-abbrev pub lone_all_begun : Answers → Around → List Unfinished → Unfinished → List Place
-lone_all_begun answers s [] u = lone_begun answers s u
-lone_all_begun answers s (x ∷ outer) u = lone_begun answers s x ++ lone_all_begun answers (behind_begun answers s x) outer u
+abbrev pub told_all_begun : Answers → Around → List Unfinished → Unfinished → List Place
+told_all_begun answers s [] u = told_begun answers s u
+told_all_begun answers s (x ∷ outer) u = told_begun answers s x ++ told_all_begun answers (behind_begun answers s x) outer u
 
 abbrev pub AreBegun : Answers → Bool → Around → ℕ → List Unfinished → Unfinished → Type 0
 AreBegun answers is_within s declared [] u = IsBegun answers is_within s declared u
@@ -137,6 +137,11 @@ handed_misfit (Hashed sign t) = as_unfit (hash sign.token.place) ∷ as_kept t.t
 abbrev pub behind_misfit : Misfit → Around → Around
 behind_misfit (Bare t) s = ended_in t.ended s
 behind_misfit (Hashed sign t) s = ended_in t.ended s
+
+-- what is told behind it
+abbrev pub told_misfit : Misfit → Around → List Place
+told_misfit (Bare t) s = missing_in t.ended s
+told_misfit (Hashed sign t) s = missing_in t.ended s
 
 -- no name, no semicolon, or not what the grammar takes
 abbrev pub IsCutBy : Answers → Around → Unfinished → At → Type 0
