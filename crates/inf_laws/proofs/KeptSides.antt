@@ -38,6 +38,7 @@ use Rattle.inf_laws.specs.KeptSides.{AddsNone, Answers, AreParts, AreTaken, Arou
 use Rattle.inf_laws.specs.LoneEnds.{is_lone}
 use Rattle.inf_laws.specs.MissingEnds.{with_all_at}
 use Rattle.inf_laws.specs.Sides.{ends_side, level_behind}
+use Rattle.inf_laws.proofs.AskingWords.{asking_fits}
 use Rattle.inf_laws.proofs.MissingEnds.{place_of, told_at}
 use Rattle.inf_laws.proofs.Sides.{ends_as, inside as left_inside, sign_behind, token_is}
 
@@ -1834,7 +1835,7 @@ asking_kept d is_inner wanted first parts end leads r declared n v c holds waits
     relaxed r (directive_tokens first tokens end) (at c inner among_now None declared) [] places last.around (declared_behind end l.declared) (declared_tokens (directive_tokens first tokens end) declared) m m v
     (last_declared first tokens end declared) (omega arith)
     (begins_kept r r is_inner (asking wanted) a first.sign first.word (tokens ++ end ∷ []) c (with_condition begun_so c) inner among_now declared places last holds are.0.begins are.0.is are.0.goes_on
-    (λ x. begun_asking is_inner wanted first.word.token place c inner among_now x condition.begins) (calm_open is_inner inside between are.1.0) rest)
+    (λ x. begun_asking is_inner wanted first.word.token place c inner among_now x (asking_fits wanted first.word.token place are.0.is)) (calm_open is_inner inside between are.1.0) rest)
 
 asking_left : (d : Answers) (is_inner wanted : Bool) (first : First) (parts : Parts) (end : At) → Leads d parts → (r : Reader) (st : Stands) (declared n : ℕ) (v : List (List Conditional)) (c : Conditions) → Holds r c → c.waiting ≡ v → levels_of st ≤ n
     → n + length (directive_tokens first (all_tokens parts) end) ≤ most_levels → all_kept (stack_of st) ≡ false → AskingLed d is_inner wanted first parts end r st declared n v c false

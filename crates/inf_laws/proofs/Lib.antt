@@ -13,6 +13,7 @@ pub mod KeptTokens
 pub mod KeptTurns
 pub mod LoneEnds
 pub mod InnerSides
+pub mod AskingWords
 pub mod KeptSides
 pub mod Unfinished
 pub mod IncludedFiles

@@ -26,6 +26,7 @@ use Rattle.inf_conditionals.specs.Open.{Conditions, most_levels}
 use Rattle.inf_conditionals.proofs.Misfits.{end_fits_nothing}
 use Rattle.inf_laws.specs.KeptSides.{Answers, AreParts, Around, At, First, IsFirst, IsSignedPlain, NoneInside, Parts, all_behind, all_handed_on, all_kept, all_tokens, all_told, are_kept, asking, before_parts, begins, behind_name, behind_parts, closed, declared_behind, declared_first, declared_tokens, ended_behind, ended_in, first_tokens, judged_at, kept_sides, missing_in, opening, placed_word, told_parts, turned}
 use Rattle.inf_laws.specs.Unfinished.{Asked, AreBegun, AreCutBy, Closes, GoOn, IsBegun, IsCutBy, Named, Turns, Unfinished, Unnamed, all_begun_tokens, behind_all_begun, behind_begun, begun_tokens, condition_so, told_all_begun, told_begun}
+use Rattle.inf_laws.proofs.AskingWords.{asking_fits}
 use Rattle.inf_laws.proofs.KeptSides.{AllStay, Holds, InnerLeft, Last, Led, LeftLed, OuterLeft, Reader, Reads, Stands, StandsAt, TakesAll, at, awaits_it, begins_kept, begun_asking, begun_opening, behind_both, calm_open, closes_left, conditionals, declared_behind_first, declared_both, directive, ended_stands, ended_told, fewer, hands_both, inner_not_kept, kept_at, last_at, last_behind, led, length_both, name_kept, not_kept, nothing_handed, passes, read_condition, read_on, reading, reads_none, relaxed, sign_inner, stack_of, stands_at, state, takes_none, tells_both, turns_left, with_condition, within, within_led}
 
 -- what the innermost one waits for
@@ -300,8 +301,8 @@ begun_led d (Asked is_inner wanted first parts) r s declared n v c e are few =
       others = k.base.pending;
       ks = condition_so first tokens ∷ ks;
       led = begun_kept d parts r is_inner (asking wanted) a first (begun_so ∷ ks) (condition_so first tokens ∷ ks) s declared n v c k.base k.holds k.waits k.inside_kept k.between_kept k.is are.0 are.1.0
-          (λ m. begun_asking is_inner wanted first.word.token (begins first) k.base (conditionals s.inside) (conditionals s.between) m so_far.begins) are.1.1.1.0.0
-          (read_so tokens begun_so is_inner wanted (begins first) k.base.pending ks so_far.goes_on) (read_condition tokens p k.base.pending begun_so ks) few;
+          (λ m. begun_asking is_inner wanted first.word.token (begins first) k.base (conditionals s.inside) (conditionals s.between) m (asking_fits wanted first.word.token (begins first) are.0.is)) are.1.1.1.0.0
+          (read_so tokens begun_so is_inner wanted (begins first) k.base.pending ks so_far) (read_condition tokens p k.base.pending begun_so ks) few;
       stays = are.1.1.1.0.1 ∙ all;
       waits_for = refl;
       condition = (ks, refl);

@@ -426,7 +426,6 @@ AreTaken (t ∷ tokens) end k =
     (fits grammar known (atom_of t) k.stack ≡ true) × ((is_whole (condition_took t k) ≡ false) × AreTaken tokens end (condition_took t k))
 
 pub record IsCondition (answers : Answers) (first : First) (tokens : List Spelled) (end : At) (declared : ℕ) : Type 0 where
-  pub begins : fits grammar known (atom_of (placed_word first)) condition_begun.stack ≡ true
   pub are_taken : AreTaken tokens end (condition_took (placed_word first) condition_begun)
   pub agrees : (verdict_of declared end.out (whole_condition first tokens end)).is_true ≡ answers.is_true (whole_condition first tokens end) end
 

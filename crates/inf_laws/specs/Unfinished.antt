@@ -57,10 +57,6 @@ GoOn (t ∷ tokens) k = (fits grammar known (atom_of t) k.stack ≡ true) × ((i
 abbrev pub condition_so : First → List Spelled → Condition
 condition_so first tokens = condition_behind tokens (condition_took (placed_word first) condition_begun)
 
-pub record IsBegunAsked (first : First) (tokens : List Spelled) : Type 0 where
-  pub begins : fits grammar known (atom_of (placed_word first)) condition_begun.stack ≡ true
-  pub goes_on : GoOn tokens (condition_took (placed_word first) condition_begun)
-
 -- It is read, and so it is kept; an `Ifnot` or `Endif` may begin in a side that its word ends.
 abbrev pub IsBegun : Answers → Bool → Around → ℕ → Unfinished → Type 0
 IsBegun answers is_within s declared (Unnamed is_inner if_declared first before) =
@@ -80,7 +76,7 @@ IsBegun answers is_within s declared (Asked is_inner wanted first within) =
     × (NoneInside is_inner s
     × ((all_kept s ≡ true)
     × ((AreParts answers true s (declared_first first declared) within × StayAs answers s within)
-    × IsBegunAsked first (kept_sides answers s within))))
+    × GoOn (kept_sides answers s within) (condition_took (placed_word first) condition_begun))))
 IsBegun answers is_within s declared (Turns is_inner first within) =
     let x = before_parts turned s in
     IsFirst (all_kept s) is_inner is_within word.Ifnot first
