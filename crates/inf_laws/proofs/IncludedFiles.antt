@@ -30,7 +30,7 @@ use Rattle.inf_laws.specs.MissingEnds.{with_all_at}
 use Rattle.inf_laws.specs.SideTurns.{at_turn, ends_there, shown}
 use Rattle.inf_laws.proofs.KeptSides.{AllStay, Hands, InnerLeft, Last, OuterLeft, Reader, Stands, StandsAt, all_handed, all_taken, among_of, are_open, at, conditionals, end_is_no_hash, end_kept_so, ended_told, hands_on, inner_not_kept, inner_of, kept_at, last_at, led, not_kept, outer, plain_kept, stack_of, stands_at, state, told_both, told_places}
 use Rattle.inf_laws.proofs.MissingEnds.{told_at as told_each}
-use Rattle.inf_laws.proofs.Unfinished.{AllBegun, all_begun_led, cut_by, end_cuts, given_up_at, sign_cut, sign_cut_so}
+use Rattle.inf_laws.proofs.Unfinished.{AllBegun, all_begun_led, cut_kept, given_up_at, sign_cut, sign_cut_so, unfit_end}
 use Rattle.inf_laws.proofs.SideTurns.{all_shown, rested_conditions}
 
 -- Steps one after the other
@@ -228,22 +228,17 @@ ends_kept last c e = record {
 ends_cut : (d : Answers) (outer : List Unfinished) (u : Unfinished) (s : Around) (last : Last) (toks : List At) (alone : List Place) (c : Conditions) → AllBegun d outer u s last toks alone c
     → EndsAs handed.Unfit last.around last.waiting (all_behind toks c)
 ends_cut d outer u s last toks alone c b =
-    let there = all_behind toks c in
-    let k = kept_at b.p b.others b.ks last there b.led.ends b.stays in
-    let inner = conditionals last.around.inside in
-    let among = conditionals last.around.between in
+    let e = b.led.ends in
     record {
-      base = given_up_at k.base;
-      stand = AllStay last.around.inside last.around.between k.inside_kept k.between_kept;
+      base = given_up_at e.base;
+      stand = e.stand;
       declared = last.declared;
       none_read = refl;
-      waits = k.waits;
-      stack = refl;
-      inner = ap (λ (x : Conditions). x.inner) k.is;
-      among = ap (λ (x : Conditions). x.among) k.is;
-      at_end = λ end is_last.
-          ap (judged_at end) k.is
-          ∙ cut_by d s outer u b.p b.others b.ks k.base inner among last.declared end b.waits_for b.condition (end_is_no_hash end.token.kind is_last) (end_cuts d s outer u end is_last);
+      waits = e.waits;
+      stack = e.stack;
+      inner = ap (λ (x : Conditions). x.inner) e.is;
+      among = ap (λ (x : Conditions). x.among) e.is;
+      at_end = λ end is_last. unfit_end d s outer u last toks alone c b end is_last;
     }
 
 none_ended : (e : Option ℕ) → ended_places e [] ≡ []
@@ -299,20 +294,24 @@ begun_broken : (e : Option ℕ) (s : Around) (w : List (List Conditional)) (base
 begun_broken None s w base declared si sb waits none = record { inside_kept = si; between_kept = sb; is = refl; waits = waits; none_read = none }
 begun_broken (Some now) s w base declared si sb waits none = record { inside_kept = refl; between_kept = sb; is = refl; waits = waits; none_read = none }
 
+misfit_kept : (d : Answers) (s : Around) (outer : List Unfinished) (u : Unfinished) (misfit : Misfit) → IsMisfit d s outer u misfit → all_kept (behind_all_begun d s outer u) ≡ true
+misfit_kept d s outer u (Bare t) is = is.0
+misfit_kept d s outer u (Hashed sign t) is = is.0
+
 record MisfitLed (misfit : Misfit) (s : Around) (w : List (List Conditional)) (c : Conditions) : Type 0 where
   hands : all_handed_on (misfit_tokens misfit) c ≡ handed_misfit misfit
   tells : all_told (misfit_tokens misfit) c ≡ told_misfit misfit s
   begun : Begun (behind_misfit misfit s) w (all_behind (misfit_tokens misfit) c)
 
 misfit_led : (d : Answers) (outer : List Unfinished) (u : Unfinished) (s : Around) (last : Last) (toks : List At) (alone : List Place) (c : Conditions) (misfit : Misfit) → AllBegun d outer u s last toks alone c → IsMisfit d s outer u misfit
-    → MisfitLed misfit last.around last.waiting (all_behind toks c)
-misfit_led d outer u s last toks alone c (Bare t) b is =
+    → all_kept last.around ≡ true → MisfitLed misfit last.around last.waiting (all_behind toks c)
+misfit_led d outer u s last toks alone c (Bare t) b is all =
     let there = all_behind toks c in
-    let k = kept_at b.p b.others b.ks last there b.led.ends b.stays in
+    let k = kept_at b.p b.others b.ks last there b.led.ends all in
     let inner = conditionals last.around.inside in
     let among = conditionals last.around.between in
     let told_here : ended_places t.ended inner ≡ missing_in t.ended last.around = ended_told t.ended (AllStay last.around.inside last.around.between k.inside_kept k.between_kept) last.declared k.base in
-    let cut = ap (judged_at t) k.is ∙ cut_by d s outer u b.p b.others b.ks k.base inner among last.declared t b.waits_for b.condition is.0 is.1 in
+    let cut = cut_kept d s outer u last toks alone c b t all is.1.0 is.1.1 k.base inner among k.is in
     record {
       hands = ap (λ (x : Behind). handed_on x.judged t.token ++ []) cut;
       tells =
@@ -321,25 +320,25 @@ misfit_led d outer u s last toks alone c (Bare t) b is =
       begun = subst (λ (x : Behind). Begun (ended_in t.ended last.around) last.waiting (ended_behind t.ended (silent x.now))) (sym cut)
           (begun_broken t.ended last.around last.waiting (given_up_at k.base) last.declared k.inside_kept k.between_kept k.waits refl);
     }
-misfit_led d outer u s last toks alone c (Hashed sign t) b is =
+misfit_led d outer u s last toks alone c (Hashed sign t) b is all =
     let there = all_behind toks c in
-    let k = kept_at b.p b.others b.ks last there b.led.ends b.stays in
+    let k = kept_at b.p b.others b.ks last there b.led.ends all in
     let inner = conditionals last.around.inside in
     let among = conditionals last.around.between in
     let told_here : ended_places t.ended inner ≡ missing_in t.ended last.around = ended_told t.ended (AllStay last.around.inside last.around.between k.inside_kept k.between_kept) last.declared k.base in
     let place = sign.token.place in
     let base = record k.base { pending = b.p ∷ b.others; conditions = b.ks } in
-    let held_so = ap (judged_at sign) k.is ∙ sign_cut sign base b.p b.others inner among last.declared refl is.0.is in
+    let held_so = ap (judged_at sign) k.is ∙ sign_cut sign base b.p b.others inner among last.declared refl is.1.0.is in
     let held_back = state base (Some place) inner among None last.declared in
-    let goes = ap (λ (x : Behind). ended_behind sign.ended (silent x.now)) held_so ∙ ap (λ e. ended_behind e held_back) is.0.goes_on in
-    let cut = ap (judged_at t) goes ∙ sign_cut_so place t base b.p b.others inner among last.declared is.1 in
+    let goes = ap (λ (x : Behind). ended_behind sign.ended (silent x.now)) held_so ∙ ap (λ e. ended_behind e held_back) is.1.0.goes_on in
+    let cut = ap (judged_at t) goes ∙ sign_cut_so place t base b.p b.others inner among last.declared is.1.1 in
     record {
       hands =
           ap (λ (x : Behind). handed_on x.judged sign.token ++ all_handed_on (t ∷ []) (ended_behind sign.ended (silent (judged_at sign there).now))) held_so
           ∙ ap (λ (x : Behind). handed_on x.judged t.token ++ []) cut;
       tells =
           ap (λ (x : Behind). lone_places x.judged.lone ++ (ended_places sign.ended x.now.inner ++ all_told (t ∷ []) (ended_behind sign.ended (silent (judged_at sign there).now)))) held_so
-          ∙ ap (λ e. ended_places e inner ++ all_told (t ∷ []) (ended_behind sign.ended (silent (judged_at sign there).now))) is.0.goes_on
+          ∙ ap (λ e. ended_places e inner ++ all_told (t ∷ []) (ended_behind sign.ended (silent (judged_at sign there).now))) is.1.0.goes_on
           ∙ ap (λ (x : Behind). lone_places x.judged.lone ++ (ended_places t.ended x.now.inner ++ [])) cut
           ∙ append-nil (ended_places t.ended inner) ∙ told_here;
       begun = subst (λ (x : Behind). Begun (ended_in t.ended last.around) last.waiting (ended_behind t.ended (silent x.now))) (sym cut)
@@ -416,7 +415,7 @@ files_led d (Breaking parts outer u misfit more) s w c b are =
     let beyond = all_behind bad there in
     let last = broken.last in
     let alone = told_all_begun d (behind_parts d s parts) outer u in
-    let cut = misfit_led d outer u (behind_parts d s parts) last toks alone here misfit broken.begun are.1.1.0 in
+    let cut = misfit_led d outer u (behind_parts d s parts) last toks alone here misfit broken.begun are.1.1.0 (ap all_kept broken.around ∙ misfit_kept d (behind_parts d s parts) outer u misfit are.1.1.0) in
     let around = around_broken d s parts outer u misfit in
     let begun : Begun around w beyond =
     subst (λ (x : Around). Begun (behind_misfit misfit x) w beyond) broken.around (subst (λ ws. Begun (behind_misfit misfit last.around) ws beyond) broken.waiting cut.begun) in

@@ -21,13 +21,15 @@ use Rattle.inf_conditionals.specs.declared.pending.Effect.TheVariants as effect
 use Rattle.inf_conditionals.specs.declared.pending.Pending.{Pending}
 use Rattle.inf_conditionals.specs.declared.words.ConditionalWord.{ConditionalWord}
 use Rattle.inf_conditionals.specs.declared.words.ConditionalWord.TheVariants as word
-use Rattle.inf_conditionals.specs.Judging.{Behind, behind_sign, begun, is_none_pending, effected, is_kept, kept, held, named, none_handed, awaiting, passed, unfit, went_on}
+use Rattle.inf_conditionals.specs.Judging.{Behind, behind_sign, begun, is_none_pending, effected, is_kept, kept, held, named, none_handed, awaiting, offered, passed, passed_by, unfit, went_on}
 use Rattle.inf_conditionals.specs.Open.{Conditions, most_levels}
+use Rattle.inf_conditionals.specs.Words.{word_of}
+use Rattle.inf_conditionals.specs.declared.open.LeftOut.{LeftOut}
 use Rattle.inf_conditionals.proofs.Misfits.{end_fits_nothing}
-use Rattle.inf_laws.specs.KeptSides.{Answers, AreParts, Around, At, First, IsFirst, IsSignedPlain, NoneInside, Parts, all_behind, all_handed_on, all_kept, all_tokens, all_told, are_kept, asking, before_parts, begins, behind_name, behind_parts, closed, declared_behind, declared_first, declared_tokens, ended_behind, ended_in, first_tokens, judged_at, kept_sides, missing_in, opening, placed_word, told_parts, turned}
+use Rattle.inf_laws.specs.KeptSides.{Answers, AreParts, Around, At, First, IsFirst, IsSignedPlain, NoneInside, Parts, all_behind, all_handed_on, all_kept, all_tokens, all_told, are_kept, asking, begins, behind_name, behind_parts, closed, declared_behind, declared_first, declared_tokens, ended_behind, first_tokens, judged_at, kept_sides, missing_in, opening, placed_word, told_parts, turned}
 use Rattle.inf_laws.specs.Unfinished.{Asked, AreBegun, AreCutBy, Closes, GoOn, IsBegun, IsCutBy, Named, Turns, Unfinished, Unnamed, all_begun_tokens, behind_all_begun, behind_begun, begun_tokens, condition_so, told_all_begun, told_begun}
 use Rattle.inf_laws.proofs.AskingWords.{asking_fits}
-use Rattle.inf_laws.proofs.KeptSides.{AllStay, Holds, InnerLeft, Last, Led, LeftLed, OuterLeft, Reader, Reads, Stands, StandsAt, TakesAll, at, awaits_it, begins_kept, begun_asking, begun_opening, behind_both, calm_open, closes_left, conditionals, declared_behind_first, declared_both, directive, ended_stands, ended_told, fewer, hands_both, inner_not_kept, kept_at, last_at, last_behind, led, length_both, name_kept, not_kept, nothing_handed, passes, read_condition, read_on, reading, reads_none, relaxed, sign_inner, stack_of, stands_at, state, takes_none, tells_both, turns_left, with_condition, within, within_led}
+use Rattle.inf_laws.proofs.KeptSides.{AllStay, Holds, InnerLeft, Last, Led, LeftLed, OuterLeft, Reader, Reads, Stands, StandsAt, TakesAll, among_of, at, awaits_it, begins_kept, begun_asking, begun_opening, behind_both, calm_open, closes_left, conditionals, declared_behind_first, declared_both, directive, end_is_no_hash, ended_stands, ended_told, fewer, hands_both, inner_not_kept, inner_of, last_at, last_behind, led, left_of, length_both, name_kept, not_kept, nothing_handed, passes, read_condition, read_on, reading, reads_none, relaxed, sign_inner, stack_of, stands_at, state, takes_none, tells_both, turns_left, with_condition, within, within_led}
 
 -- what the innermost one waits for
 abbrev IsAwaited : Unfinished → Awaits → Type 0
@@ -50,7 +52,6 @@ record Begun (d : Answers) (u : Unfinished) (s : Around) (last : Last) (toks : L
   others : List Pending
   ks : List Condition
   led : Led (Reads p others ks) toks c [] places last
-  stays : all_kept last.around ≡ true
   waits_for : IsAwaited u p.awaits
   condition : HasCondition d s u ks
 
@@ -79,15 +80,6 @@ kept_so r last c e all = go e.stand e.stack e.is
         absurd (let never : true ≡ false = sym all ∙ ap all_kept (sym stack) ∙ inner_not_kept deep x inside between left in cc)
     go (OuterLeft deep x between left sb) stack is =
         absurd (let never : true ≡ false = sym all ∙ ap all_kept (sym stack) ∙ not_kept deep x between left in cc)
-
--- a name leaves it so
-name_stays : (e : Option ℕ) (s : Around) → all_kept s ≡ true → all_kept (ended_in e s) ≡ true
-name_stays None s all = all
-name_stays (Some now) s all = go (are_kept s.inside) all
-  where
-    go : (b : Bool) → b && are_kept s.between ≡ true → are_kept s.between ≡ true
-    go true e = e
-    go false e = cc
 
 -- parts that are read
 parts_read : (d : Answers) (parts : Parts) (p : Pending) (others : List Pending) (ks after : List Condition) (s : Around) (declared n : ℕ) (v : List (List Conditional)) (c : Conditions)
@@ -216,15 +208,14 @@ begun_led d (Unnamed is_inner if_declared first before) r s declared n v c e are
     let a = awaits.Name if_declared in
     let p = directive is_inner (begins first) a in
     let tokens = kept_sides d s before in
-    let adds = are.1.1.1.1 in
+    let none_kept = are.1.1.1.1 in
     record {
       p = p;
       others = k.base.pending;
       ks = k.base.conditions;
       led = begun_kept d before r is_inner (opening if_declared) a first k.base.conditions k.base.conditions s declared n v c k.base k.holds k.waits k.inside_kept k.between_kept k.is are.0 are.1.0
           (λ m. begun_opening is_inner if_declared first.word.token (begins first) (at k.base (conditionals s.inside) (conditionals s.between) None m)) are.1.1.1.0
-          (takes_none tokens (Reads p k.base.pending k.base.conditions) adds.1) (reads_none tokens (Reads p k.base.pending k.base.conditions) adds.1) few;
-      stays = adds.0 ∙ all;
+          (takes_none tokens (Reads p k.base.pending k.base.conditions) none_kept) (reads_none tokens (Reads p k.base.pending k.base.conditions) none_kept) few;
       waits_for = refl;
       condition = tt;
     }
@@ -252,7 +243,7 @@ begun_led d (Named is_inner if_declared first before name behind) r s declared n
     let places_behind = told_parts d y behind in
     let places_name = missing_in name.ended l.around ++ places_behind in
     let places = told_parts d s before ++ places_name in
-    let adds_behind = are.1.1.1.1.1.1 in
+    let none_behind = are.1.1.1.1.1.1 in
     let less = fewer first (all_tokens before ++ name ∷ all_tokens behind) in
     let sum = length_both (all_tokens before) (name ∷ all_tokens behind) in
     let start = reading is_inner place a base inner among now in
@@ -271,10 +262,9 @@ begun_led d (Named is_inner if_declared first before name behind) r s declared n
     (ended_told name.ended (AllStay l.around.inside l.around.between bi bb) l.declared (awaits_it is_inner place waits_end after))
     (parts_read d behind p_end base.pending base.conditions base.conditions y later l.levels v there
     (ended_stands q name.ended (AllStay l.around.inside l.around.between bi bb) l.declared l.levels v (awaits_it is_inner place waits_end after) (refl, refl) bw (omega arith))
-    are.1.1.1.1.1.0 (takes_none kept_behind q adds_behind.1) (reads_none kept_behind q adds_behind.1) (omega (arith, few, less, sum)))) in
+    are.1.1.1.1.1.0 (takes_none kept_behind q none_behind) (reads_none kept_behind q none_behind) (omega (arith, few, less, sum)))) in
     let declared_so : l2.declared ≡ declared_tokens toks declared =
     sym (declared_both (all_tokens before) (name ∷ all_tokens behind) now) ∙ declared_behind_first first (all_tokens before ++ name ∷ all_tokens behind) declared in
-    let behind_kept = kept_at p base.pending base.conditions in
     record {
       p = p_end;
       others = base.pending;
@@ -283,7 +273,6 @@ begun_led d (Named is_inner if_declared first before name behind) r s declared n
           (relaxed q toks (at base inner among None declared) [] places l2.around l2.declared (declared_tokens toks declared) l2.levels (n + length toks) v declared_so (omega (arith, less, sum))
           (begins_kept r q is_inner (opening if_declared) a first.sign first.word (all_tokens before ++ name ∷ all_tokens behind) base base inner among declared places l2 k.holds are.0.begins are.0.is are.0.goes_on
           (λ m. begun_opening is_inner if_declared first.word.token place (at base inner among None m)) (calm_open is_inner s.inside s.between are.1.0) rest));
-      stays = adds_behind.0 ∙ name_stays name.ended (behind_parts d s before) (adds.0 ∙ all);
       waits_for = (effect.Opens is_so, refl);
       condition = tt;
     }
@@ -301,19 +290,17 @@ begun_led d (Asked is_inner wanted first parts) r s declared n v c e are few =
       others = k.base.pending;
       ks = condition_so first tokens ∷ ks;
       led = begun_kept d parts r is_inner (asking wanted) a first (begun_so ∷ ks) (condition_so first tokens ∷ ks) s declared n v c k.base k.holds k.waits k.inside_kept k.between_kept k.is are.0 are.1.0
-          (λ m. begun_asking is_inner wanted first.word.token (begins first) k.base (conditionals s.inside) (conditionals s.between) m (asking_fits wanted first.word.token (begins first) are.0.is)) are.1.1.1.0.0
+          (λ m. begun_asking is_inner wanted first.word.token (begins first) k.base (conditionals s.inside) (conditionals s.between) m (asking_fits wanted first.word.token (begins first) are.0.is)) are.1.1.1.0
           (read_so tokens begun_so is_inner wanted (begins first) k.base.pending ks so_far) (read_condition tokens p k.base.pending begun_so ks) few;
-      stays = are.1.1.1.0.1 ∙ all;
       waits_for = refl;
       condition = (ks, refl);
     }
 begun_led d (Turns is_inner first parts) r s declared n v c e are few =
-    let x = before_parts turned s in
-    let is = ending_begun word.Ifnot turned effect.Turns (λ t place inner y. refl) turns_left d parts r is_inner first s declared n v c e (all_kept s) refl are.0 are.1.0 are.1.1.0 are.1.1.1.0 are.1.1.1.1.1 few in
-    record { p = is.p; others = is.others; ks = is.ks; led = is.led; stays = are.1.1.1.1.0 ∙ are.1.1.0; waits_for = is.waits_for; condition = tt }
+    let is = ending_begun word.Ifnot turned effect.Turns (λ t place inner y. refl) turns_left d parts r is_inner first s declared n v c e (all_kept s) refl are.0 are.1.0 are.1.1.0 are.1.1.1.0 are.1.1.1.1 few in
+    record { p = is.p; others = is.others; ks = is.ks; led = is.led; waits_for = is.waits_for; condition = tt }
 begun_led d (Closes is_inner first parts) r s declared n v c e are few =
-    let is = ending_begun word.Endif closed effect.Closes (λ t place inner y. refl) closes_left d parts r is_inner first s declared n v c e (all_kept s) refl are.0 are.1.0 are.1.1.0 are.1.1.1.0 are.1.1.1.1.1 few in
-    record { p = is.p; others = is.others; ks = is.ks; led = is.led; stays = are.1.1.1.1.0 ∙ are.1.1.0; waits_for = is.waits_for; condition = tt }
+    let is = ending_begun word.Endif closed effect.Closes (λ t place inner y. refl) closes_left d parts r is_inner first s declared n v c e (all_kept s) refl are.0 are.1.0 are.1.1.0 are.1.1.1.0 are.1.1.1.1 few in
+    record { p = is.p; others = is.others; ks = is.ks; led = is.led; waits_for = is.waits_for; condition = tt }
 
 -- One in the other
 
@@ -329,7 +316,6 @@ pub record AllBegun (d : Answers) (outer : List Unfinished) (u : Unfinished) (s 
   pub others : List Pending
   pub ks : List Condition
   pub led : Led (Reads p others ks) toks c [] places last
-  pub stays : all_kept last.around ≡ true
   pub waits_for : IsAwaited u p.awaits
   pub condition : HasAllCondition d s outer u ks
 
@@ -337,7 +323,7 @@ pub all_begun_led : (d : Answers) (outer : List Unfinished) (u : Unfinished) (r 
     → n + length (all_begun_tokens outer u) ≤ most_levels → AllBegun d outer u s (all_begun_last d outer u s declared n v) (all_begun_tokens outer u) (told_all_begun d s outer u) c
 all_begun_led d [] u r s declared n v c e are few =
     let is = begun_led d u r s declared n v c e are few in
-    record { p = is.p; others = is.others; ks = is.ks; led = is.led; stays = is.stays; waits_for = is.waits_for; condition = is.condition }
+    record { p = is.p; others = is.others; ks = is.ks; led = is.led; waits_for = is.waits_for; condition = is.condition }
 all_begun_led d (x ∷ outer) u r s declared n v c e are few =
     let toks = begun_tokens x in
     let more = all_begun_tokens outer u in
@@ -359,7 +345,6 @@ all_begun_led d (x ∷ outer) u r s declared n v c e are few =
       others = rest.others;
       ks = rest.ks;
       led = relaxed q (toks ++ more) c [] places l2.around l2.declared (declared_tokens (toks ++ more) declared) l2.levels (n + length (toks ++ more)) v (sym (declared_both toks more declared)) (omega (arith, sum)) both;
-      stays = rest.stays;
       waits_for = rest.waits_for;
       condition = rest.condition;
     }
@@ -383,60 +368,80 @@ no_name (kind.Mark x) bytes if_declared o p c other = refl
 no_name (kind.Bad x) bytes if_declared o p c other = refl
 no_name kind.End bytes if_declared o p c other = refl
 
-abbrev IsUnfit : Pending → List Pending → List Condition → Conditions → List Conditional → List Conditional → ℕ → At → Type 0
-IsUnfit p others ks base inner among declared t =
-    judged_at t (at (record base { pending = p ∷ others; conditions = ks }) inner among None declared) ≡ unfit_so (at (given_up_at base) inner among None declared)
+abbrev IsUnfit : Pending → List Pending → List Condition → Conditions → List Conditional → List Conditional → ℕ → Bool → At → Type 0
+IsUnfit p others ks base inner among declared front t =
+    offered front t.site.is_quiet t.out t.token (at (record base { pending = p ∷ others; conditions = ks }) inner among None declared) ≡ unfit_so (at (given_up_at base) inner among None declared)
 
-cut_name : (is_inner if_declared : Bool) (place : Place) (others : List Pending) (ks : List Condition) (base : Conditions) (inner among : List Conditional) (declared : ℕ) (t : At) → is_mark mark.Hash t.token.kind ≡ false → (t.token.kind ≡ kind.Name → ⊥)
-    → IsUnfit (directive is_inner place (awaits.Name if_declared)) others ks base inner among declared t
-cut_name is_inner if_declared place others ks base inner among declared t no_hash other =
+cut_name : (is_inner if_declared : Bool) (place : Place) (others : List Pending) (ks : List Condition) (base : Conditions) (inner among : List Conditional) (declared : ℕ) (front : Bool) (t : At) → is_mark mark.Hash t.token.kind ≡ false
+    → (t.token.kind ≡ kind.Name → ⊥) → IsUnfit (directive is_inner place (awaits.Name if_declared)) others ks base inner among declared front t
+cut_name is_inner if_declared place others ks base inner among declared front t no_hash other =
     let c = record base { pending = others; conditions = ks } in
     let here = at c inner among None declared in
     let p = directive is_inner place (awaits.Name if_declared) in
-    ap (λ (b : Bool). cond b (passed (held (t.site.is_between && false) t.token.place (reading is_inner place (awaits.Name if_declared) c inner among declared))) (named t.token.kind t.token.bytes if_declared t.out p here)) no_hash
+    ap (λ (b : Bool). cond b (passed (held front t.token.place (reading is_inner place (awaits.Name if_declared) c inner among declared))) (named t.token.kind t.token.bytes if_declared t.out p here)) no_hash
     ∙ no_name t.token.kind t.token.bytes if_declared t.out p here other
 
-cut_end : (e : Effect) (is_inner : Bool) (place : Place) (others : List Pending) (ks : List Condition) (base : Conditions) (inner among : List Conditional) (declared : ℕ) (t : At) → is_mark mark.Hash t.token.kind ≡ false → is_mark mark.Semicolon t.token.kind ≡ false
-    → IsUnfit (directive is_inner place (awaits.End e)) others ks base inner among declared t
-cut_end e is_inner place others ks base inner among declared t no_hash other =
+cut_end : (e : Effect) (is_inner : Bool) (place : Place) (others : List Pending) (ks : List Condition) (base : Conditions) (inner among : List Conditional) (declared : ℕ) (front : Bool) (t : At) → is_mark mark.Hash t.token.kind ≡ false
+    → is_mark mark.Semicolon t.token.kind ≡ false → IsUnfit (directive is_inner place (awaits.End e)) others ks base inner among declared front t
+cut_end e is_inner place others ks base inner among declared front t no_hash other =
     let c = record base { pending = others; conditions = ks } in
     let here = at c inner among None declared in
     let p = directive is_inner place (awaits.End e) in
     let quiet = t.site.is_quiet in
-    ap (λ (b : Bool). cond b (passed (held (t.site.is_between && false) t.token.place (reading is_inner place (awaits.End e) c inner among declared))) (cond (is_mark mark.Semicolon t.token.kind) (effected e quiet p here) (unfit here))) no_hash
+    ap (λ (b : Bool). cond b (passed (held front t.token.place (reading is_inner place (awaits.End e) c inner among declared))) (cond (is_mark mark.Semicolon t.token.kind) (effected e quiet p here) (unfit here))) no_hash
     ∙ ap (λ (b : Bool). cond b (effected e quiet p here) (unfit here)) other
 
-cut_condition : (is_inner wanted : Bool) (place : Place) (others : List Pending) (k : Condition) (ks : List Condition) (base : Conditions) (inner among : List Conditional) (declared : ℕ) (t : At) → is_mark mark.Hash t.token.kind ≡ false
-    → fits grammar known (atom_of t.token) k.stack ≡ false → IsUnfit (directive is_inner place (awaits.Condition wanted)) others (k ∷ ks) base inner among declared t
-cut_condition is_inner wanted place others k ks base inner among declared t no_hash other =
+cut_condition : (is_inner wanted : Bool) (place : Place) (others : List Pending) (k : Condition) (ks : List Condition) (base : Conditions) (inner among : List Conditional) (declared : ℕ) (front : Bool) (t : At)
+    → is_mark mark.Hash t.token.kind ≡ false → fits grammar known (atom_of t.token) k.stack ≡ false → IsUnfit (directive is_inner place (awaits.Condition wanted)) others (k ∷ ks) base inner among declared front t
+cut_condition is_inner wanted place others k ks base inner among declared front t no_hash other =
     let c = record base { pending = others; conditions = ks } in
     let here = at c inner among None declared in
     let a = awaits.Condition wanted in
     let p = directive is_inner place a in
     let then = went_on wanted t.site.is_quiet t.out t.token (condition_took t.token k) p here in
-    ap (λ (b : Bool). cond b (passed (held (t.site.is_between && false) t.token.place (reading is_inner place a (with_condition k c) inner among declared))) (cond (fits grammar known (atom_of t.token) k.stack) then (unfit here))) no_hash
+    ap (λ (b : Bool). cond b (passed (held front t.token.place (reading is_inner place a (with_condition k c) inner among declared))) (cond (fits grammar known (atom_of t.token) k.stack) then (unfit here))) no_hash
     ∙ ap (λ (b : Bool). cond b then (unfit here)) other
 
-cut_one : (d : Answers) (s : Around) (u : Unfinished) (p : Pending) (others : List Pending) (ks : List Condition) (base : Conditions) (inner among : List Conditional) (declared : ℕ) (t : At)
-    → IsAwaited u p.awaits → HasCondition d s u ks → is_mark mark.Hash t.token.kind ≡ false → IsCutBy d s u t → IsUnfit p others ks base inner among declared t
-cut_one d s (Unnamed is_inner if_declared first before) p others ks base inner among declared t waits condition no_hash cut =
-    subst (λ (a : Awaits). IsUnfit (directive p.is_inner p.place a) others ks base inner among declared t) (sym waits) (cut_name p.is_inner if_declared p.place others ks base inner among declared t no_hash cut)
-cut_one d s (Named is_inner if_declared first before name behind) p others ks base inner among declared t waits condition no_hash cut =
-    subst (λ (a : Awaits). IsUnfit (directive p.is_inner p.place a) others ks base inner among declared t) (sym waits.1) (cut_end waits.0 p.is_inner p.place others ks base inner among declared t no_hash cut)
-cut_one d s (Asked is_inner wanted first parts) p others ks base inner among declared t waits condition no_hash cut =
+cut_one : (d : Answers) (s : Around) (u : Unfinished) (p : Pending) (others : List Pending) (ks : List Condition) (base : Conditions) (inner among : List Conditional) (declared : ℕ) (front : Bool) (t : At)
+    → IsAwaited u p.awaits → HasCondition d s u ks → is_mark mark.Hash t.token.kind ≡ false → IsCutBy d s u t → IsUnfit p others ks base inner among declared front t
+cut_one d s (Unnamed is_inner if_declared first before) p others ks base inner among declared front t waits condition no_hash cut =
+    subst (λ (a : Awaits). IsUnfit (directive p.is_inner p.place a) others ks base inner among declared front t) (sym waits) (cut_name p.is_inner if_declared p.place others ks base inner among declared front t no_hash cut)
+cut_one d s (Named is_inner if_declared first before name behind) p others ks base inner among declared front t waits condition no_hash cut =
+    subst (λ (a : Awaits). IsUnfit (directive p.is_inner p.place a) others ks base inner among declared front t) (sym waits.1) (cut_end waits.0 p.is_inner p.place others ks base inner among declared front t no_hash cut)
+cut_one d s (Asked is_inner wanted first parts) p others ks base inner among declared front t waits condition no_hash cut =
     let k = condition_so first (kept_sides d s parts) in
-    subst (λ (a : Awaits). IsUnfit (directive p.is_inner p.place a) others ks base inner among declared t) (sym waits)
-    (subst (λ (cs : List Condition). IsUnfit (directive p.is_inner p.place (awaits.Condition wanted)) others cs base inner among declared t) (sym condition.1)
-    (cut_condition p.is_inner wanted p.place others k condition.0 base inner among declared t no_hash cut))
-cut_one d s (Turns is_inner first parts) p others ks base inner among declared t waits condition no_hash cut =
-    subst (λ (a : Awaits). IsUnfit (directive p.is_inner p.place a) others ks base inner among declared t) (sym waits.1) (cut_end waits.0 p.is_inner p.place others ks base inner among declared t no_hash cut)
-cut_one d s (Closes is_inner first parts) p others ks base inner among declared t waits condition no_hash cut =
-    subst (λ (a : Awaits). IsUnfit (directive p.is_inner p.place a) others ks base inner among declared t) (sym waits.1) (cut_end waits.0 p.is_inner p.place others ks base inner among declared t no_hash cut)
+    subst (λ (a : Awaits). IsUnfit (directive p.is_inner p.place a) others ks base inner among declared front t) (sym waits)
+    (subst (λ (cs : List Condition). IsUnfit (directive p.is_inner p.place (awaits.Condition wanted)) others cs base inner among declared front t) (sym condition.1)
+    (cut_condition p.is_inner wanted p.place others k condition.0 base inner among declared front t no_hash cut))
+cut_one d s (Turns is_inner first parts) p others ks base inner among declared front t waits condition no_hash cut =
+    subst (λ (a : Awaits). IsUnfit (directive p.is_inner p.place a) others ks base inner among declared front t) (sym waits.1) (cut_end waits.0 p.is_inner p.place others ks base inner among declared front t no_hash cut)
+cut_one d s (Closes is_inner first parts) p others ks base inner among declared front t waits condition no_hash cut =
+    subst (λ (a : Awaits). IsUnfit (directive p.is_inner p.place a) others ks base inner among declared front t) (sym waits.1) (cut_end waits.0 p.is_inner p.place others ks base inner among declared front t no_hash cut)
 
-pub cut_by : (d : Answers) (s : Around) (outer : List Unfinished) (u : Unfinished) (p : Pending) (others : List Pending) (ks : List Condition) (base : Conditions) (inner among : List Conditional) (declared : ℕ) (t : At)
-    → IsAwaited u p.awaits → HasAllCondition d s outer u ks → is_mark mark.Hash t.token.kind ≡ false → AreCutBy d s outer u t → IsUnfit p others ks base inner among declared t
-cut_by d s [] u p others ks base inner among declared t waits condition no_hash cut = cut_one d s u p others ks base inner among declared t waits condition no_hash cut
-cut_by d s (x ∷ outer) u p others ks base inner among declared t waits condition no_hash cut = cut_by d (behind_begun d s x) outer u p others ks base inner among declared t waits condition no_hash cut
+cut_by : (d : Answers) (s : Around) (outer : List Unfinished) (u : Unfinished) (p : Pending) (others : List Pending) (ks : List Condition) (base : Conditions) (inner among : List Conditional) (declared : ℕ) (front : Bool) (t : At)
+    → IsAwaited u p.awaits → HasAllCondition d s outer u ks → is_mark mark.Hash t.token.kind ≡ false → AreCutBy d s outer u t → IsUnfit p others ks base inner among declared front t
+cut_by d s [] u p others ks base inner among declared front t waits condition no_hash cut = cut_one d s u p others ks base inner among declared front t waits condition no_hash cut
+cut_by d s (x ∷ outer) u p others ks base inner among declared front t waits condition no_hash cut = cut_by d (behind_begun d s x) outer u p others ks base inner among declared front t waits condition no_hash cut
+
+-- in the midst of directives, whose conditionals stand so
+unfit_there : (d : Answers) (s : Around) (outer : List Unfinished) (u : Unfinished) (last : Last) (toks : List At) (places : List Place) (c : Conditions) (b : AllBegun d outer u s last toks places c) (front : Bool) (t : At)
+    → is_mark mark.Hash t.token.kind ≡ false → AreCutBy d s outer u t
+    → (let e = b.led.ends in let st = e.stand in offered front t.site.is_quiet t.out t.token (at e.base (inner_of st) (among_of st) None last.declared) ≡ unfit_so (at (given_up_at e.base) (inner_of st) (among_of st) None last.declared))
+unfit_there d s outer u last toks places c b front t no_hash cut =
+    let e = b.led.ends in
+    let inner = inner_of e.stand in
+    let among = among_of e.stand in
+    ap (λ ps. offered front t.site.is_quiet t.out t.token (at (record e.base { pending = ps }) inner among None last.declared)) e.holds.0
+    ∙ ap (λ cs. offered front t.site.is_quiet t.out t.token (at (record e.base { pending = b.p ∷ b.others; conditions = cs }) inner among None last.declared)) e.holds.1
+    ∙ cut_by d s outer u b.p b.others b.ks e.base inner among last.declared front t b.waits_for b.condition no_hash cut
+
+-- one that is kept there
+pub cut_kept : (d : Answers) (s : Around) (outer : List Unfinished) (u : Unfinished) (last : Last) (toks : List At) (places : List Place) (c : Conditions) (b : AllBegun d outer u s last toks places c) (t : At)
+    → all_kept last.around ≡ true → is_mark mark.Hash t.token.kind ≡ false → AreCutBy d s outer u t → (base : Conditions) (inner among : List Conditional)
+    → all_behind toks c ≡ at (record base { pending = b.p ∷ b.others; conditions = b.ks }) inner among None last.declared
+    → judged_at t (all_behind toks c) ≡ unfit_so (at (given_up_at base) inner among None last.declared)
+cut_kept d s outer u last toks places c b t all no_hash cut base inner among is =
+    ap (judged_at t) is ∙ cut_by d s outer u b.p b.others b.ks base inner among last.declared (t.site.is_between && false) t b.waits_for b.condition no_hash cut
 
 -- The end of the file cuts each.
 is_the_end : (k : TokenKind) → is_end k ≡ true → k ≡ kind.End
@@ -458,9 +463,30 @@ end_cuts_one d s (Asked is_inner wanted first parts) t is =
 end_cuts_one d s (Turns is_inner first parts) t is = ap (is_mark mark.Semicolon) (is_the_end t.token.kind is)
 end_cuts_one d s (Closes is_inner first parts) t is = ap (is_mark mark.Semicolon) (is_the_end t.token.kind is)
 
-pub end_cuts : (d : Answers) (s : Around) (outer : List Unfinished) (u : Unfinished) (t : At) → is_end t.token.kind ≡ true → AreCutBy d s outer u t
+end_cuts : (d : Answers) (s : Around) (outer : List Unfinished) (u : Unfinished) (t : At) → is_end t.token.kind ≡ true → AreCutBy d s outer u t
 end_cuts d s [] u t is = end_cuts_one d s u t is
 end_cuts d s (x ∷ outer) u t is = end_cuts d (behind_begun d s x) outer u t is
+
+-- whatever side is left out
+pub unfit_end : (d : Answers) (s : Around) (outer : List Unfinished) (u : Unfinished) (last : Last) (toks : List At) (places : List Place) (c : Conditions) (b : AllBegun d outer u s last toks places c) (t : At) → is_end t.token.kind ≡ true
+    → (let st = b.led.ends.stand in judged_at t (all_behind toks c) ≡ unfit_so (at (given_up_at b.led.ends.base) (inner_of st) (among_of st) None last.declared))
+unfit_end d s outer u last toks places c b t is = ap (judged_at t) b.led.ends.is ∙ go (left_of b.led.ends.stand)
+  where
+    inner : List Conditional
+    inner = inner_of b.led.ends.stand
+
+    among : List Conditional
+    among = among_of b.led.ends.stand
+
+    here : Conditions
+    here = at b.led.ends.base inner among None last.declared
+
+    go : (left : Option LeftOut) → judged_at t (at b.led.ends.base inner among left last.declared) ≡ unfit_so (at (given_up_at b.led.ends.base) inner among None last.declared)
+    go None =
+        unfit_there d s outer u last toks places c b (t.site.is_between && is_none_pending b.led.ends.base.pending) t (end_is_no_hash t.token.kind is) (end_cuts d s outer u t is)
+    go (Some side) =
+        ap (λ (x : Bool). cond x (offered false t.site.is_quiet t.out t.token here) (passed (passed_by (word_of t.token) t.token side (at b.led.ends.base inner among (Some side) last.declared)))) is
+        ∙ unfit_there d s outer u last toks places c b false t (end_is_no_hash t.token.kind is) (end_cuts d s outer u t is)
 
 -- a `#` and what is behind it
 pub sign_cut : (t : At) (base : Conditions) (p : Pending) (others : List Pending) (inner among : List Conditional) (declared : ℕ) → base.pending ≡ p ∷ others → is_mark mark.Hash t.token.kind ≡ true

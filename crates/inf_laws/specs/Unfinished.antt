@@ -12,7 +12,7 @@ use Rattle.inf_conditionals.specs.declared.judged.Handed.TheVariants as handed
 use Rattle.inf_conditionals.specs.declared.words.ConditionalWord.TheVariants as word
 use Rattle.inf_conditionals.specs.Open.{most_levels}
 use Rattle.inf_reader.specs.Handing.{hash}
-use Rattle.inf_laws.specs.KeptSides.{AddsNone, Answers, AreParts, Around, At, First, Handing, IsFirst, IsSign, IsSignedPlain, NoneInside, Parts, StayAs, all_kept, all_tokens, as_kept, asking, before_parts, behind_name, behind_parts, closed, condition_behind, declared_behind, declared_first, declared_tokens, ended_in, first_tokens, kept_sides, missing_in, opening, placed_word, told_parts, turned}
+use Rattle.inf_laws.specs.KeptSides.{AddsNone, Answers, AreParts, Around, At, First, Handing, IsFirst, IsSign, IsSignedPlain, NoneInside, Parts, all_kept, all_tokens, as_kept, asking, before_parts, behind_name, behind_parts, closed, condition_behind, declared_behind, declared_first, declared_tokens, ended_in, first_tokens, kept_sides, missing_in, opening, placed_word, told_parts, turned}
 
 -- What is there of one
 
@@ -57,11 +57,11 @@ GoOn (t ∷ tokens) k = (fits grammar known (atom_of t) k.stack ≡ true) × ((i
 abbrev pub condition_so : First → List Spelled → Condition
 condition_so first tokens = condition_behind tokens (condition_took (placed_word first) condition_begun)
 
--- It is read, and so it is kept; an `Ifnot` or `Endif` may begin in a side that its word ends.
+-- It is read, and so it is kept; an `Ifnot` or `Endif` may begin in a side that its word ends. Behind the last of its parts a side may be left out.
 abbrev pub IsBegun : Answers → Bool → Around → ℕ → Unfinished → Type 0
 IsBegun answers is_within s declared (Unnamed is_inner if_declared first before) =
     IsFirst true is_inner is_within (opening if_declared) first
-    × (NoneInside is_inner s × ((all_kept s ≡ true) × (AreParts answers true s (declared_first first declared) before × AddsNone answers s before)))
+    × (NoneInside is_inner s × ((all_kept s ≡ true) × (AreParts answers true s (declared_first first declared) before × (kept_sides answers s before ≡ []))))
 IsBegun answers is_within s declared (Named is_inner if_declared first before name behind) =
     let y = behind_name answers before name s in
     let now = declared_first first declared in
@@ -70,21 +70,20 @@ IsBegun answers is_within s declared (Named is_inner if_declared first before na
     × ((all_kept s ≡ true)
     × ((AreParts answers true s now before × AddsNone answers s before)
     × ((name.token.kind ≡ kind.Name)
-    × (AreParts answers true y (declared_behind name (declared_tokens (all_tokens before) now)) behind × AddsNone answers y behind)))))
+    × (AreParts answers true y (declared_behind name (declared_tokens (all_tokens before) now)) behind × (kept_sides answers y behind ≡ []))))))
 IsBegun answers is_within s declared (Asked is_inner wanted first within) =
     IsFirst true is_inner is_within (asking wanted) first
     × (NoneInside is_inner s
     × ((all_kept s ≡ true)
-    × ((AreParts answers true s (declared_first first declared) within × StayAs answers s within)
-    × GoOn (kept_sides answers s within) (condition_took (placed_word first) condition_begun))))
+    × (AreParts answers true s (declared_first first declared) within × GoOn (kept_sides answers s within) (condition_took (placed_word first) condition_begun))))
 IsBegun answers is_within s declared (Turns is_inner first within) =
     let x = before_parts turned s in
     IsFirst (all_kept s) is_inner is_within word.Ifnot first
-    × (NoneInside is_inner s × ((all_kept x ≡ true) × (AreParts answers true x (declared_first first declared) within × AddsNone answers x within)))
+    × (NoneInside is_inner s × ((all_kept x ≡ true) × (AreParts answers true x (declared_first first declared) within × (kept_sides answers x within ≡ []))))
 IsBegun answers is_within s declared (Closes is_inner first within) =
     let x = before_parts closed s in
     IsFirst (all_kept s) is_inner is_within word.Endif first
-    × (NoneInside is_inner s × ((all_kept x ≡ true) × (AreParts answers true x (declared_first first declared) within × AddsNone answers x within)))
+    × (NoneInside is_inner s × ((all_kept x ≡ true) × (AreParts answers true x (declared_first first declared) within × (kept_sides answers x within ≡ []))))
 
 -- One in the other
 
@@ -152,6 +151,8 @@ abbrev pub AreCutBy : Answers → Around → List Unfinished → Unfinished → 
 AreCutBy answers s [] u t = IsCutBy answers s u t
 AreCutBy answers s (x ∷ outer) u t = AreCutBy answers (behind_begun answers s x) outer u t
 
+-- it stands where it is kept
 abbrev pub IsMisfit : Answers → Around → List Unfinished → Unfinished → Misfit → Type 0
-IsMisfit answers s outer u (Bare t) = (is_mark mark.Hash t.token.kind ≡ false) × AreCutBy answers s outer u t
-IsMisfit answers s outer u (Hashed sign t) = IsSign true sign × IsSignedPlain t
+IsMisfit answers s outer u (Bare t) =
+    (all_kept (behind_all_begun answers s outer u) ≡ true) × ((is_mark mark.Hash t.token.kind ≡ false) × AreCutBy answers s outer u t)
+IsMisfit answers s outer u (Hashed sign t) = (all_kept (behind_all_begun answers s outer u) ≡ true) × (IsSign true sign × IsSignedPlain t)
