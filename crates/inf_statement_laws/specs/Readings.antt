@@ -1,5 +1,5 @@
 -- Tokens as they are read, one after the other, by the machine of the grammar; and a routine as a whole, from its opening bracket to its
--- semicolon. Designer's Manual, fourth edition, section 1.2.
+-- semicolon. Designer's Manual, fourth edition, section 1.3.
 use Rattle.std.specs.Prelude.{ℕ, Bool, true, ◌&&◌, List, [], ◌∷◌, ◌++◌, max}
 use Rattle.inf_scanner.specs.declared.tokens.Place.{Place}
 use Rattle.inf_machine.specs.Machine.{fits, taken}
