@@ -1,6 +1,12 @@
 -- What each action leaves of the statements that are open.
 use Rattle.std.proofs.Common.{◌≡◌, ℕ, List, [], ◌∷◌, Bool, true, false, ◌&&◌, Option, Some, None, refl, ◌∙◌, ap}
-use Rattle.std.specs.Prelude.{unwrap_or}
+use Rattle.std.specs.Prelude.{◌-◌, if◌then◌else◌, nat_lt, unwrap_or}
+use Rattle.inf_symbol.specs.Locals.{no_locals, with_locals}
+use Rattle.inf_symbol.specs.Spellings.{Name}
+use Rattle.inf_unit.specs.Units.{acted as unit_acted, first_place, last_place, long_at, names_in, taken as unit_taken}
+use Rattle.inf_statements.specs.declared.constructs.Over.TheVariants as over
+use Rattle.inf_work.specs.Actions.{Work, close, close_open, header_of, header_with, is_deep, is_replaced, named, nested, opens, passed, settled_of, sized, stopped, took, trees_at}
+use Rattle.inf_work.specs.Parts.{actions_named, case_prepared, construct_closed, construct_ended, construct_opened, constructs_laid, found_in, has_last, is_default, order_of, part_begun, part_carried, part_effect, part_ended, part_finished, part_prepared, place_of, statement_at, wanted_of}
 use Rattle.std.proofs.lemmas.Bool.{and_parts}
 use Rattle.inf_scanner.specs.declared.tokens.Place.{Place}
 use Rattle.inf_expressions.specs.declared.findings.Finding.{Finding}
@@ -13,7 +19,6 @@ use Rattle.inf_output.specs.declared.items.Item.{Item}
 use Rattle.inf_output.specs.Output.{Out}
 use Rattle.inf_unit.specs.Messages.{FileNames}
 use Rattle.inf_unit.specs.Tokens.{Spelled}
-use Rattle.inf_unit.specs.Units.{acted as unit_acted, long_at, taken as unit_taken}
 use Rattle.inf_unit.proofs.Cases.{of_both}
 use Rattle.inf_statements.specs.Constructs.{are_cases, are_own, cases_begun, changed, entered, entered_by, looped, looped_by, looped_over, opened, with_step}
 use Rattle.inf_statements.specs.declared.constructs.Case.TheVariants as case
@@ -21,8 +26,6 @@ use Rattle.inf_statements.specs.declared.constructs.Construct.{Construct}
 use Rattle.inf_statements.specs.declared.constructs.Kind.{Kind}
 use Rattle.inf_statements.specs.declared.constructs.Kind.TheVariants as kind
 use Rattle.inf_work.specs.Acting.{act}
-use Rattle.inf_work.specs.Actions.{Work, is_deep, named, nested, opens, passed, settled_of, sized, stopped, took, trees_at}
-use Rattle.inf_work.specs.Parts.{actions_named, case_prepared, constructs_laid, found_in, has_last, is_default, order_of, part_begun, part_carried, part_effect, part_ended, part_finished, part_prepared, place_of, statement_at, wanted_of}
 use Rattle.inf_work.specs.declared.parts.Part.{Part}
 use Rattle.inf_work.specs.declared.parts.Part.TheVariants as part
 use Rattle.inf_statement_laws.specs.Happenings.{Acts, Happening, Takes, happen_quietly, happens_quietly, is_quiet}
@@ -387,3 +390,115 @@ case_alone files place w h =
     (λ _. ap own_alone (case_carried files at (found_in part.Case ready) (named entering)).0
     ∙ entered_alone (is_default ready.unit.items) ready.constructs ready.output
     (ap own_alone (actions_named_same (are_own begun.constructs) begun).0 ∙ begun_alone before.constructs before.output h))
+
+-- Whatever is done in a routine closes none ahead where none was closed
+
+-- an action of a routine
+abbrev pub is_inside : Action → Bool
+is_inside action.EndDirective = false
+is_inside action.EndHeader = false
+is_inside action.EndBody = false
+is_inside action.EndClass = false
+is_inside action.EndAttribute = false
+is_inside action.EndProperty = false
+is_inside action.EndValue = false
+is_inside action.EndEmbedded = false
+is_inside action.EndLine = false
+is_inside action.EndEntry = false
+is_inside action.EndAlone = false
+is_inside _ = true
+
+opened_none : (files : FileNames) (place : Place) (k : Kind) (w : Work) → (construct_opened files place k w).closed ≡ w.closed
+opened_none files place k w = (nested_same files (last_place w.unit.tokens place) (is_deep w 1) w).1
+
+closed_none : (w : Work) → w.closed ≡ 0 → (construct_closed w).closed ≡ 0
+closed_none w e =
+    ap (λ (v : Work). v.closed) (ap (λ n. if nat_lt 0 n then record w { closed = n - 1 } else construct_ended w) e) ∙ e
+
+step_carried_none : (files : FileNames) (first : Place) (f : Option Finding) (v : Work)
+    → (part_carried files first part.Step f v).closed ≡ v.closed
+unfolding part_effect
+step_carried_none files first (Some f) v = refl
+step_carried_none files first None v = refl
+
+step_none : (files : FileNames) (place : Place) (w : Work) → (act files place action.EndForStep w).closed ≡ w.closed
+step_none files place w =
+    let ready = part_prepared w in
+    let first = place_of part.Step place ready in
+    of_both (λ (v : Work). v.closed ≡ w.closed) w.is_passed_over (passed (has_last part.Step) w) (part_finished files first part.Step ready)
+    (λ _. refl) (λ _. step_carried_none files first (found_in part.Step ready) (named ready))
+
+loop_carried_none : (files : FileNames) (first : Place) (f : Option Finding) (v : Work)
+    → (part_carried files first part.Loop f v).closed ≡ v.closed
+unfolding part_effect
+loop_carried_none files first (Some f) v = refl
+loop_carried_none files first None v = refl
+
+loop_none : (files : FileNames) (place : Place) (w : Work) → (act files place action.EndObjectloop w).closed ≡ w.closed
+loop_none files place w =
+    let ready = part_prepared w in
+    let first = place_of part.Loop place ready in
+    of_both (λ (v : Work). v.closed ≡ w.closed) w.is_passed_over (passed (has_last part.Loop) w) (part_finished files first part.Loop ready)
+    (λ _. refl) (λ _. loop_carried_none files first (found_in part.Loop ready) (named ready))
+
+-- a header closes none ahead, and leaves none open where none was
+pub header_same : (files : FileNames) (first : Place) (names : List Name) (w : Work)
+    → ((header_of files first names w).closed ≡ w.closed) × (w.constructs ≡ [] → (header_of files first names w).constructs ≡ [])
+header_same files first [] w = (refl, λ e. e)
+header_same files first (name ∷ locals) w =
+    of_both (λ (v : Work). (v.closed ≡ w.closed) × (w.constructs ≡ [] → v.constructs ≡ [])) (is_replaced name w)
+    (passed true (record w { is_passed_over = true; is_embedded = false; constructs = [] }))
+    (header_with files first name (with_locals locals no_locals) (record w { is_passed_over = false; is_embedded = false }))
+    (λ _. (refl, λ e. refl)) (λ _. (refl, λ e. refl))
+
+routine_none : (files : FileNames) (place : Place) (w : Work) → (close files place w).closed ≡ w.closed
+routine_none files place w =
+    of_both (λ (v : Work). v.closed ≡ w.closed) w.is_passed_over (passed true w) (close_open files place w) (λ _. refl) (λ _. refl)
+
+pub inside_act : (files : FileNames) (place : Place) (a : Action) (w : Work) → is_inside a ≡ true → w.closed ≡ 0
+    → (act files place a w).closed ≡ 0
+inside_act files place action.OpenIf w i e = opened_none files place kind.If w ∙ e
+inside_act files place action.OpenWhile w i e = opened_none files place kind.While w ∙ e
+inside_act files place action.OpenDo w i e = opened_none files place kind.Do w ∙ e
+inside_act files place action.OpenFor w i e = opened_none files place kind.For w ∙ e
+inside_act files place action.OpenObjectloop w i e = opened_none files place (kind.Objects over.Nothing 0) w ∙ e
+inside_act files place action.OpenSwitch w i e = opened_none files place (kind.Switch case.Nothing false) w ∙ e
+inside_act files place action.Else w i e = e
+inside_act files place action.Until w i e = e
+inside_act files place action.ForTop w i e = e
+inside_act files place action.Loop w i e = e
+inside_act files place action.EndForStep w i e = step_none files place w ∙ e
+inside_act files place action.EndObjectloop w i e = loop_none files place w ∙ e
+inside_act files place action.EndCase w i e = case_none_ahead files place w ∙ e
+inside_act files place action.Close w i e = closed_none w e
+inside_act files place action.EndRoutine w i e = routine_none files place w ∙ e
+inside_act files place action.EndLocals w i e = (header_same files (first_place w.unit.tokens place) (names_in w.unit.tokens) w).0 ∙ e
+inside_act files place action.EndDirective w i e = cc
+inside_act files place action.EndHeader w i e = cc
+inside_act files place action.EndBody w i e = cc
+inside_act files place action.EndClass w i e = cc
+inside_act files place action.EndAttribute w i e = cc
+inside_act files place action.EndProperty w i e = cc
+inside_act files place action.EndValue w i e = cc
+inside_act files place action.EndEmbedded w i e = cc
+inside_act files place action.EndLine w i e = cc
+inside_act files place action.EndEntry w i e = cc
+inside_act files place action.EndAlone w i e = cc
+inside_act files place a w i e = (quiet_act files place a w refl).1 ∙ e
+
+pub took_none : (files : FileNames) (t : Spelled) (w : Work) → (took files t w).closed ≡ w.closed
+took_none files t w = (took_same files t w).1
+
+pub quiet_inside : (a : Action) → is_quiet a ≡ true → is_inside a ≡ true
+quiet_inside action.EndDirective q = cc
+quiet_inside action.EndHeader q = cc
+quiet_inside action.EndBody q = cc
+quiet_inside action.EndClass q = cc
+quiet_inside action.EndAttribute q = cc
+quiet_inside action.EndProperty q = cc
+quiet_inside action.EndValue q = cc
+quiet_inside action.EndEmbedded q = cc
+quiet_inside action.EndLine q = cc
+quiet_inside action.EndEntry q = cc
+quiet_inside action.EndAlone q = cc
+quiet_inside _ q = refl

@@ -62,7 +62,7 @@ joining_is : (joins : Moment) (c : Construct) (around : List Construct) (w : Wor
     → passed joins.behind (construct_joined w) ≡ holding joins (between c w.output) around w
 joining_is joins c around w at = ap (λ l. passed joins.behind (constructs_laid (changed between l) w)) at.is
 
-closing_open : (w : Work) → w.closed ≡ 0 → construct_closed w ≡ construct_ended w
+pub closing_open : (w : Work) → w.closed ≡ 0 → construct_closed w ≡ construct_ended w
 closing_open w e = ap (λ n. if nat_lt 0 n then record w { closed = n - 1 } else construct_ended w) e
 
 closing_is : (closes : Moment) (c : Construct) (around : List Construct) (w : Work) → At c around w
@@ -475,10 +475,10 @@ routines_are_laid_whole = record {
 
 -- Closing ahead
 
-abbrev ahead : ℕ → Work → Work
+abbrev pub ahead : ℕ → Work → Work
 ahead count w = record (constructs_laid (all_ended count w.constructs) w) { closed = count }
 
-ahead_is : (count : ℕ) (w : Work) → w.closed ≡ 0 → closed_ahead count w ≡ ahead count w
+pub ahead_is : (count : ℕ) (w : Work) → w.closed ≡ 0 → closed_ahead count w ≡ ahead count w
 ahead_is count w e =
     let all : count - 0 ≡ count = omega arith in
     let most : max 0 count ≡ count = omega arith in
@@ -486,7 +486,7 @@ ahead_is count w e =
     ∙ (ap (λ n. record (constructs_laid (all_ended n w.constructs) w) { closed = max 0 count }) all
     ∙ ap (λ n. record (constructs_laid (all_ended count w.constructs) w) { closed = n }) most)
 
-next_ahead : (count : ℕ) (w : Work) → construct_closed (ahead (suc count) w) ≡ ahead count (construct_ended w)
+pub next_ahead : (count : ℕ) (w : Work) → construct_closed (ahead (suc count) w) ≡ ahead count (construct_ended w)
 next_ahead count w =
     let some : nat_lt 0 (suc count) ≡ true = lt-ltb 0 (suc count) (omega arith) in
     let one_less : suc count - 1 ≡ count = omega arith in
@@ -494,7 +494,7 @@ next_ahead count w =
     ∙ ap (λ n. record (ahead count (construct_ended w)) { closed = n }) one_less
 
 -- what is done before the next end, and behind it
-next_passed : (m : Between) (count : ℕ) (w : Work)
+pub next_passed : (m : Between) (count : ℕ) (w : Work)
     → construct_closed (passed m (ahead (suc count) w)) ≡ passed m (construct_closed (ahead (suc count) w))
 next_passed m count w =
     let some : nat_lt 0 (suc count) ≡ true = lt-ltb 0 (suc count) (omega arith) in

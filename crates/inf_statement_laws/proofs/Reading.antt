@@ -1,9 +1,10 @@
 -- Tokens as the machine takes them, and routines as a whole.
-use Rattle.std.proofs.Common.{◌≡◌, ℕ, List, [], ◌∷◌, ◌++◌, true, false, refl, sym, ◌∙◌, ap, subst, arith, map}
+use Rattle.std.proofs.Common.{◌≡◌, ℕ, zero, suc, ◌+◌, Option, Some, None, List, [], ◌∷◌, ◌++◌, true, refl, sym, ◌∙◌, ap, subst, arith, map, Bool, ◌&&◌}
 use Rattle.std.proofs.lemmas.Bool.{and_from, and_parts}
 use Rattle.inf_scanner.specs.declared.tokens.Mark.TheVariants as mark
 use Rattle.inf_scanner.specs.declared.tokens.Place.{Place}
 use Rattle.inf_machine.specs.declared.symbols.Symbol.{Symbol}
+use Rattle.inf_machine.specs.declared.symbols.Symbol.TheVariants.{Act, Rule, Token}
 use Rattle.inf_machine.specs.Grammar.{Did, Event, IsText, Took, here}
 use Rattle.inf_machine.specs.Machine.{events_of, fits, taken, work}
 use Rattle.inf_machine.proofs.Taking.{leads_on}
@@ -13,21 +14,20 @@ use Rattle.inf_syntax.specs.declared.actions.Action.TheVariants as action
 use Rattle.inf_syntax.specs.Parts.{ !end_locals, !end_routine, directive, directive_2}
 use Rattle.inf_grammar.specs.Evaluated.{language_is_decided}
 use Rattle.inf_grammar.specs.Language.{grammar, known}
-use Rattle.inf_symbol.specs.Locals.{no_locals, with_locals}
-use Rattle.inf_symbol.specs.Spellings.{Name}
+use Rattle.inf_grammar.specs.Routines.{closings}
 use Rattle.inf_unit.specs.Messages.{FileNames}
 use Rattle.inf_unit.specs.Tokens.{Spelled}
 use Rattle.inf_unit.specs.Units.{first_place, names_in}
-use Rattle.inf_unit.proofs.Cases.{of_both}
-use Rattle.inf_work.specs.Acting.{act, acted, all_acted}
-use Rattle.inf_work.specs.Actions.{Work, header_of, header_with, is_replaced, passed as passed_over, took}
-use Rattle.inf_statement_laws.specs.Happenings.{Acts, AreOf, Between, Happening, Takes}
+use Rattle.inf_work.specs.Acting.{act, acted}
+use Rattle.inf_work.specs.Actions.{Work, took}
+use Rattle.inf_work.specs.Parts.{closed_ahead, construct_ended}
+use Rattle.inf_statement_laws.specs.Happenings.{Acts, AreOf, Between, Happening, Quiet, Takes, happen_quietly, is_quiet}
 use Rattle.inf_statement_laws.specs.Laid.{happens, next_comes, passed, run}
-use Rattle.inf_statement_laws.specs.Laws.{RoutinesAreReadWhole, TokensHappen}
-use Rattle.inf_statement_laws.specs.Nested.{happenings}
-use Rattle.inf_statement_laws.specs.Readings.{Routine, Seen, all_fit, all_happenings, all_taken, body_laid, left_behind, routine_happenings, routine_laid, token_happenings}
-use Rattle.inf_statement_laws.proofs.Acts.{own_alone, quiet_run}
-use Rattle.inf_statement_laws.proofs.Laying.{alone_behind, depth_of, laid_as, run_then}
+use Rattle.inf_statement_laws.specs.Laws.{AreRoutine, RoutinesAreReadWhole, TokensHappen}
+use Rattle.inf_statement_laws.specs.Nested.{Case, Do, For, If, IfElse, Nested, NoStep, Objectloop, Plain, Step, StepEnds, Switch, Then, While, happenings, step_happenings}
+use Rattle.inf_statement_laws.specs.Readings.{Routine, Seen, all_fit, all_happenings, all_taken, behind_ends, behind_some, behind_token, body_laid, directed, left_behind, routine_happenings, routine_laid, token_happenings, with_behind}
+use Rattle.inf_statement_laws.proofs.Acts.{header_same, inside_act, is_inside, own_alone, quiet_inside, quiet_run, took_none}
+use Rattle.inf_statement_laws.proofs.Laying.{ahead, ahead_is, alone_behind, closing_open, depth_of, laid_as, next_ahead, next_passed, run_then}
 use Rattle.inf_statement_laws.proofs.Nesting.{body_in, quiet_of}
 use Rattle.inf_statement_laws.proofs.Rules.{header_parts, last_parts, piece_begins, quiet_header, routine_begins, routine_fits, routine_parts, semicolon_parts}
 use Rattle.inf_statement_laws.proofs.Texts.{OfRule, Parts, deep, split}
@@ -44,17 +44,6 @@ happen_as_events : (t : Spelled) (m : Between) (actions : List Action) (atom : �
 happen_as_events t m [] atom = tt
 happen_as_events t m (a ∷ actions) atom = (refl, happen_as_events t m actions atom)
 
-all_run : (files : FileNames) (seen : List Seen) (symbols : List (Symbol Action)) (w : Work)
-    → next_comes (all_taken files seen symbols w) ≡ run files (all_happenings seen symbols) (next_comes w)
-all_run files [] symbols w = refl
-all_run files (s ∷ seen) symbols w =
-    let n = taken grammar known s.atom symbols in
-    let v = passed s.behind (took files s.token (all_acted files s.token.place n.actions w)) in
-    let rest : List Happening = all_happenings seen n.left in
-    all_run files seen n.left v
-    ∙ (ap (run files rest) (actions_happen files s.token s.behind n.actions (next_comes w))
-    ∙ sym (run_then files (token_happenings s.token s.behind n.actions) rest (next_comes w)))
-
 -- the happenings of joined events
 are_joined : (events others : List (Event Action)) (xs ys : List Happening) → AreOf events xs → AreOf others ys
     → AreOf (events ++ others) (xs ++ ys)
@@ -67,6 +56,30 @@ are_joined (Did a ∷ events) others (Takes t m ∷ xs) ys x y = absurd x
 are_joined (Took atom ∷ events) others [] ys x y = absurd x
 are_joined (Took atom ∷ events) others (Acts at b ∷ xs) ys x y = absurd x
 are_joined (Took atom ∷ events) others (Takes t m ∷ xs) ys x y = are_joined events others xs ys x y
+
+with_behind_are : (events : List (Event Action)) (m : Between) (h : Happening) (hs : List Happening) → AreOf events (h ∷ hs)
+    → AreOf events (with_behind m h ∷ hs)
+with_behind_are [] m h hs are = absurd are
+with_behind_are (Did a ∷ events) m (Acts at b) hs are = are
+with_behind_are (Did a ∷ events) m (Takes t b) hs are = absurd are
+with_behind_are (Took atom ∷ events) m (Acts at b) hs are = absurd are
+with_behind_are (Took atom ∷ events) m (Takes t b) hs are = are
+
+behind_some_are : (events : List (Event Action)) (count : ℕ) (m : Between) (hs : List Happening) → AreOf events hs
+    → AreOf events (behind_some count m hs)
+behind_some_are events count m [] are = are
+behind_some_are events zero m (h ∷ hs) are = are
+behind_some_are events (suc zero) m (h ∷ hs) are = with_behind_are events m h hs are
+behind_some_are [] (suc (suc count)) m (h ∷ hs) are = absurd are
+behind_some_are (Did a ∷ events) (suc (suc count)) m (Acts at b ∷ hs) are = (are.0, behind_some_are events (suc count) m hs are.1)
+behind_some_are (Did a ∷ events) (suc (suc count)) m (Takes t b ∷ hs) are = absurd are
+behind_some_are (Took atom ∷ events) (suc (suc count)) m (Acts at b ∷ hs) are = absurd are
+behind_some_are (Took atom ∷ events) (suc (suc count)) m (Takes t b ∷ hs) are = behind_some_are events (suc count) m hs are
+
+behind_ends_are : (events : List (Event Action)) (d : Option Between) (count : ℕ) (hs : List Happening) → AreOf events hs
+    → AreOf events (behind_ends d count hs)
+behind_ends_are events None count hs are = are
+behind_ends_are events (Some m) count hs are = behind_some_are events count m hs are
 
 -- tokens that fit up to where nothing is left are a text
 record Text (seen : List Seen) (symbols : List (Symbol Action)) : Type 0 where
@@ -81,23 +94,300 @@ all_text (s ∷ seen) symbols f e =
     let n = taken grammar known s.atom symbols in
     let both = and_parts (fits grammar known s.atom symbols) (all_fit seen n.left) f in
     let on = all_text seen n.left both.1 e in
+    let own = behind_token s.directive (closings n.left) s.behind in
+    let rest : List Happening = behind_ends s.directive (closings n.left) (all_happenings seen n.left) in
     record {
       events = events_of n.actions s.atom ++ on.events;
       is_text = leads_on grammar known language_is_decided s.atom (work known s.atom symbols) symbols (omega arith) both.0 on.is_text;
-      are = are_joined (events_of n.actions s.atom) on.events (token_happenings s.token s.behind n.actions) (all_happenings seen n.left)
-          (happen_as_events s.token s.behind n.actions s.atom) on.are;
+      are = are_joined (events_of n.actions s.atom) on.events (token_happenings s.token own n.actions) rest
+          (happen_as_events s.token own n.actions s.atom)
+          (behind_ends_are on.events s.directive (closings n.left) (all_happenings seen n.left) on.are);
     }
 
 pub tokens_happen : TokensHappen
 tokens_happen = record {
   runs = λ files t m actions w. actions_happen files t m actions (next_comes w);
   are = happen_as_events;
-  all_run = all_run;
   all_are = λ seen symbol f e.
       let t = all_text seen (symbol ∷ []) f e in
       record { atoms = map (λ (s : Seen). s.atom) seen; events = t.events; is_text = t.is_text; are = t.are };
   directives = λ files place w. refl;
 }
+
+-- What conditional directives close ahead
+
+-- so many endings
+abbrev ends : ℕ → List Action
+ends zero = []
+ends (suc count) = action.Close ∷ ends count
+
+acted_then : (files : FileNames) (place : Place) (xs ys : List Action) (w : Work)
+    → acted files place (xs ++ ys) w ≡ acted files place ys (acted files place xs w)
+acted_then files place [] ys w = refl
+acted_then files place (x ∷ xs) ys w = acted_then files place xs ys (act files place x w)
+
+-- the statements that end next, whatever the next token is, end first
+closings_first : (atom : ℕ) (symbols : List (Symbol Action))
+    → (rest : List Action) × ((taken grammar known atom symbols).actions ≡ ends (closings symbols) ++ rest)
+closings_first atom [] = ((taken grammar known atom []).actions, refl)
+closings_first atom (Token class ∷ symbols) = ((taken grammar known atom (Token class ∷ symbols)).actions, refl)
+closings_first atom (Rule rule ∷ symbols) = ((taken grammar known atom (Rule rule ∷ symbols)).actions, refl)
+closings_first atom (Act action.Close ∷ symbols) =
+    let on = closings_first atom symbols in
+    let more : suc (closings symbols) ≡ 1 + closings symbols = omega arith in
+    (on.0, ap (λ l. action.Close ∷ l) on.1 ∙ ap (λ n. ends n ++ on.0) more)
+closings_first atom (Act a ∷ symbols) = ((taken grammar known atom (Act a ∷ symbols)).actions, refl)
+
+ends_none : (files : FileNames) (place : Place) (count : ℕ) (w : Work) → w.closed ≡ 0 → (acted files place (ends count) w).closed ≡ 0
+ends_none files place zero w e = e
+ends_none files place (suc count) w e = ends_none files place count (act files place action.Close w)
+    (inside_act files place action.Close w refl e)
+
+-- those that were closed ahead end, and what was done meanwhile is done behind them
+ahead_ends : (files : FileNames) (place : Place) (m : Between) (count : ℕ) (w : Work) → w.closed ≡ 0
+    → acted files place (ends count) (passed m (ahead count w)) ≡ passed m (acted files place (ends count) w)
+ahead_ends files place m zero w e = ap (λ n. passed m (record w { closed = n })) (sym e)
+ahead_ends files place m (suc count) w e =
+    ap (acted files place (ends count)) (next_passed m count w ∙ ap (passed m) (next_ahead count w))
+    ∙ (ahead_ends files place m count (construct_ended w) e
+    ∙ ap (λ v. passed m (acted files place (ends count) v)) (sym (closing_open w e)))
+
+-- and so do their happenings
+behind_ends_run : (files : FileNames) (t : Spelled) (b m : Between) (count : ℕ) (rest : List Action) (others : List Happening) (w : Work)
+    → run files (behind_some (suc count) m (token_happenings t b (ends (suc count) ++ rest) ++ others)) w
+    ≡ run files (token_happenings t b rest ++ others) (passed m (acted files t.place (ends (suc count)) w))
+behind_ends_run files t b m zero rest others w = refl
+behind_ends_run files t b m (suc count) rest others w = behind_ends_run files t b m count rest others (act files t.place action.Close w)
+
+-- Inside of a routine
+
+abbrev all_inside : List Action → Bool
+all_inside [] = true
+all_inside (a ∷ actions) = is_inside a && all_inside actions
+
+abbrev happens_inside : Happening → Bool
+happens_inside (Acts at a) = is_inside a
+happens_inside (Takes t m) = true
+
+abbrev happen_inside : List Happening → Bool
+happen_inside [] = true
+happen_inside (h ∷ hs) = happens_inside h && happen_inside hs
+
+abbrev reading_inside : List Seen → List (Symbol Action) → Bool
+reading_inside [] symbols = true
+reading_inside (s ∷ seen) symbols = all_inside (taken grammar known s.atom symbols).actions && reading_inside seen
+    (taken grammar known s.atom symbols).left
+
+acted_none : (files : FileNames) (place : Place) (actions : List Action) (w : Work) → all_inside actions ≡ true → w.closed ≡ 0
+    → (acted files place actions w).closed ≡ 0
+acted_none files place [] w i e = e
+acted_none files place (a ∷ actions) w i e =
+    let both = and_parts (is_inside a) (all_inside actions) i in
+    acted_none files place actions (act files place a w) both.1 (inside_act files place a w both.0 e)
+
+inside_joined : (xs ys : List Happening) → happen_inside xs ≡ true → happen_inside ys ≡ true → happen_inside (xs ++ ys) ≡ true
+inside_joined [] ys x y = y
+inside_joined (h ∷ xs) ys x y =
+    let both = and_parts (happens_inside h) (happen_inside xs) x in
+    and_from (happens_inside h) (happen_inside (xs ++ ys)) both.0 (inside_joined xs ys both.1 y)
+
+inside_token : (t : Spelled) (b : Between) (actions : List Action) (others : List Happening)
+    → happen_inside (token_happenings t b actions ++ others) ≡ true
+    → (all_inside actions ≡ true) × (happen_inside others ≡ true)
+inside_token t b [] others i = (refl, i)
+inside_token t b (a ∷ actions) others i =
+    let both = and_parts (is_inside a) (happen_inside (token_happenings t b actions ++ others)) i in
+    let on = inside_token t b actions others both.1 in
+    (and_from (is_inside a) (all_inside actions) both.0 on.0, on.1)
+
+with_behind_inside : (m : Between) (h : Happening) → happens_inside (with_behind m h) ≡ happens_inside h
+with_behind_inside m (Acts at a) = refl
+with_behind_inside m (Takes t b) = refl
+
+behind_some_inside : (count : ℕ) (m : Between) (hs : List Happening) → happen_inside (behind_some count m hs) ≡ happen_inside hs
+behind_some_inside count m [] = refl
+behind_some_inside zero m (h ∷ hs) = refl
+behind_some_inside (suc zero) m (h ∷ hs) = ap (λ b. b && happen_inside hs) (with_behind_inside m h)
+behind_some_inside (suc (suc count)) m (h ∷ hs) = ap (λ b. happens_inside h && b) (behind_some_inside (suc count) m hs)
+
+behind_ends_inside : (d : Option Between) (count : ℕ) (hs : List Happening) → happen_inside (behind_ends d count hs) ≡ happen_inside hs
+behind_ends_inside None count hs = refl
+behind_ends_inside (Some m) count hs = behind_some_inside count m hs
+
+reading_is_inside : (seen : List Seen) (symbols : List (Symbol Action)) → happen_inside (all_happenings seen symbols) ≡ true
+    → reading_inside seen symbols ≡ true
+reading_is_inside [] symbols i = refl
+reading_is_inside (s ∷ seen) symbols i =
+    let n = taken grammar known s.atom symbols in
+    let both = inside_token s.token (behind_token s.directive (closings n.left) s.behind) n.actions
+    (behind_ends s.directive (closings n.left) (all_happenings seen n.left)) i in
+    and_from (all_inside n.actions) (reading_inside seen n.left) both.0
+    (reading_is_inside seen n.left (sym (behind_ends_inside s.directive (closings n.left) (all_happenings seen n.left)) ∙ both.1))
+
+quiet_is_inside : (hs : List Happening) → happen_quietly hs ≡ true → happen_inside hs ≡ true
+quiet_is_inside [] q = refl
+quiet_is_inside (Acts at a ∷ hs) q =
+    let both = and_parts (is_quiet a) (happen_quietly hs) q in
+    and_from (is_inside a) (happen_inside hs) (quiet_inside a both.0) (quiet_is_inside hs both.1)
+quiet_is_inside (Takes t m ∷ hs) q = quiet_is_inside hs q
+
+quiet_then : (q : Quiet) (hs : List Happening) → happen_inside hs ≡ true → happen_inside (q.all ++ hs) ≡ true
+quiet_then q hs i = inside_joined q.all hs (quiet_is_inside q.all q.are) i
+
+step_is_inside : (step : Step) → happen_inside (step_happenings step) ≡ true
+step_is_inside NoStep = refl
+step_is_inside (StepEnds step ends) = quiet_then step (Acts ends action.EndForStep ∷ []) refl
+
+nested_is_inside : {b : Bool} (n : Nested b) → happen_inside (happenings n) ≡ true
+nested_is_inside (Plain plain) = quiet_is_inside plain.all plain.are
+nested_is_inside (Then before behind) = inside_joined (happenings before) (happenings behind) (nested_is_inside before)
+    (nested_is_inside behind)
+nested_is_inside (Case values ends) = quiet_then values (Acts ends action.EndCase ∷ []) refl
+nested_is_inside (If opens test body closes) =
+    quiet_then test (happenings body ++ Acts closes action.Close ∷ []) (inside_joined (happenings body) (Acts closes action.Close ∷ [])
+    (nested_is_inside body) refl)
+nested_is_inside (IfElse opens test body joins word other closes) =
+    let last : List Happening = Acts closes action.Close ∷ [] in
+    let rest : List Happening = word.all ++ (happenings other ++ last) in
+    quiet_then test (happenings body ++ Acts joins action.Else ∷ rest)
+    (inside_joined (happenings body) (Acts joins action.Else ∷ rest) (nested_is_inside body)
+    (quiet_then word (happenings other ++ last) (inside_joined (happenings other) last (nested_is_inside other) refl)))
+nested_is_inside (While opens test body closes) =
+    quiet_then test (happenings body ++ Acts closes action.Close ∷ []) (inside_joined (happenings body) (Acts closes action.Close ∷ [])
+    (nested_is_inside body) refl)
+nested_is_inside (Do opens body word joins test closes) =
+    let last : List Happening = test.all ++ Acts closes action.Close ∷ [] in
+    inside_joined (happenings body) (word.all ++ Acts joins action.Until ∷ last) (nested_is_inside body)
+    (quiet_then word (Acts joins action.Until ∷ last) (quiet_then test (Acts closes action.Close ∷ []) refl))
+nested_is_inside (For opens start joins test step bracket body closes) =
+    let last : List Happening = happenings body ++ Acts closes action.Close ∷ [] in
+    quiet_then start (Acts joins action.ForTop ∷ (test.all ++ (step_happenings step ++ (bracket.all ++ last))))
+    (quiet_then test (step_happenings step ++ (bracket.all ++ last))
+    (inside_joined (step_happenings step) (bracket.all ++ last) (step_is_inside step)
+    (quiet_then bracket last (inside_joined (happenings body) (Acts closes action.Close ∷ []) (nested_is_inside body) refl))))
+nested_is_inside (Objectloop opens loop ends joins bracket body closes) =
+    let last : List Happening = happenings body ++ Acts closes action.Close ∷ [] in
+    quiet_then loop (Acts ends action.EndObjectloop ∷ Acts joins action.Loop ∷ (bracket.all ++ last))
+    (quiet_then bracket last (inside_joined (happenings body) (Acts closes action.Close ∷ []) (nested_is_inside body) refl))
+nested_is_inside (Switch opens value cases brace closes) =
+    let last : List Happening = brace.all ++ Acts closes action.Close ∷ [] in
+    quiet_then value (happenings cases ++ last)
+    (inside_joined (happenings cases) last (nested_is_inside cases) (quiet_then brace (Acts closes action.Close ∷ []) refl))
+
+routine_is_inside : (r : Routine) → happen_inside (routine_happenings r) ≡ true
+routine_is_inside r =
+    let last : List Happening = Acts r.ends action.EndRoutine ∷ r.last.all in
+    quiet_then r.header (Acts r.heads action.EndLocals ∷ (r.semicolon.all ++ (happenings r.body ++ last)))
+    (quiet_then r.semicolon (happenings r.body ++ last) (inside_joined (happenings r.body) last (nested_is_inside r.body)
+    (quiet_is_inside r.last.all r.last.are)))
+
+-- Reading
+
+-- where what was done from a conditional directive on is still to be put behind ends
+abbrev Waits : Option Between → List (Symbol Action) → Type 0
+Waits None symbols = Unit {0}
+Waits (Some m) symbols = (count : ℕ) × (closings symbols ≡ suc count)
+
+-- where a token's actions begin, by what they are from there on
+record Starts (files : FileNames) (d : Option Between) (s : Seen) (own : Between) (symbols : List (Symbol Action))
+    (others : List Happening) (w : Work) : Type 0 where
+  rest : List Action
+  from : Work
+  acts : acted files s.token.place (taken grammar known s.atom symbols).actions (next_comes (directed d (closings symbols) w)) ≡ acted
+      files s.token.place rest from
+  runs : run files (behind_ends d (closings symbols) (token_happenings s.token own (taken grammar known s.atom symbols).actions ++
+      others)) (next_comes w)
+      ≡ run files (token_happenings s.token own rest ++ others) from
+  none : from.closed ≡ 0
+  inside : all_inside rest ≡ true
+
+inside_rest : (count : ℕ) (rest : List Action) → all_inside (ends count ++ rest) ≡ true → all_inside rest ≡ true
+inside_rest zero rest i = i
+inside_rest (suc count) rest i = inside_rest count rest i
+
+starts : (files : FileNames) (d : Option Between) (s : Seen) (own : Between) (symbols : List (Symbol Action)) (others : List Happening)
+    (w : Work) → w.closed ≡ 0 → Waits d symbols
+    → all_inside (taken grammar known s.atom symbols).actions ≡ true → Starts files d s own symbols others w
+starts files None s own symbols others w e waits i =
+    record { rest = (taken grammar known s.atom symbols).actions; from = next_comes w; acts = refl; runs = refl; none = e; inside = i }
+starts files (Some m) s own symbols others w e waits i =
+    let c = closings_first s.atom symbols in
+    let place = s.token.place in
+    let k = suc waits.0 in
+    let actions : (taken grammar known s.atom symbols).actions ≡ ends k ++ c.0 = c.1 ∙ ap (λ n. ends n ++ c.0) waits.1 in
+    let v = next_comes w in
+    record {
+      rest = c.0;
+      from = passed m (acted files place (ends k) v);
+      acts =
+          ap (λ n. acted files place (taken grammar known s.atom symbols).actions (next_comes (passed m (closed_ahead n w)))) waits.1
+          ∙ (ap (λ l. acted files place l (passed m (closed_ahead k v))) actions
+          ∙ (acted_then files place (ends k) c.0 (passed m (closed_ahead k v))
+          ∙ (ap (λ x. acted files place c.0 (acted files place (ends k) (passed m x))) (ahead_is k v e)
+          ∙ ap (acted files place c.0) (ahead_ends files place m k v e))));
+      runs =
+          ap (λ n. run files (behind_some n m (token_happenings s.token own (taken grammar known s.atom symbols).actions ++ others)) v)
+          waits.1
+          ∙ (ap (λ l. run files (behind_some k m (token_happenings s.token own l ++ others)) v) actions
+          ∙ behind_ends_run files s.token own m waits.0 c.0 others v);
+      none = ends_none files place k v e;
+      inside = inside_rest k c.0 (sym (ap all_inside actions) ∙ i);
+    }
+
+behind_none : (m : Between) (hs : List Happening) → behind_some 0 m hs ≡ hs
+behind_none m [] = refl
+behind_none m (h ∷ hs) = refl
+
+-- what all further tokens do
+abbrev Further : FileNames → List Seen → List (Symbol Action) → Type 0
+Further files seen symbols =
+    (d : Option Between) (w : Work) → w.closed ≡ 0 → Waits d symbols
+    → next_comes (all_taken files seen symbols (directed d (closings symbols) w)) ≡ run files
+    (behind_ends d (closings symbols) (all_happenings seen symbols)) (next_comes w)
+
+-- behind a token
+onward : (files : FileNames) (seen : List Seen) (symbols : List (Symbol Action)) → Further files seen symbols
+    → (d : Option Between) (b : Between) (w : Work) → w.closed ≡ 0
+    → (count : ℕ) → closings symbols ≡ count
+    → next_comes (all_taken files seen symbols (directed d (closings symbols) (passed b w)))
+    ≡ run files (behind_ends d (closings symbols) (all_happenings seen symbols))
+    (next_comes (passed (behind_token d (closings symbols) b) w))
+onward files seen symbols further None b w e count is = further None (passed b w) e tt
+onward files seen symbols further (Some m) b w e (suc count) is =
+    further (Some m) (passed b w) e (count, is)
+    ∙ ap (λ n. run files (behind_some (closings symbols) m (all_happenings seen symbols))
+    (next_comes (passed (behind_token (Some m) n b) w))) (sym is)
+onward files seen symbols further (Some m) b w e zero is =
+    let v = passed b w in
+    let none : closed_ahead 0 v ≡ v = ahead_is 0 v e ∙ ap (λ n. record v { closed = n }) (sym e) in
+    ap (λ n. next_comes (all_taken files seen symbols (passed m (closed_ahead n v)))) is
+    ∙ (ap (λ x. next_comes (all_taken files seen symbols (passed m x))) none
+    ∙ (further None (passed m v) e tt
+    ∙ (ap (λ l. run files l (next_comes (passed m v))) (sym (behind_none m (all_happenings seen symbols)))
+    ∙ ap (λ n. run files (behind_some n m (all_happenings seen symbols)) (next_comes (passed (behind_token (Some m) n b) w))) (sym is))))
+
+no_ends : (symbols : List (Symbol Action)) (count : ℕ) → symbols ≡ [] → closings symbols ≡ suc count → ⊥
+no_ends symbols count e c = let none : 0 ≡ suc count = sym (ap closings e) ∙ c in absurd (omega (arith, none))
+
+all_read : (files : FileNames) (seen : List Seen) (symbols : List (Symbol Action)) → left_behind seen symbols ≡ []
+    → reading_inside seen symbols ≡ true → Further files seen symbols
+all_read files [] symbols l i None w e waits = refl
+all_read files [] symbols l i (Some m) w e waits = absurd (no_ends symbols waits.0 l waits.1)
+all_read files (s ∷ seen) symbols l i d w e waits =
+    let n = taken grammar known s.atom symbols in
+    let both = and_parts (all_inside n.actions) (reading_inside seen n.left) i in
+    let own = behind_token s.directive (closings n.left) s.behind in
+    let others : List Happening = behind_ends s.directive (closings n.left) (all_happenings seen n.left) in
+    let st = starts files d s own symbols others w e waits both.0 in
+    let acted_on = acted files s.token.place st.rest st.from in
+    let none : (took files s.token acted_on).closed ≡ 0 =
+    took_none files s.token acted_on ∙ acted_none files s.token.place st.rest st.from st.inside st.none in
+    ap (λ v. next_comes (all_taken files seen n.left (directed s.directive (closings n.left) (passed s.behind (took files s.token v)))))
+    st.acts
+    ∙ (onward files seen n.left (all_read files seen n.left l both.1) s.directive s.behind (took files s.token acted_on) none
+    (closings n.left) refl
+    ∙ (ap (run files others) (actions_happen files s.token own st.rest st.from)
+    ∙ (sym (run_then files (token_happenings s.token own st.rest) others st.from) ∙ sym st.runs)))
 
 -- Routines
 
@@ -140,18 +430,11 @@ are_routines bracket seen is f e =
     (sym (ap (λ n. all_fit seen n.left) begins) ∙ both.1))
     (sym (ap (λ n. left_behind seen n.left) begins) ∙ e) in
     let d = deep t.is_text refl (all_happenings (bracket ∷ seen) routine_parts) t.are in
-    let r = routine_of d.0 (all_happenings (bracket ∷ seen) routine_parts) d.1 in
-    (r.0, r.1 ∙ sym (ap (λ n. token_happenings bracket.token bracket.behind n.actions ++ all_happenings seen n.left) begins))
-
--- a header closes none ahead, and leaves none open where none was
-header_same : (files : FileNames) (first : Place) (names : List Name) (w : Work)
-    → ((header_of files first names w).closed ≡ w.closed) × (w.constructs ≡ [] → (header_of files first names w).constructs ≡ [])
-header_same files first [] w = (refl, λ e. e)
-header_same files first (name ∷ locals) w =
-    of_both (λ (v : Work). (v.closed ≡ w.closed) × (w.constructs ≡ [] → v.constructs ≡ [])) (is_replaced name w)
-    (passed_over true (record w { is_passed_over = true; is_embedded = false; constructs = [] }))
-    (header_with files first name (with_locals locals no_locals) (record w { is_passed_over = false; is_embedded = false }))
-    (λ _. (refl, λ e. refl)) (λ _. (refl, λ e. refl))
+    let r = routine_of d.0 (all_happenings (bracket ∷ seen) routine_parts) d.1 in (
+      r.0,
+      r.1 ∙ sym (ap (λ n. token_happenings bracket.token (behind_token bracket.directive (closings n.left) bracket.behind) n.actions
+          ++ behind_ends bracket.directive (closings n.left) (all_happenings seen n.left)) begins),
+    )
 
 -- up to what stands in it
 abbrev headed : FileNames → Routine → Work → Work
@@ -175,11 +458,21 @@ routine_lays files r w e =
     ∙ (run_then files (happenings r.body) rest (headed files r w)
     ∙ ap (run files rest) (laid_as files r.body (headed files r w) (headed_same files r w e).0).runs))
 
+read_as : (bracket : Seen) (seen : List Seen) (r : Routine) → left_behind (bracket ∷ seen) (directive ∷ []) ≡ []
+    → routine_happenings r ≡ all_happenings (bracket ∷ seen) (directive ∷ []) → AreRoutine r (bracket ∷ seen)
+read_as bracket seen r l same =
+    let inside = reading_is_inside (bracket ∷ seen) (directive ∷ []) (sym (ap happen_inside same) ∙ routine_is_inside r) in
+    record {
+      same = same;
+      lay = λ files w e.
+          all_read files (bracket ∷ seen) (directive ∷ []) l inside None w e tt
+          ∙ (ap (λ hs. run files hs (next_comes w)) (sym same) ∙ routine_lays files r (next_comes w) e);
+    }
+
 pub routines_are_read_whole : RoutinesAreReadWhole
 routines_are_read_whole = record {
-  are = are_routines;
+  are = λ bracket seen is f l. let r = are_routines bracket seen is f l in (r.0, read_as bracket seen r.0 l r.1);
   begin = piece_begins;
-  lay = routine_lays;
   end = λ files r w e o.
       let h = headed_same files r w e in
       depth_of (body_laid files r w).constructs (alone_behind files r.body (headed files r w) h.0 (ap own_alone (h.1 o)));

@@ -23,7 +23,8 @@ number (Token class) = 0
 number (Act a) = 0
 number (Rule rule) = rule
 
--- Rules of tokens and quiet actions alone, which the rules of expressions are, as the bits of a number.
+-- Rules of tokens and quiet actions alone, which the rules of expressions are, as the bits of a number. These are a rule's where all of its
+-- rows have nothing else; another numbering of the rules has others, which the evaluations below then refuse.
 abbrev quiet_rules : ℕ
 quiet_rules = 0x40040812079018040818ffffffffc1839f6fffffffffffffab003c01ff3768
 

@@ -23,14 +23,12 @@ use Rattle.inf_statement_laws.specs.Laid.{laid, next_comes, passed, run, with_ki
 use Rattle.inf_statement_laws.specs.Readings.{Routine, Seen, all_fit, all_happenings, all_taken, body_laid, directive_between, left_behind, plainly_at, routine_happenings, routine_laid, token_happenings}
 
 -- What a token that fits does, and what is done behind it, is what its happenings do, one by one, from where it has come up to where the
--- next one comes. They are those of its events. So it is with tokens that the machine takes one after the other; where nothing is left behind
--- them, they are a text.
+-- next one comes. They are those of its events. And tokens that the machine takes, one after the other, are a text where nothing is left
+-- behind them.
 pub record TokensHappen : Type 0 where
   pub runs : (files : FileNames) (t : Spelled) (m : Between) (actions : List Action) (w : Work)
       → next_comes (passed m (took files t (all_acted files t.place actions w))) ≡ run files (token_happenings t m actions) (next_comes w)
   pub are : (t : Spelled) (m : Between) (actions : List Action) (atom : ℕ) → AreOf (events_of actions atom) (token_happenings t m actions)
-  pub all_run : (files : FileNames) (seen : List Seen) (symbols : List (Symbol Action)) (w : Work)
-      → next_comes (all_taken files seen symbols w) ≡ run files (all_happenings seen symbols) (next_comes w)
   pub all_are : (seen : List Seen) (symbol : Symbol Action) → all_fit seen (symbol ∷ []) ≡ true → left_behind seen (symbol ∷ []) ≡ []
       → IsRead symbol (all_happenings seen (symbol ∷ []))
   pub directives : (files : FileNames) (place : Place) (w : Work) → begun_at files place w ≡ passed (directive_between files place) w
@@ -70,16 +68,20 @@ pub record RoutinesAreLaidWhole : Type 0 where
       → (s : Nested true) × IsWhole files s hs
   pub ends : (files : FileNames) (body : Symbol Action) (hs : List Happening) → IsOneOf body bodies → IsRead body hs → EndsOpen files hs
 
--- So a routine is read as a whole, from its bracket on, by tokens that fit up to where nothing is left: its header, what stands in it, and
--- its end, at which no statement is open.
+-- Tokens are those of a routine, and do what it lays as a whole, also with conditional directives among them, which close statements ahead.
+pub record AreRoutine (r : Routine) (seen : List Seen) : Type 0 where
+  pub same : routine_happenings r ≡ all_happenings seen (directive ∷ [])
+  pub lay : (files : FileNames) (w : Work) → w.closed ≡ 0
+      → next_comes (all_taken files seen (directive ∷ []) w) ≡ routine_laid files r (next_comes w)
+
+-- So a routine is read, from its bracket on, by tokens that fit up to where nothing is left: its header, what stands in it, and its end,
+-- before which no statement is open where none was before the header.
 pub record RoutinesAreReadWhole : Type 0 where
   pub are : (bracket : Seen) (seen : List Seen) → bracket.atom ≡ mark_atom mark.OpenBracket
-      → all_fit (bracket ∷ seen) (directive ∷ []) ≡ true
-      → left_behind (bracket ∷ seen) (directive ∷ []) ≡ []
-      → (r : Routine) × (routine_happenings r ≡ all_happenings (bracket ∷ seen) (directive ∷ []))
+      → all_fit (bracket ∷ seen) (directive ∷ []) ≡ true → left_behind (bracket ∷ seen) (directive ∷ []) ≡ []
+      → (r : Routine) × AreRoutine r (bracket ∷ seen)
   pub begin : taken grammar known (mark_atom mark.OpenBracket) (piece ∷ [])
       ≡ taken grammar known (mark_atom mark.OpenBracket) (directive ∷ [])
-  pub lay : (files : FileNames) (r : Routine) (w : Work) → w.closed ≡ 0 → run files (routine_happenings r) w ≡ routine_laid files r w
   pub end : (files : FileNames) (r : Routine) (w : Work) → w.closed ≡ 0 → w.constructs ≡ [] → depth (body_laid files r w).constructs ≡ 0
 
 -- So many statements end one behind the other.

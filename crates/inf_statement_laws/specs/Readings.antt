@@ -1,18 +1,20 @@
 -- Tokens as they are read, one after the other, by the machine of the grammar; and a routine as a whole, from its opening bracket to its
 -- semicolon. Designer's Manual, fourth edition, section 1.3.
-use Rattle.std.specs.Prelude.{ℕ, Bool, true, ◌&&◌, List, [], ◌∷◌, ◌++◌, max}
+use Rattle.std.specs.Prelude.{ℕ, zero, suc, Bool, true, ◌&&◌, List, [], ◌∷◌, ◌++◌, Option, Some, None, max}
 use Rattle.inf_scanner.specs.declared.tokens.Place.{Place}
 use Rattle.inf_machine.specs.Machine.{fits, taken}
 use Rattle.inf_machine.specs.declared.symbols.Symbol.{Symbol}
 use Rattle.inf_syntax.specs.declared.actions.Action.{Action}
 use Rattle.inf_syntax.specs.declared.actions.Action.TheVariants as action
 use Rattle.inf_grammar.specs.Language.{grammar, known}
+use Rattle.inf_grammar.specs.Routines.{closings}
 use Rattle.inf_code.specs.Code.{labels}
 use Rattle.inf_output.specs.Output.{begun, full}
 use Rattle.inf_unit.specs.Messages.{FileNames, with_full}
 use Rattle.inf_unit.specs.Tokens.{Spelled}
 use Rattle.inf_work.specs.Acting.{all_acted}
 use Rattle.inf_work.specs.Actions.{Work, took}
+use Rattle.inf_work.specs.Parts.{closed_ahead}
 use Rattle.inf_statement_laws.specs.Happenings.{Acts, Between, Happening, Moment, Quiet, Takes}
 use Rattle.inf_statement_laws.specs.Laid.{happens, laid, passed, run}
 use Rattle.inf_statement_laws.specs.Nested.{Nested, happenings}
@@ -21,6 +23,14 @@ use Rattle.inf_statement_laws.specs.Nested.{Nested, happenings}
 
 abbrev pub nothing_between : Between
 nothing_between = record { report = λ o r. r; output = λ o. o; most_labels = λ o n. n; asked = λ a. a }
+
+abbrev pub then_between : Between → Between → Between
+then_between m n = record {
+  report = λ o r. n.report (m.output o) (m.report o r);
+  output = λ o. n.output (m.output o);
+  most_labels = λ o k. n.most_labels (m.output o) (m.most_labels o k);
+  asked = λ a. n.asked (m.asked a);
+}
 
 abbrev pub plainly_at : Place → Moment
 plainly_at place = record { place = place; behind = nothing_between }
@@ -35,16 +45,13 @@ directive_between files place = record nothing_between {
 
 -- Tokens
 
--- one that was taken behind some actions
-abbrev pub token_happenings : Spelled → Between → List Action → List Happening
-token_happenings t m [] = Takes t m ∷ []
-token_happenings t m (a ∷ actions) = Acts (plainly_at t.place) a ∷ token_happenings t m actions
-
--- a token with what is done behind it, and the atom as which the grammar sees it
+-- A token with the atom as which the grammar sees it, what is done behind it, and what is done from where the first conditional directive
+-- ends behind it, if one does.
 pub record Seen : Type 0 where
   pub token : Spelled
-  pub behind : Between
   pub atom : ℕ
+  pub behind : Between
+  pub directive : Option Between
 
 -- whether they fit what is still to be read, one after the other, and what is left of that behind them
 abbrev pub all_fit : List Seen → List (Symbol Action) → Bool
@@ -55,17 +62,53 @@ abbrev pub left_behind : List Seen → List (Symbol Action) → List (Symbol Act
 left_behind [] symbols = symbols
 left_behind (s ∷ seen) symbols = left_behind seen (taken grammar known s.atom symbols).left
 
+-- A conditional directive closes those statements ahead that end next, whatever the next token is.
+abbrev pub directed : Option Between → ℕ → Work → Work
+directed None count w = w
+directed (Some m) count w = passed m (closed_ahead count w)
+
 -- Each is taken behind the actions on the way to it.
 abbrev pub all_taken : FileNames → List Seen → List (Symbol Action) → Work → Work
 all_taken files [] symbols w = w
 all_taken files (s ∷ seen) symbols w =
     let n = taken grammar known s.atom symbols in
-    all_taken files seen n.left (passed s.behind (took files s.token (all_acted files s.token.place n.actions w)))
+    all_taken files seen n.left
+    (directed s.directive (closings n.left) (passed s.behind (took files s.token (all_acted files s.token.place n.actions w))))
+
+-- Their happenings
+
+-- those of one, behind some actions
+abbrev pub token_happenings : Spelled → Between → List Action → List Happening
+token_happenings t m [] = Takes t m ∷ []
+token_happenings t m (a ∷ actions) = Acts (plainly_at t.place) a ∷ token_happenings t m actions
+
+-- What is done from where a conditional directive ends is done behind the ends of the statements that it closes ahead.
+abbrev pub with_behind : Between → Happening → Happening
+with_behind m (Acts at a) = Acts (record at { behind = then_between at.behind m }) a
+with_behind m (Takes t b) = Takes t (then_between b m)
+
+abbrev pub behind_some : ℕ → Between → List Happening → List Happening
+behind_some count m [] = []
+behind_some zero m (h ∷ happenings) = h ∷ happenings
+behind_some (suc zero) m (h ∷ happenings) = with_behind m h ∷ happenings
+behind_some (suc (suc count)) m (h ∷ happenings) = h ∷ behind_some (suc count) m happenings
+
+abbrev pub behind_ends : Option Between → ℕ → List Happening → List Happening
+behind_ends None count happenings = happenings
+behind_ends (Some m) count happenings = behind_some count m happenings
+
+-- Where it closes none it is done behind the token.
+abbrev pub behind_token : Option Between → ℕ → Between → Between
+behind_token None count b = b
+behind_token (Some m) zero b = then_between b m
+behind_token (Some m) (suc count) b = b
 
 abbrev pub all_happenings : List Seen → List (Symbol Action) → List Happening
 all_happenings [] symbols = []
 all_happenings (s ∷ seen) symbols =
-    let n = taken grammar known s.atom symbols in token_happenings s.token s.behind n.actions ++ all_happenings seen n.left
+    let n = taken grammar known s.atom symbols in
+    token_happenings s.token (behind_token s.directive (closings n.left) s.behind) n.actions
+    ++ behind_ends s.directive (closings n.left) (all_happenings seen n.left)
 
 -- A routine: its header, what stands in it, and its end
 

@@ -27,8 +27,8 @@ pub fn routines_are_laid_whole()
     ensures { RoutinesAreLaidWhole }
 {}
 
-/// A routine is read as a whole, from its bracket on: by tokens that fit up to where nothing is left. They are its header, what stands in
-/// it, and its end, where no statement is open.
+/// A routine is read as a whole, from its bracket on: by tokens that fit up to where nothing is left, with conditional directives wherever
+/// they end. What they do is what its header does, what is nested in it lays, and its end does, before which no statement is open.
 pub fn routines_are_read_whole()
     ensures { RoutinesAreReadWhole }
 {}
