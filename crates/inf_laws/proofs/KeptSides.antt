@@ -19,6 +19,7 @@ use Rattle.inf_conditionals.specs.Condition.{Condition, condition_begun, conditi
 use Rattle.inf_conditionals.specs.Said.{Said, told_by, too_much}
 use Rattle.inf_conditionals.specs.declared.condition.Verdict.{Verdict}
 use Rattle.inf_unit.proofs.Cases.{of_both}
+use Rattle.inf_conditionals.specs.declared.judged.Handed.{Handed}
 use Rattle.inf_conditionals.specs.declared.judged.Handed.TheVariants as handed
 use Rattle.inf_conditionals.specs.declared.open.Conditional.{Conditional}
 use Rattle.inf_conditionals.specs.declared.open.LeftOut.{LeftOut}
@@ -34,7 +35,7 @@ use Rattle.inf_conditionals.specs.Judging.{Behind, at_front, asking as asking_on
 use Rattle.inf_conditionals.specs.Open.{Conditions, ended_by, is_second, latest_among, levels_behind, most_levels, silent, turned_first}
 use Rattle.inf_conditionals.specs.Words.{word_of}
 use Rattle.inf_reader.specs.Handing.{hash}
-use Rattle.inf_laws.specs.KeptSides.{AddsNone, Answers, AreParts, AreTaken, Around, Asking, At, Begins, Closing, First, GoesOn, Handing, IsAsked, IsCondition, IsFirst, IsName, IsPart, IsPlain, IsSemicolon, IsSign, IsSignedPlain, NoneInside, NoneInsideBehind, NoParts, OneSideIsKept, Open, Opening, Part, Parts, Passed, Plain, Signed, StayAs, Then, Turning, acted, acting, all_behind, all_handed_on, all_kept, all_told, all_tokens, among, are_kept, as_kept, asking, asking_parts, before_parts, begins, begins_at, behind_name, behind_part, behind_parts, closed, condition_behind, declared_behind, declared_first, declared_sign, declared_tokens, ended_behind, ended_in, ended_places, first_side, first_tokens, going_on, handed_on, judged_at, kept_of, kept_sides, lone_at, lone_places, missing_in, none_around, opened_more, opening, opening_parts, other_side, part_tokens, passed_by as word_passed, placed_word, places, seconds, signed_tokens, told_of, told_parts, turned, unended, whole_condition}
+use Rattle.inf_laws.specs.KeptSides.{AddsNone, Answers, AreParts, AreTaken, Around, Asking, At, Before, Begins, Closing, First, Follows, GoesOn, Handing, IsAsked, IsCondition, IsFirst, IsName, IsPart, IsPlain, IsSemicolon, IsSign, IsSignedPlain, NoneInside, NoneInsideBehind, NoParts, OneSideIsKept, Open, Opening, Part, Parts, Passed, Plain, Signed, StayAs, Then, Turning, acted, acting, all_behind, all_handed_on, all_kept, all_told, all_tokens, among, are_kept, as_kept, asking, asking_parts, before_parts, begins, begins_at, behind_name, behind_part, behind_parts, closed, condition_behind, declared_behind, declared_first, declared_sign, declared_tokens, ended_behind, ended_in, ended_places, first_side, first_sign, first_tokens, going_on, handed_on, judged_at, kept_of, kept_sides, lone_at, lone_places, missing_in, none_around, opened_more, opening, opening_parts, other_side, part_tokens, passed_by as word_passed, placed_word, places, seconds, signed_tokens, told_of, told_parts, turned, unended, whole_condition}
 use Rattle.inf_laws.specs.LoneEnds.{is_lone}
 use Rattle.inf_laws.specs.MissingEnds.{with_all_at}
 use Rattle.inf_laws.specs.Sides.{ends_side, level_behind}
@@ -268,12 +269,12 @@ signed_left t place c inner among b n declared is few =
     ∙ ap (λ o. passed (left_inside base (side_at b) (level_behind o n) (sign_behind o t.token) declared)) is.no_word
     ∙ ap (λ h. passed (left_inside base (side_at b) n (cond h (Some t.token.place) None) declared)) is.no_hash
 
-sign_left : (t : At) (c : Conditions) (inner among : List Conditional) (b : Bool) (n declared : ℕ) → is_mark mark.Hash t.token.kind ≡ true → n + 1 ≤ most_levels
-    → judged_at t (at c inner among (left_at b n) declared) ≡ passed (state c (Some t.token.place) inner among (left_at b n) declared)
-sign_left t c inner among b n declared hash few =
+sign_left : (t : At) (sign : Option Place) (c : Conditions) (inner among : List Conditional) (b : Bool) (n declared : ℕ) → is_mark mark.Hash t.token.kind ≡ true → n + 1 ≤ most_levels
+    → judged_at t (state c sign inner among (left_at b n) declared) ≡ passed (state c (Some t.token.place) inner among (left_at b n) declared)
+sign_left t sign c inner among b n declared hash few =
     let base = at c inner among None declared in
     let none = hash_word t.token hash in
-    token_is t.site t.out t.token base (side_at b) n None declared (hash_end t.token.kind hash) (ap (λ o. ends_side (second inner among) n o) none) few
+    token_is t.site t.out t.token base (side_at b) n sign declared (hash_end t.token.kind hash) (ap (λ o. ends_side (second inner among) n o) none) few
     ∙ ap (λ o. passed (left_inside base (side_at b) (level_behind o n) (sign_behind o t.token) declared)) none
     ∙ ap (λ h. passed (left_inside base (side_at b) n (cond h (Some t.token.place) None) declared)) hash
 
@@ -831,7 +832,7 @@ begins_left r is_inner is_within w m (Some sign) t all c inner among b n declare
     let now = declared_behind sign declared in
     let held_back : ℕ → Conditions = state c (Some place) inner among (left_at b n) in
     goes_by r sign (t ∷ all) (at c inner among (left_at b n) declared) (held_back declared) (held_back now) [] places last
-    (sign_left sign c inner among b n declared between.is few)
+    (sign_left sign None c inner among b n declared between.is few)
     (mid is_inner sign c (Some place) inner among (left_at b n) declared between.goes_on (calm_at is_inner inner b n calm))
     (goes_by r t all (held_back now) (at c inner among (left_at b m) now) (at c inner among (left_at b m) (declared_behind t now)) [] places last
     (word_left w t (Some place) c inner among b n now is few stays ∙ ap (λ l. passed (at c inner among (left_at b l) now)) level)
@@ -855,7 +856,7 @@ begins_end r is_inner is_within w (Some sign) t all c inner among inner_now amon
     let a = awaits.End effect.Nothing in
     let held_back : ℕ → Conditions = state c (Some place) inner among (left_at b 0) in
     goes_by r sign (t ∷ all) (at c inner among (left_at b 0) declared) (held_back declared) (held_back now) [] places last
-    (sign_left sign c inner among b 0 declared between.is few)
+    (sign_left sign None c inner among b 0 declared between.is few)
     (mid is_inner sign c (Some place) inner among (left_at b 0) declared between.goes_on (calm_at is_inner inner b 0 calm))
     (goes_by r t all (held_back now) (reading false place a c inner_now among_now now) (reading false place a c inner_now among_now (declared_behind t now)) [] places last
     (word_ends w t (Some place) c inner among inner_now among_now b now is ends acted)
@@ -1451,6 +1452,11 @@ StandLeads d part = (r : Reader) (st : Stands) (declared n : ℕ) (v : List (Lis
     → TakesAll r (kept_of part (stack_of st)) → n + length (part_tokens part) ≤ most_levels
     → Led r (part_tokens part) (stands_at c st declared) (kept_of part (stack_of st)) (told_of d part (stack_of st)) (last_part d part (stack_of st) declared n v)
 
+abbrev PartLeads : Answers → Part → Type 0
+PartLeads d part = (r : Reader) (s : Around) (declared n : ℕ) (v : List (List Conditional)) (c : Conditions) → StandsAt r (last_at s declared n v) c → IsPart d (within r) s declared part → TakesAll r (kept_of part s)
+    → n + length (part_tokens part) ≤ most_levels
+    → Led r (part_tokens part) c (kept_of part s) (told_of d part s) (last_part d part s declared n v)
+
 -- where all is kept
 kept_only : (P : Stands → Type 0) → ((inside between : List Open) (si : are_kept inside ≡ true) (sb : are_kept between ≡ true) → P (AllStay inside between si sb)) → (st : Stands) → all_kept (stack_of st) ≡ true → P st
 kept_only P so (AllStay inside between si sb) e = so inside between si sb
@@ -1558,7 +1564,7 @@ signed_left_led d is_inner sign t r st b m declared n v c is_left_at few_m left 
     (subst (λ (x : Conditions). Led r (sign ∷ t ∷ []) x [] missing last) same
     (told_so r (sign ∷ t ∷ []) (here declared) [] (missing ++ []) missing last (append-nil missing)
     (goes_by r sign (t ∷ []) (here declared) (held_back declared) (held_back now) [] (missing ++ []) last
-    (sign_left sign c inner among b m declared is.is (omega (arith, few, few_m)))
+    (sign_left sign None c inner among b m declared is.is (omega (arith, few, few_m)))
     (mid is_inner sign c (Some place) inner among (left_at b m) declared is.goes_on (calm_at is_inner inner b m calm))
     (passes r t [] (held_back now) (here now) (ended_behind t.ended (here now)) [] missing [] last
     (signed_left t place c inner among b m now plain (omega (arith, few, few_m))) refl
@@ -1614,6 +1620,168 @@ signed_leads d is_inner sign t r (OuterLeft deep x between left sb) declared n v
     let gone = not_kept deep x between left in
     let is = subst (λ k. Begins k is_inner (within r) (Some sign) t) gone are.0 in
     signed_left_led d is_inner sign t r (OuterLeft deep x between left sb) false (length deep) declared n v c refl few_st gone (λ _. (refl, refl)) holds waits few_st is are.1.1.0 few
+
+-- A `#` before another one
+
+-- A `#` may be held back where this one comes.
+same_first : (r : Reader) (t : At) (all : List At) (c held_back : Conditions) (tokens : List Spelled) (places : List Place) (last : Last) → judged_at t held_back ≡ judged_at t c
+    → Led r (t ∷ all) c tokens places last → Led r (t ∷ all) held_back tokens places last
+same_first r t all c held_back tokens places last e is = record {
+  hands = ap (λ (b : Behind). handed_on b.judged t.token ++ all_handed_on all (ended_behind t.ended (silent b.now))) e ∙ is.hands;
+  tells = ap (λ (b : Behind). lone_places b.judged.lone ++ (ended_places t.ended b.now.inner ++ all_told all (ended_behind t.ended (silent b.now)))) e ∙ is.tells;
+  ends = subst (λ (x : Conditions). StandsAt (read_on tokens r) last (all_behind all x)) (sym (ap (λ (b : Behind). ended_behind t.ended (silent b.now)) e)) is.ends;
+}
+
+-- Where it is kept, it is handed on then.
+abbrev pub with_sign : Handed → Place → Behind → Behind
+with_sign h place b = record b { judged = record b.judged { sign = Some (record { place = place; handed = h }) } }
+
+pub hash_kept : (place : Place) (t : At) (c : Conditions) (inner among : List Conditional) (declared : ℕ) → c.pending ≡ [] → is_mark mark.Hash t.token.kind ≡ true → t.site.is_between ≡ false
+    → judged_at t (state c (Some place) inner among None declared) ≡ with_sign handed.Kept place (judged_at t (at (given_up_so c) inner among None declared))
+hash_kept place t c inner among declared none hash inside =
+    let here = at (given_up_so c) inner among None declared in
+    let signed : List Pending → Behind → Behind = λ ps b.
+    record b { judged = record b.judged { sign = Some (record { place = place; handed = cond (is_none_pending ps) handed.Kept handed.Unfit }) } } in
+    ap (λ o. behind_sign o place t.site.is_quiet t.out t.token (state c (Some place) inner among None declared)) (hash_word t.token hash)
+    ∙ ap (λ (b : Bool). signed c.pending (cond b (passed (held false t.token.place here)) (kept here))) hash
+    ∙ ap (λ ps. signed ps (passed (held false t.token.place here))) none
+    ∙ sym (ap (with_sign handed.Kept place) (sign_inner t (given_up_so c) inner among declared (ap (λ b. b && true) inside) hash))
+
+kept_first : (place : Place) (t : At) (all : List At) (c : Conditions) (inner among : List Conditional) (declared : ℕ) (tokens : List Spelled) (places : List Place) (last : Last)
+    → c.pending ≡ [] → is_mark mark.Hash t.token.kind ≡ true → t.site.is_between ≡ false
+    → Led Hands (t ∷ all) (at (given_up_so c) inner among None declared) tokens places last
+    → Led Hands (t ∷ all) (state c (Some place) inner among None declared) (hash place ∷ tokens) places last
+kept_first place t all c inner among declared tokens places last none is inside led_on =
+    let there = at (given_up_so c) inner among None declared in
+    let b = hash_kept place t c inner among declared none is inside in
+    let e = sign_inner t (given_up_so c) inner among declared (ap (λ b. b && true) inside) is in
+    let next : ended_behind t.ended (silent (judged_at t (state c (Some place) inner among None declared)).now) ≡ going_on t there =
+    ap (λ (b : Behind). ended_behind t.ended (silent b.now)) b in
+    record {
+      hands =
+          ap (λ (b : Behind). handed_on b.judged t.token ++ all_handed_on all (ended_behind t.ended (silent b.now))) (b ∙ ap (with_sign handed.Kept place) e)
+          ∙ ap (λ hs. as_kept (hash place) ∷ hs) (sym (ap (λ (b : Behind). handed_on b.judged t.token ++ all_handed_on all (ended_behind t.ended (silent b.now))) e) ∙ led_on.hands);
+      tells =
+          ap (λ (b : Behind). lone_places b.judged.lone ++ (ended_places t.ended b.now.inner ++ all_told all (ended_behind t.ended (silent b.now)))) b ∙ led_on.tells;
+      ends = subst (λ (x : Conditions). StandsAt (read_on tokens Hands) last (all_behind all x)) (sym next) led_on.ends;
+    }
+
+signed_begins : (sign : Option At) (next : At) (tokens : List At) → sign ≡ Some next → (rest : List At) × (signed_tokens sign tokens ≡ next ∷ rest)
+signed_begins sign next tokens e = (tokens, ap (λ o. signed_tokens o tokens) e)
+
+begins_with : (part : Part) (next : At) → first_sign part ≡ Some next → (rest : List At) × (part_tokens part ≡ next ∷ rest)
+begins_with (Plain t) next e = cc
+begins_with (Signed is_inner sign t) next e = signed_begins (Some sign) next (t ∷ []) e
+begins_with (Before is_inner sign part) next e = signed_begins (Some sign) next (part_tokens part) e
+begins_with (Opening is_inner if_declared first before name behind end) next e =
+    signed_begins first.sign next (first.word ∷ (all_tokens before ++ name ∷ (all_tokens behind ++ end ∷ []))) e
+begins_with (Asking is_inner wanted first parts end) next e = signed_begins first.sign next (first.word ∷ (all_tokens parts ++ end ∷ [])) e
+begins_with (Turning is_inner first parts end) next e = signed_begins first.sign next (first.word ∷ (all_tokens parts ++ end ∷ [])) e
+begins_with (Closing is_inner first parts end) next e = signed_begins first.sign next (first.word ∷ (all_tokens parts ++ end ∷ [])) e
+begins_with (Passed is_inner w first) next e = signed_begins first.sign next (first.word ∷ []) e
+
+record Next (is_kept is_inner : Bool) (part : Part) : Type 0 where
+  next : At
+  rest : List At
+  is : part_tokens part ≡ next ∷ rest
+  hash : is_mark mark.Hash next.token.kind ≡ true
+  inside : is_kept ≡ true → (is_inner ≡ true) × (next.site.is_between ≡ false)
+
+next_of : (is_kept is_inner : Bool) (part : Part) → Follows is_kept is_inner (first_sign part) → Next is_kept is_inner part
+next_of is_kept is_inner part follows = go is_kept is_inner (first_sign part) refl follows
+  where
+    go : (is_kept is_inner : Bool) (sign : Option At) → first_sign part ≡ sign → Follows is_kept is_inner sign → Next is_kept is_inner part
+    go is_kept is_inner None e follows = absurd follows
+    go true false (Some next) e follows = absurd follows
+    go true true (Some next) e follows =
+        let all = begins_with part next e in record { next = next; rest = all.0; is = all.1; hash = follows.0; inside = λ _. (refl, follows.1) }
+    go false is_inner (Some next) e follows =
+        let all = begins_with part next e in record { next = next; rest = all.0; is = all.1; hash = follows; inside = λ never. cc }
+
+before_left_led : (d : Answers) (is_inner : Bool) (sign : At) (part : Part) → PartLeads d part → (r : Reader) (st : Stands) (b : Bool) (m declared n : ℕ) (v : List (List Conditional)) (c : Conditions) → left_of st ≡ left_at b m → m ≤ n → all_kept (stack_of st) ≡ false → CalmLeft is_inner (inner_of st) b
+    → Holds r c → c.waiting ≡ v → levels_of st ≤ n → IsSign is_inner sign → Follows false is_inner (first_sign part) → IsPart d (within r) (stack_of st) (declared_behind sign declared) part
+    → TakesAll r (kept_of part (stack_of st)) → n + length (sign ∷ part_tokens part) ≤ most_levels
+    → Led r (sign ∷ part_tokens part) (stands_at c st declared) (kept_of (Before is_inner sign part) (stack_of st)) (told_of d part (stack_of st)) (last_part d (Before is_inner sign part) (stack_of st) declared n v)
+before_left_led d is_inner sign part leads r st b m declared n v c is_left_at few_m left calm holds waits few_st is follows is_part takes few =
+    let s = stack_of st in
+    let inner = inner_of st in
+    let among = among_of st in
+    let place = sign.token.place in
+    let now = declared_behind sign declared in
+    let all = part_tokens part in
+    let here : ℕ → Conditions = at c inner among (left_at b m) in
+    let held_back : ℕ → Conditions = state c (Some place) inner among (left_at b m) in
+    let last = last_part d part s now n v in
+    let last_so = last_part d (Before is_inner sign part) s declared n v in
+    let kept_so = kept_of part s in
+    let places = told_of d part s in
+    let next = next_of false is_inner part follows in
+    let few_so : n + length all ≤ most_levels = omega (arith, few) in
+    let rest : Led r all (here now) kept_so places last =
+    subst (λ x. Led r all (at c inner among x now) kept_so places last) is_left_at
+    (leads r s now n v (stands_at c st now) (stands r st now n v c holds waits few_st) is_part takes few_so) in
+    let same : (declared : ℕ) → here declared ≡ stands_at c st declared = λ declared. ap (λ x. at c inner among x declared) (sym is_left_at) in
+    let again : Led r all (held_back now) kept_so places last =
+    subst (λ ts. Led r ts (held_back now) kept_so places last) (sym next.is)
+    (same_first r next.next next.rest (here now) (held_back now) kept_so places last
+    (sign_left next.next (Some place) c inner among b m now next.hash (omega (arith, few, few_m)) ∙ sym (sign_left next.next None c inner among b m now next.hash (omega (arith, few, few_m))))
+    (subst (λ ts. Led r ts (here now) kept_so places last) next.is rest)) in
+    subst (λ k. Led r (sign ∷ all) (stands_at c st declared) (cond k (hash place ∷ []) [] ++ kept_so) places last_so) (sym left)
+    (subst (λ (x : Conditions). Led r (sign ∷ all) x kept_so places last_so) (same declared)
+    (relaxed r (sign ∷ all) (here declared) kept_so places last.around last.declared last_so.declared last.levels last_so.levels v refl (omega arith)
+    (goes_by r sign all (here declared) (held_back declared) (held_back now) kept_so places last
+    (sign_left sign None c inner among b m declared is.is (omega (arith, few, few_m)))
+    (mid is_inner sign c (Some place) inner among (left_at b m) declared is.goes_on (calm_at is_inner inner b m calm))
+    again)))
+
+before_leads : (d : Answers) (is_inner : Bool) (sign : At) (part : Part) → PartLeads d part → StandLeads d (Before is_inner sign part)
+before_leads d is_inner sign part leads (Reads p others ks) (AllStay inside between si sb) declared n v c holds waits few_st are takes few =
+    absurd (let never : true ≡ false = sym (both_kept inside between si sb) ∙ are.1.1.0 refl in cc)
+before_leads d false sign part leads Hands (AllStay inside between si sb) declared n v c holds waits few_st are takes few =
+    absurd (no_false (sym ((next_of true false part (subst (λ k. Follows k false (first_sign part)) (both_kept inside between si sb) are.1.1.1.0)).inside refl).0))
+before_leads d true sign part leads Hands (AllStay inside between si sb) declared n v c holds waits few_st are takes few =
+    let s : Around = record { inside = inside; between = between } in
+    let inner = conditionals inside in
+    let among = conditionals between in
+    let here = at c inner among None declared in
+    let place = sign.token.place in
+    let now = declared_behind sign declared in
+    let stays = both_kept inside between si sb in
+    let is = subst (λ k. Begins k true false (Some sign) sign) stays are.0 in
+    let next = next_of true true part (subst (λ k. Follows k true (first_sign part)) stays are.1.1.1.0) in
+    let all = part_tokens part in
+    let last = last_part d part s now n v in
+    let last_so = last_part d (Before true sign part) s declared n v in
+    let kept_so = kept_of part s in
+    let places = told_of d part s in
+    let few_so : n + length all ≤ most_levels = omega (arith, few) in
+    let there = at (given_up_so c) inner among None now in
+    let held_back = state c (Some place) inner among None now in
+    let rest : Led Hands all there kept_so places last =
+    leads Hands s now n v there (stands Hands (AllStay inside between si sb) now n v (given_up_so c) refl waits few_st) are.1.1.1.1 (all_taken kept_so) few_so in
+    let on : Led Hands all held_back (hash place ∷ kept_so) places last =
+    subst (λ ts. Led Hands ts held_back (hash place ∷ kept_so) places last) (sym next.is)
+    (kept_first place next.next next.rest c inner among now kept_so places last holds next.hash (next.inside refl).1
+    (subst (λ ts. Led Hands ts there kept_so places last) next.is rest)) in
+    subst (λ k. Led Hands (sign ∷ all) here (cond k (hash place ∷ []) [] ++ kept_so) places last_so) (sym stays)
+    (relaxed Hands (sign ∷ all) here (hash place ∷ kept_so) places last.around last.declared last_so.declared last.levels last_so.levels v refl (omega arith)
+    (goes_by Hands sign all here (state c (Some place) inner among None declared) held_back (hash place ∷ kept_so) places last
+    (sign_inner sign c inner among declared (inner_front Hands sign c holds is.0) is.1.is)
+    (mid true sign c (Some place) inner among None declared is.1.goes_on (λ e. absurd (no_false e)))
+    on))
+before_leads d false sign part leads r (InnerLeft deep x inside between left si sb) declared n v c holds waits few_st are takes few = absurd (some_open deep x inside are.1.0)
+before_leads d true sign part leads r (InnerLeft deep x inside between left si sb) declared n v c holds waits few_st are takes few =
+    let gone = inner_not_kept deep x inside between left in
+    let is = subst (λ k. Begins k true (within r) (Some sign) sign) gone are.0 in
+    before_left_led d true sign part leads r (InnerLeft deep x inside between left si sb) true (length deep) declared n v c refl few_st gone (λ e. absurd (no_false e)) holds waits few_st is
+    (subst (λ k. Follows k true (first_sign part)) gone are.1.1.1.0) are.1.1.1.1
+    (subst (λ k. TakesAll r (cond k (hash sign.token.place ∷ []) [] ++ kept_of part (record { inside = deep ++ x ∷ inside; between = between }))) gone takes) few
+before_leads d is_inner sign part leads r (OuterLeft deep x between left sb) declared n v c holds waits few_st are takes few =
+    let gone = not_kept deep x between left in
+    let is = subst (λ k. Begins k is_inner (within r) (Some sign) sign) gone are.0 in
+    before_left_led d is_inner sign part leads r (OuterLeft deep x between left sb) false (length deep) declared n v c refl few_st gone (λ _. (refl, refl)) holds waits few_st is
+    (subst (λ k. Follows k is_inner (first_sign part)) gone are.1.1.1.0) are.1.1.1.1
+    (subst (λ k. TakesAll r (cond k (hash sign.token.place ∷ []) [] ++ kept_of part (record { inside = []; between = deep ++ x ∷ between }))) gone takes) few
 
 -- Directives
 
@@ -2069,11 +2237,6 @@ passed_leads d is_inner word.Iffalse first r st declared n v c holds waits few_s
 
 -- All parts
 
-abbrev PartLeads : Answers → Part → Type 0
-PartLeads d part = (r : Reader) (s : Around) (declared n : ℕ) (v : List (List Conditional)) (c : Conditions) → StandsAt r (last_at s declared n v) c → IsPart d (within r) s declared part → TakesAll r (kept_of part s)
-    → n + length (part_tokens part) ≤ most_levels
-    → Led r (part_tokens part) c (kept_of part s) (told_of d part s) (last_part d part s declared n v)
-
 part_from : (d : Answers) (part : Part) → StandLeads d part → PartLeads d part
 part_from d part leads r s declared n v c e are takes few =
     let P : Around → Type 0 = λ x. IsPart d (within r) x declared part → TakesAll r (kept_of part x)
@@ -2105,6 +2268,7 @@ mutual
   part_led : (d : Answers) (part : Part) → PartLeads d part
   part_led d (Plain t) = part_from d (Plain t) (plain_leads d t)
   part_led d (Signed is_inner sign t) = part_from d (Signed is_inner sign t) (signed_leads d is_inner sign t)
+  part_led d (Before is_inner sign part) = part_from d (Before is_inner sign part) (before_leads d is_inner sign part (part_led d part))
   part_led d (Opening is_inner if_declared first before name behind end) =
       part_from d (Opening is_inner if_declared first before name behind end) (opening_leads d is_inner if_declared first before name behind end (led d before) (led d behind))
   part_led d (Asking is_inner wanted first parts end) = part_from d (Asking is_inner wanted first parts end) (asking_leads d is_inner wanted first parts end (led d parts))

@@ -119,7 +119,7 @@ signed_tokens (Some sign) tokens = sign ∷ tokens
 abbrev pub first_tokens : First → List At → List At
 first_tokens first tokens = signed_tokens first.sign (first.word ∷ tokens)
 
--- A token that belongs to no conditional directive, alone or behind a `#`; a directive with a name, which opens a conditional, where the name is
+-- A token that belongs to no conditional directive, alone or behind a `#`; a `#` before another one, with which a part begins; a directive with a name, which opens a conditional, where the name is
 -- to be declared or not, and one with a condition, which is to be true or not; and an `Ifnot` and an `Endif`, each with its semicolon. A directive
 -- stands inside another one or between the others, and parts stand between the tokens of a conditional one: before and behind its name, among
 -- those of its condition, and before its semicolon. In a side that is left out the word of a directive may stand alone, whatever comes behind it.
@@ -127,6 +127,7 @@ mutual
   pub data Part : Type 0 where
     Plain : (token : At) → Part
     Signed : (is_inner : Bool) (sign token : At) → Part
+    Before : (is_inner : Bool) (sign : At) (part : Part) → Part
     Opening : (is_inner if_declared : Bool) (first : First) (before : Parts) (name : At) (behind : Parts) (end : At) → Part
     Asking : (is_inner wanted : Bool) (first : First) (within : Parts) (end : At) → Part
     Turning : (is_inner : Bool) (first : First) (within : Parts) (end : At) → Part
@@ -141,6 +142,7 @@ abbrev mutual
   pub part_tokens : Part → List At
   part_tokens (Plain t) = t ∷ []
   part_tokens (Signed is_inner sign t) = sign ∷ t ∷ []
+  part_tokens (Before is_inner sign part) = sign ∷ part_tokens part
   part_tokens (Opening is_inner if_declared first before name behind end) =
       first_tokens first (all_tokens before ++ name ∷ (all_tokens behind ++ end ∷ []))
   part_tokens (Asking is_inner wanted first within end) = first_tokens first (all_tokens within ++ end ∷ [])
@@ -261,6 +263,7 @@ passed_by is_inner first w s = opened_more is_inner (first_side first true true)
 abbrev pub kept_of : Part → Around → List Spelled
 kept_of (Plain t) s = if all_kept s then t.token ∷ [] else []
 kept_of (Signed is_inner sign t) s = if all_kept s then hash sign.token.place ∷ t.token ∷ [] else []
+kept_of (Before is_inner sign part) s = (if all_kept s then hash sign.token.place ∷ [] else []) ++ kept_of part s
 kept_of _ s = []
 
 -- what is open behind a part, and behind parts; and the tokens of these that are kept
@@ -268,6 +271,7 @@ abbrev mutual
   pub behind_part : Answers → Part → Around → Around
   behind_part answers (Plain t) s = ended_in t.ended s
   behind_part answers (Signed is_inner sign t) s = ended_in t.ended s
+  behind_part answers (Before is_inner sign part) s = behind_part answers part s
   behind_part answers (Opening is_inner if_declared first before name behind end) s =
       ended_in end.ended
       (acted (opened_more is_inner (first_side first if_declared (answers.is_declared name)))
@@ -328,6 +332,7 @@ abbrev mutual
   pub told_of : Answers → Part → Around → List Place
   told_of answers (Plain t) s = missing_in t.ended s
   told_of answers (Signed is_inner sign t) s = missing_in t.ended s
+  told_of answers (Before is_inner sign part) s = told_of answers part s
   told_of answers (Opening is_inner if_declared first before name behind end) s =
       let act : Around → Around = opened_more is_inner (first_side first if_declared (answers.is_declared name)) in
       let x = opening_parts answers is_inner if_declared first name s in
@@ -388,6 +393,24 @@ Begins true true is_within None w = ⊥
 Begins true true is_within (Some sign) w = (is_within ≡ false → sign.site.is_between ≡ false) × IsSign true sign
 Begins false is_inner is_within None w = Unit {0}
 Begins false is_inner is_within (Some sign) w = IsSign is_inner sign
+
+-- the `#` with which a part begins, if it does
+abbrev pub first_sign : Part → Option At
+first_sign (Plain t) = None
+first_sign (Signed is_inner sign t) = Some sign
+first_sign (Before is_inner sign part) = Some sign
+first_sign (Opening is_inner if_declared first before name behind end) = first.sign
+first_sign (Asking is_inner wanted first within end) = first.sign
+first_sign (Turning is_inner first within end) = first.sign
+first_sign (Closing is_inner first within end) = first.sign
+first_sign (Passed is_inner w first) = first.sign
+
+-- It stands behind another one, where that is kept inside a directive.
+abbrev pub Follows : Bool → Bool → Option At → Type 0
+Follows is_kept is_inner None = ⊥
+Follows false is_inner (Some next) = is_mark mark.Hash next.token.kind ≡ true
+Follows true false (Some next) = ⊥
+Follows true true (Some next) = (is_mark mark.Hash next.token.kind ≡ true) × (next.site.is_between ≡ false)
 
 pub record IsFirst (is_kept is_inner is_within : Bool) (w : ConditionalWord) (first : First) : Type 0 where
   pub begins : Begins is_kept is_inner is_within first.sign first.word
@@ -451,6 +474,11 @@ abbrev mutual
   IsPart answers is_within s declared (Plain t) = IsPlain (all_kept s) is_within t
   IsPart answers is_within s declared (Signed is_inner sign t) =
       Begins (all_kept s) is_inner is_within (Some sign) t × (NoneInside is_inner s × (IsSignedPlain t × (is_within ≡ true → all_kept s ≡ false)))
+  IsPart answers is_within s declared (Before is_inner sign part) =
+      Begins (all_kept s) is_inner is_within (Some sign) sign
+      × (NoneInside is_inner s
+      × ((is_within ≡ true → all_kept s ≡ false)
+      × (Follows (all_kept s) is_inner (first_sign part) × IsPart answers is_within s (declared_behind sign declared) part)))
   IsPart answers is_within s declared (Opening is_inner if_declared first before name behind end) =
       let x = opening_parts answers is_inner if_declared first name s in
       let y = behind_name answers before name x in
