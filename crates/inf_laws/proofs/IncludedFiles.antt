@@ -1,6 +1,7 @@
 -- Files that include one another keep what each of them keeps.
 use Rattle.std.proofs.Common.{◌≡◌, ℕ, zero, suc, ◌+◌, length, List, [], ◌∷◌, ◌++◌, map, reverse, cond, ◌&&◌, Bool, true, false, Option, Some, None, refl, sym, ap, subst, ◌∙◌, append_assoc, arith}
 use Rattle.std.proofs.lemmas.List.{append-nil, map-append}
+use Rattle.inf_scanner.specs.declared.tokens.Mark.TheVariants as mark
 use Rattle.inf_scanner.specs.declared.tokens.Place.{Place}
 use Rattle.inf_token.specs.Files.{Sources}
 use Rattle.inf_sources.specs.Cursors.{Cursor}
@@ -9,26 +10,30 @@ use Rattle.inf_sources.specs.declared.open_files.Included.{Included}
 use Rattle.inf_sources.specs.declared.open_files.Included.TheVariants as answer
 use Rattle.inf_unit.specs.Directives.{Asked, End, Include, Nothing}
 use Rattle.inf_unit.specs.Messages.{FileNames, Reported}
-use Rattle.inf_unit.specs.Tokens.{Spelled, is_end}
+use Rattle.inf_unit.specs.Tokens.{Spelled, is_end, is_mark}
 use Rattle.inf_conditionals.specs.declared.judged.Handed.{Handed}
 use Rattle.inf_conditionals.specs.declared.judged.Handed.TheVariants as handed
+use Rattle.inf_conditionals.specs.declared.judged.Judged.{Judged}
+use Rattle.inf_conditionals.specs.declared.judged.Sign.{Sign}
 use Rattle.inf_conditionals.specs.declared.open.Conditional.{Conditional}
 use Rattle.inf_conditionals.specs.declared.open.LeftOut.{LeftOut}
+use Rattle.inf_conditionals.specs.declared.pending.Awaits.TheVariants as awaits
+use Rattle.inf_conditionals.specs.declared.pending.Pending.{Pending}
 use Rattle.inf_conditionals.specs.Ends.{file_entered, file_left, file_left_to, file_told, with_all_lone}
-use Rattle.inf_conditionals.specs.Judging.{Behind, judged, judged_by, is_none_pending, kept, none_handed, offered, passed, passed_by}
+use Rattle.inf_conditionals.specs.Judging.{Behind, behind_front, behind_sign, held, judged, judged_by, is_none_pending, kept, none_handed, offered, passed, passed_by}
 use Rattle.inf_conditionals.specs.Open.{Conditions, silent}
 use Rattle.inf_conditionals.specs.Words.{word_of}
-use Rattle.inf_reader.specs.Handing.{said_told, site_of}
+use Rattle.inf_reader.specs.Handing.{hash, said_told, site_of}
 use Rattle.inf_reader.specs.Reading.{is_mode_ended}
 use Rattle.inf_session.specs.Choices.{Choices}
 use Rattle.inf_session.specs.Session.{State, answered, asked_nothing, heeded, included_by, left, left_by, file_closed, none_included, stand_of, stepped, token_of, turn}
-use Rattle.inf_laws.specs.IncludedFiles.{Alone, AreFiles, AreOfAFile, Breaking, Cut, Enters, Files, FilesKeepSides, FilesTellUnended, Including, Leaves, Stays, Step, TurnsKeepFiles, all_unended, around_behind, around_broken, around_included, asked_passage, behind_files, end_handed, handed_by, handed_files, opens, passage, passed_files, staying, step_at, step_behind, steps, steps_at, steps_behind, told_at, told_behind, told_by, told_files}
-use Rattle.inf_laws.specs.KeptSides.{Answers, Around, At, Handing, IsClear, IsPlain, Parts, all_behind, all_handed_on, all_kept, all_tokens, all_told, are_kept, as_kept, behind_parts, declared_tokens, ended_behind, ended_in, ended_places, handed_as, handed_on, judged_at, kept_sides, lone_places, missing_in, none_around, places, told_parts, unended}
-use Rattle.inf_laws.specs.Unfinished.{Bare, Hashed, HaveBegun, IsMisfit, Misfit, Unfinished, all_begun_tokens, behind_all_begun, behind_misfit, handed_misfit, misfit_tokens, told_all_begun, told_misfit}
+use Rattle.inf_laws.specs.IncludedFiles.{Alone, AreFiles, AreOfAFile, Breaking, Cut, CutHashLast, CutHashThen, Enters, Files, FilesKeepSides, FilesTellUnended, HashLast, HashThen, Including, Leaves, Stays, Step, TurnsKeepFiles, all_unended, around_behind, around_broken, around_included, asked_passage, behind_files, end_handed, end_sign, first_step, handed_by, handed_end, handed_files, opens, passage, passed_files, released, sign_as, staying, step_at, step_behind, steps, steps_at, steps_behind, told_at, told_behind, told_by, told_files}
+use Rattle.inf_laws.specs.KeptSides.{Answers, Around, At, Begins, Follows, Handing, IsClear, IsPlain, IsSign, NoneInside, Parts, all_behind, all_handed_on, all_kept, all_tokens, all_told, are_kept, as_kept, behind_parts, declared_behind, declared_tokens, ended_behind, ended_in, ended_places, going_on, handed_as, handed_on, handed_sign, handed_token, judged_at, kept_sides, lone_places, missing_in, none_around, places, told_parts, unended}
+use Rattle.inf_laws.specs.Unfinished.{Bare, Hashed, HaveBegun, IsMisfit, Misfit, Unfinished, all_begun_tokens, as_unfit, behind_all_begun, behind_misfit, handed_misfit, misfit_tokens, told_all_begun, told_misfit}
 use Rattle.inf_laws.specs.KeptTurns.{given_by, given_in, turned}
 use Rattle.inf_laws.specs.MissingEnds.{with_all_at}
 use Rattle.inf_laws.specs.SideTurns.{at_turn, ends_there, shown}
-use Rattle.inf_laws.proofs.KeptSides.{AllStay, Hands, InnerLeft, Last, OuterLeft, Reader, Stands, StandsAt, all_handed, all_taken, among_of, are_open, at, conditionals, end_is_no_hash, end_kept_so, ended_told, hands_on, inner_not_kept, inner_of, kept_at, last_at, led, not_kept, outer, plain_kept, stack_of, stands_at, state, told_both, told_places}
+use Rattle.inf_laws.proofs.KeptSides.{AllStay, Hands, InnerLeft, Last, OuterLeft, Reader, Stands, StandsAt, all_handed, all_taken, among_of, are_open, at, awaits_it, conditionals, directive, end_is_no_hash, end_kept_so, end_word, ended_told, hands_on, hash_freed, inner_not_kept, inner_of, kept_at, last_at, led, mid, not_kept, outer, outer_front, plain_kept, reading, sign_inner, sign_kept, stack_of, stands_at, state, told_both, told_places, with_sign}
 use Rattle.inf_laws.proofs.MissingEnds.{told_at as told_each}
 use Rattle.inf_laws.proofs.Unfinished.{AllBegun, all_begun_led, cut_kept, given_up_at, sign_cut, sign_cut_so, unfit_end}
 use Rattle.inf_laws.proofs.SideTurns.{all_shown, rested_conditions}
@@ -87,7 +92,7 @@ staying_led : (tokens : List At) (c : Conditions) (given : List Handing) (told :
 staying_led tokens c given told hands tells = record { hands = hands_staying tokens c ∙ hands; tells = tells_staying tokens c ∙ tells }
 
 -- how a file may end: so its end is handed on there, and nothing is left out or read behind it
-record EndsAs (h : Handed) (s : Around) (w : List (List Conditional)) (c : Conditions) : Type 0 where
+record EndsAs (o : Option Sign) (h : Handed) (s : Around) (w : List (List Conditional)) (c : Conditions) : Type 0 where
   base : Conditions
   stand : Stands
   declared : ℕ
@@ -97,7 +102,7 @@ record EndsAs (h : Handed) (s : Around) (w : List (List Conditional)) (c : Condi
   inner : c.inner ≡ inner_of stand
   among : c.among ≡ among_of stand
   at_end : (end : At) → is_end end.token.kind ≡ true
-      → judged_at end c ≡ record { now = at base (inner_of stand) (among_of stand) None declared; judged = record none_handed { token = Some h } }
+      → judged_at end c ≡ record { now = at base (inner_of stand) (among_of stand) None declared; judged = record none_handed { sign = o; token = Some h } }
 
 -- A stretch of a file begins where no side is left out, and nothing is half read.
 record Begun (s : Around) (w : List (List Conditional)) (c : Conditions) : Type 0 where
@@ -209,7 +214,7 @@ end_is_kept t c is none no_sign = go c.left_out c.sign refl refl no_sign
         ∙ ap (λ x. kept (record c { left_out = None; sign = x })) is_sign
     go None (Some place) is_left is_sign e = cc
 
-ends_kept : (last : Last) (c : Conditions) → StandsAt Hands last c → EndsAs handed.Kept last.around last.waiting c
+ends_kept : (last : Last) (c : Conditions) → StandsAt Hands last c → EndsAs None handed.Kept last.around last.waiting c
 ends_kept last c e = record {
   base = e.base;
   stand = e.stand;
@@ -226,7 +231,7 @@ ends_kept last c e = record {
 
 -- in the midst of a directive
 ends_cut : (d : Answers) (outer : List Unfinished) (u : Unfinished) (s : Around) (last : Last) (toks : List At) (alone : List Place) (c : Conditions) → AllBegun d outer u s last toks alone c
-    → EndsAs handed.Unfit last.around last.waiting (all_behind toks c)
+    → EndsAs None handed.Unfit last.around last.waiting (all_behind toks c)
 ends_cut d outer u s last toks alone c b =
     let e = b.led.ends in
     record {
@@ -254,14 +259,14 @@ begun_behind e s w base inner among declared kept_so waits none =
     go None = record { inside_kept = refl; between_kept = kept_so; is = refl; waits = refl; none_read = none }
     go (Some now) = record { inside_kept = refl; between_kept = kept_so; is = refl; waits = refl; none_read = none }
 
-record LeftAt (h : Handed) (t : At) (s inner : Around) (w : List (List Conditional)) (c : Conditions) : Type 0 where
-  hands : handed_on (judged_at t c).judged t.token ≡ handed_as h t.token
+record LeftAt (o : Option Sign) (h : Handed) (t : At) (s inner : Around) (w : List (List Conditional)) (c : Conditions) : Type 0 where
+  hands : handed_on (judged_at t c).judged t.token ≡ handed_sign o ++ handed_as h t.token
   tells : told_at (leaves t) c ≡ all_unended inner
   begun : Begun (around_behind s) w (step_behind (leaves t) c)
 
 -- the places that are told at an end
-misses_at : (t : At) (h : Handed) (s : Around) (w : List (List Conditional)) (c : Conditions) → EndsAs h s w c → is_end t.token.kind ≡ true → told_behind Leaves (judged_at t c).now ≡ all_unended s
-misses_at t h s w c e is_last =
+misses_at : (t : At) (o : Option Sign) (h : Handed) (s : Around) (w : List (List Conditional)) (c : Conditions) → EndsAs o h s w c → is_end t.token.kind ≡ true → told_behind Leaves (judged_at t c).now ≡ all_unended s
+misses_at t o h s w c e is_last =
     let open_so = are_open e.stand in
     let inner = inner_of e.stand in
     let among = among_of e.stand in
@@ -270,9 +275,9 @@ misses_at t h s w c e is_last =
     ∙ ap (λ ps. unended (stack_of e.stand).inside ++ ps) (told_places (stack_of e.stand).between among open_so.between)
     ∙ ap all_unended e.stack
 
-left_at_end : (t : At) (h : Handed) (s inner : Around) (w : List (List Conditional)) (c : Conditions) → EndsAs h inner (conditionals s.between ∷ w) c → are_kept s.between ≡ true
-    → is_end t.token.kind ≡ true → LeftAt h t s inner w c
-left_at_end t h s inner w c e kept_so is_last =
+left_at_end : (t : At) (o : Option Sign) (h : Handed) (s inner : Around) (w : List (List Conditional)) (c : Conditions) → EndsAs o h inner (conditionals s.between ∷ w) c → are_kept s.between ≡ true
+    → is_end t.token.kind ≡ true → LeftAt o h t s inner w c
+left_at_end t o h s inner w c e kept_so is_last =
     let keeps = e.at_end t is_last in
     let at_last = at e.base (inner_of e.stand) (among_of e.stand) None e.declared in
     record {
@@ -282,7 +287,7 @@ left_at_end t h s inner w c e kept_so is_last =
           ∙ ap (λ ps. told_behind Leaves at_last ++ ps) (ap (λ ws. ended_places t.ended (file_left_to ws at_last).inner) e.waits ∙ none_ended t.ended)
           ∙ append-nil (told_behind Leaves at_last)
           ∙ ap (λ (b : Behind). told_behind Leaves b.now) (sym keeps)
-          ∙ misses_at t h inner (conditionals s.between ∷ w) c e is_last;
+          ∙ misses_at t o h inner (conditionals s.between ∷ w) c e is_last;
       begun = subst (λ (b : Behind). Begun (around_behind s) w (ended_behind t.ended (file_left (silent b.now)))) (sym keeps)
           (begun_behind t.ended s w e.base (inner_of e.stand) (among_of e.stand) e.declared kept_so e.waits e.none_read);
     }
@@ -345,17 +350,207 @@ misfit_led d outer u s last toks alone c (Hashed sign t) b is all =
           (begun_broken t.ended last.around last.waiting (given_up_at k.base) last.declared k.inside_kept k.between_kept k.waits refl);
     }
 
+-- A `#` before another one, or before the end of the file
+
+-- it is held back, where then these are the conditionals
+record HeldBack (sign : At) (c then : Conditions) : Type 0 where
+  hands : handed_on (judged_at sign c).judged sign.token ≡ []
+  tells : told_at (staying sign) c ≡ []
+  next : going_on sign c ≡ then
+
+held_back : (sign : At) (c now then : Conditions) → judged_at sign c ≡ passed now → (ended_behind sign.ended (silent now) ≡ then) × (ended_places sign.ended now.inner ≡ []) → HeldBack sign c then
+held_back sign c now then e both = record {
+  hands = ap (λ (b : Behind). handed_on b.judged sign.token) e;
+  tells = ap (λ (b : Behind). lone_places b.judged.lone ++ ended_places sign.ended b.now.inner) e ∙ both.1;
+  next = ap (λ (b : Behind). ended_behind sign.ended (silent b.now)) e ∙ both.0;
+}
+
+held_led : (sign : At) (more : List Step) (c then : Conditions) (given : List Handing) (told : List Place) → HeldBack sign c then → StepsLed more then given told → StepsLed (staying sign ∷ more) c given told
+held_led sign more c then given told h rest = record {
+  hands = ap (λ hs. hs ++ handed_by more (going_on sign c)) h.hands ∙ ap (handed_by more) h.next ∙ rest.hands;
+  tells = ap (λ ps. ps ++ told_by more (going_on sign c)) h.tells ∙ ap (told_by more) h.next ∙ rest.tells;
+}
+
+-- The next one hands it on.
+record LedOn (h : Handed) (place : Place) (more : List Step) (held free : Conditions) (given : List Handing) (told : List Place) : Type 0 where
+  led : StepsLed more held (handed_as h (hash place) ++ given) told
+  behind : steps_behind more held ≡ steps_behind more free
+
+led_on : (h : Handed) (place : Place) (more : List Step) (held free : Conditions) (given : List Handing) (told : List Place)
+    → ((next : At) → is_mark mark.Hash next.token.kind ≡ true → next.site.is_between ≡ false
+    → (judged_at next held ≡ with_sign h place (judged_at next free)) × ((judged_at next free).judged ≡ none_handed))
+    → Follows true true (first_step more) → StepsLed more free given told → LedOn h place more held free given told
+led_on h place [] held free given told frees follows rest = absurd follows
+led_on h place (x ∷ more) held free given told frees follows rest =
+    let both = frees x.at follows.0 follows.1 in
+    let same : step_behind x held ≡ step_behind x free = ap (λ (b : Behind). ended_behind x.at.ended (passed_files x.passage (silent b.now))) both.0 in
+    record {
+      led = record {
+        hands =
+            ap (λ (b : Behind). handed_on b.judged x.at.token ++ handed_by more (ended_behind x.at.ended (passed_files x.passage (silent b.now)))) both.0
+            ∙ ap (λ (j : Judged). (handed_as h (hash place) ++ handed_token j.token x.at.token) ++ handed_by more (step_behind x free)) both.1
+            ∙ ap (λ hs. hs ++ handed_by more (step_behind x free)) (append-nil (handed_as h (hash place)))
+            ∙ ap (λ hs. handed_as h (hash place) ++ hs)
+            (sym (ap (λ (j : Judged). handed_on j x.at.token ++ handed_by more (step_behind x free)) both.1) ∙ rest.hands);
+        tells =
+            ap (λ (b : Behind). (lone_places b.judged.lone ++ (told_behind x.passage b.now ++ ended_places x.at.ended (passed_files x.passage b.now).inner))
+            ++ told_by more (ended_behind x.at.ended (passed_files x.passage (silent b.now)))) both.0
+            ∙ rest.tells;
+      };
+      behind = ap (steps_behind more) same;
+    }
+
+-- inside a directive, and inside a conditional one
+frees_kept : (place : Place) (c : Conditions) (inner among : List Conditional) (declared : ℕ) → c.pending ≡ [] → (next : At) → is_mark mark.Hash next.token.kind ≡ true → next.site.is_between ≡ false
+    → (judged_at next (state c (Some place) inner among None declared) ≡ with_sign handed.Kept place (judged_at next (at (given_up_at c) inner among None declared)))
+    × ((judged_at next (at (given_up_at c) inner among None declared)).judged ≡ none_handed)
+frees_kept place c inner among declared none next hash inside = (
+  hash_freed place next c [] inner among declared none hash inside,
+  ap (λ (b : Behind). b.judged) (sign_inner next (given_up_at c) inner among declared (ap (λ b. b && true) inside) hash),
+)
+
+frees_unfit : (place : Place) (c : Conditions) (p : Pending) (others : List Pending) (inner among : List Conditional) (declared : ℕ) → c.pending ≡ p ∷ others → (next : At) → is_mark mark.Hash next.token.kind ≡ true
+    → next.site.is_between ≡ false
+    → (judged_at next (state c (Some place) inner among None declared) ≡ with_sign handed.Unfit place (judged_at next (at (given_up_at c) inner among None declared)))
+    × ((judged_at next (at (given_up_at c) inner among None declared)).judged ≡ none_handed)
+frees_unfit place c p others inner among declared some next hash inside = (
+  hash_freed place next c (p ∷ others) inner among declared some hash inside,
+  ap (λ (b : Behind). b.judged) (sign_inner next (given_up_at c) inner among declared (ap (λ b. b && true) inside) hash),
+)
+
+-- the end of the file hands it on
+end_frees : (place : Place) (end : At) (c : Conditions) (ps : List Pending) (inner among : List Conditional) (declared : ℕ) → c.pending ≡ ps → is_end end.token.kind ≡ true
+    → judged_at end (state c (Some place) inner among None declared)
+    ≡ record {
+      now = at (given_up_at c) inner among None declared;
+      judged = record none_handed { sign = Some (record { place = place; handed = cond (is_none_pending ps) handed.Kept handed.Unfit }); token = Some handed.Kept };
+    }
+end_frees place end c ps inner among declared read is_last =
+    let here = at (given_up_at c) inner among None declared in
+    let signed : List Pending → Behind → Behind = λ ps b.
+    record b { judged = record b.judged { sign = Some (record { place = place; handed = cond (is_none_pending ps) handed.Kept handed.Unfit }) } } in
+    ap (λ o. behind_sign o place end.site.is_quiet end.out end.token (state c (Some place) inner among None declared)) (end_word end.token is_last)
+    ∙ ap (signed c.pending) (end_kept_so false end.site.is_quiet end.out end.token here is_last refl)
+    ∙ ap (λ ps. signed ps (kept here)) read
+
+-- also at the front of a directive
+front_end : (place : Place) (end : At) (c : Conditions) (inner among : List Conditional) (declared : ℕ) → is_end end.token.kind ≡ true
+    → judged_at end (reading false place awaits.Word c inner among declared)
+    ≡ record {
+      now = at c inner among None declared;
+      judged = record none_handed { sign = Some (record { place = place; handed = handed.Kept }); token = Some handed.Kept };
+    }
+front_end place end c inner among declared is_last =
+    let here = at c inner among None declared in
+    let p = directive false place awaits.Word in
+    ap (λ (b : Bool). cond b (passed (held (end.site.is_between && false) end.token.place (reading false place awaits.Word c inner among declared)))
+    (behind_front (word_of end.token) end.token p here)) (end_is_no_hash end.token.kind is_last)
+    ∙ ap (λ o. behind_front o end.token p here) (end_word end.token is_last)
+
+record HashEnds (s : Around) (w : List (List Conditional)) (o : Sign) (sign : At) (c : Conditions) : Type 0 where
+  then : Conditions
+  held : HeldBack sign c then
+  ends : EndsAs (Some o) handed.Kept s w then
+
+hash_last : (is_inner : Bool) (s : Around) (w : List (List Conditional)) (sign : At) (c : Conditions) → StaysAt s w c → Begins true is_inner false (Some sign) sign → NoneInside is_inner s
+    → HashEnds s w (sign_as handed.Kept sign) sign c
+hash_last true s w sign c st begins none =
+    let inner = conditionals s.inside in
+    let among = conditionals s.between in
+    let place = sign.token.place in
+    let now = state st.base (Some place) inner among None st.declared in
+    let e = ap (judged_at sign) st.is ∙ sign_inner sign st.base inner among st.declared (ap (λ b. b && is_none_pending st.base.pending) (begins.0 refl)) begins.1.is in
+    record {
+      then = now;
+      held = held_back sign c now now e (ap (λ e. ended_behind e now) begins.1.goes_on, ap (λ e. ended_places e inner) begins.1.goes_on);
+      ends = record {
+        base = given_up_at st.base;
+        stand = AllStay s.inside s.between st.inside_kept st.between_kept;
+        declared = st.declared;
+        none_read = refl;
+        waits = st.waits;
+        stack = refl;
+        inner = refl;
+        among = refl;
+        at_end = λ end is_last. end_frees place end st.base [] inner among st.declared st.none_read is_last;
+      };
+    }
+hash_last false s w sign c st begins none =
+    let inner = conditionals s.inside in
+    let among = conditionals s.between in
+    let place = sign.token.place in
+    let now : ℕ → Conditions = reading false place awaits.Word st.base inner among in
+    let later = declared_behind sign st.declared in
+    let e = ap (judged_at sign) st.is ∙ sign_kept sign st.base inner among st.declared (outer_front sign st.base st.none_read begins.0) begins.1.is in
+    record {
+      then = now later;
+      held = held_back sign c (now st.declared) (now later) e (mid false sign (awaits_it false place awaits.Word st.base) None inner among None st.declared tt (λ _. (ap conditionals none, refl)));
+      ends = record {
+        base = st.base;
+        stand = AllStay s.inside s.between st.inside_kept st.between_kept;
+        declared = later;
+        none_read = st.none_read;
+        waits = st.waits;
+        stack = refl;
+        inner = refl;
+        among = refl;
+        at_end = λ end is_last. front_end place end st.base inner among later is_last;
+      };
+    }
+
 -- All files
 
 end_is_handed : (f : Files) (end : At) → handed_as (end_handed f) end.token ≡ record { handed = end_handed f; token = end.token } ∷ []
 end_is_handed (Alone parts) end = refl
 end_is_handed (Cut parts outer u) end = refl
+end_is_handed (HashLast parts is_inner sign) end = refl
+end_is_handed (HashThen parts sign more) end = end_is_handed more end
+end_is_handed (CutHashLast parts outer u sign) end = refl
+end_is_handed (CutHashThen parts outer u sign more) end = end_is_handed more end
 end_is_handed (Breaking parts outer u misfit more) end = end_is_handed more end
 end_is_handed (Including parts t f leaving more) end = end_is_handed more end
 
+-- where a `#` cuts a directive
+record CutHash (s : Around) (w : List (List Conditional)) (sign : At) (c : Conditions) : Type 0 where
+  base : Conditions
+  p : Pending
+  others : List Pending
+  declared : ℕ
+  inside_kept : are_kept s.inside ≡ true
+  between_kept : are_kept s.between ≡ true
+  read : base.pending ≡ p ∷ others
+  waits : base.waiting ≡ w
+  held : HeldBack sign c (state base (Some sign.token.place) (conditionals s.inside) (conditionals s.between) None declared)
+
+cut_hash : (d : Answers) (outer : List Unfinished) (u : Unfinished) (s : Around) (last : Last) (toks : List At) (alone : List Place) (c : Conditions) (sign : At) → AllBegun d outer u s last toks alone c → IsSign true sign
+    → all_kept last.around ≡ true → CutHash last.around last.waiting sign (all_behind toks c)
+cut_hash d outer u s last toks alone c sign b is all =
+    let there = all_behind toks c in
+    let k = kept_at b.p b.others b.ks last there b.led.ends all in
+    let inner = conditionals last.around.inside in
+    let among = conditionals last.around.between in
+    let base = record k.base { pending = b.p ∷ b.others; conditions = b.ks } in
+    let then = state base (Some sign.token.place) inner among None last.declared in
+    record {
+      base = base;
+      p = b.p;
+      others = b.others;
+      declared = last.declared;
+      inside_kept = k.inside_kept;
+      between_kept = k.between_kept;
+      read = refl;
+      waits = k.waits;
+      held = held_back sign there then then (ap (judged_at sign) k.is ∙ sign_cut sign base b.p b.others inner among last.declared refl is.is)
+          (ap (λ e. ended_behind e then) is.goes_on, ap (λ e. ended_places e inner) is.goes_on);
+    }
+
+free_begun : (s : Around) (w : List (List Conditional)) (base : Conditions) (declared : ℕ) → are_kept s.inside ≡ true → are_kept s.between ≡ true → base.waiting ≡ w
+    → Begun s w (at (given_up_at base) (conditionals s.inside) (conditionals s.between) None declared)
+free_begun s w base declared si sb waits = record { inside_kept = si; between_kept = sb; is = refl; waits = waits; none_read = refl }
+
 record FilesLed (d : Answers) (f : Files) (s : Around) (w : List (List Conditional)) (c : Conditions) : Type 0 where
   led : StepsLed (steps f) c (handed_files d s f) (told_files d s f)
-  ends : EndsAs (end_handed f) (behind_files d s f) w (steps_behind (steps f) c)
+  ends : EndsAs (end_sign f) (end_handed f) (behind_files d s f) w (steps_behind (steps f) c)
 
 -- a directive that is not whole, behind parts
 record BrokenLed (d : Answers) (s : Around) (w : List (List Conditional)) (c : Conditions) (parts : Parts) (outer : List Unfinished) (u : Unfinished) : Type 0 where
@@ -384,7 +579,156 @@ broken_led d s w c parts outer u first has =
 files_led : (d : Answers) (f : Files) (s : Around) (w : List (List Conditional)) (c : Conditions) → Begun s w c → AreFiles d s c f → FilesLed d f s w c
 files_led d (Alone parts) s w c b are =
     let first = stretch d s w c parts b are in
-    record { led = first.led; ends = subst (λ (x : Conditions). EndsAs handed.Kept (behind_parts d s parts) w x) (sym (behind_staying (all_tokens parts) c)) (ends_kept (stretch_last d s w c parts) (all_behind (all_tokens parts) c) first.stands) }
+    record { led = first.led; ends = subst (λ (x : Conditions). EndsAs None handed.Kept (behind_parts d s parts) w x) (sym (behind_staying (all_tokens parts) c)) (ends_kept (stretch_last d s w c parts) (all_behind (all_tokens parts) c) first.stands) }
+files_led d (HashLast parts is_inner sign) s w c b are =
+    let first = stretch d s w c parts b are.0 in
+    let tokens = all_tokens parts in
+    let here = behind_parts d s parts in
+    let c_here = all_behind tokens c in
+    let h = hash_last is_inner here w sign c_here (stays_at (stretch_last d s w c parts) c_here first.stands are.1.0) are.1.1.0 are.1.1.1 in
+    let to_here = behind_staying tokens c in
+    let given = map as_kept (kept_sides d s parts) in
+    let told = told_parts d s parts in
+    let both =
+    joined (map staying tokens) (staying sign ∷ []) c given [] told [] first.led
+    (subst (λ (x : Conditions). StepsLed (staying sign ∷ []) x [] []) (sym to_here) (held_led sign [] c_here h.then [] [] h.held (record { hands = refl; tells = refl }))) in
+    record {
+      led = record { hands = both.hands ∙ append-nil given; tells = both.tells ∙ append-nil told };
+      ends = subst (λ (x : Conditions). EndsAs (Some (sign_as handed.Kept sign)) handed.Kept here w x)
+          (sym (behind_both (map staying tokens) (staying sign ∷ []) c ∙ ap (steps_behind (staying sign ∷ [])) to_here ∙ h.held.next)) h.ends;
+    }
+files_led d (HashThen parts sign more) s w c b are =
+    let first = stretch d s w c parts b are.0 in
+    let tokens = all_tokens parts in
+    let here = behind_parts d s parts in
+    let c_here = all_behind tokens c in
+    let st = stays_at (stretch_last d s w c parts) c_here first.stands are.1.0.is_kept in
+    let inner = conditionals here.inside in
+    let among = conditionals here.between in
+    let place = sign.token.place in
+    let then = state st.base (Some place) inner among None st.declared in
+    let free = at (given_up_at st.base) inner among None st.declared in
+    let goes = are.1.0.is_sign.goes_on in
+    let h =
+    held_back sign c_here then then
+    (ap (judged_at sign) st.is ∙ sign_inner sign st.base inner among st.declared (ap (λ b. b && is_none_pending st.base.pending) are.1.1.0) are.1.0.is_sign.is)
+    (ap (λ e. ended_behind e then) goes, ap (λ e. ended_places e inner) goes) in
+    let frees : released (going_on sign c_here) ≡ free = ap released h.next in
+    let begun = subst (λ (x : Conditions). Begun here w x) (sym frees) (free_begun here w st.base st.declared st.inside_kept st.between_kept st.waits) in
+    let rest = files_led d more here w (released (going_on sign c_here)) begun are.1.1.1 in
+    let given = handed_files d here more in
+    let others = told_files d here more in
+    let on =
+    led_on handed.Kept place (steps more) then free given others (frees_kept place st.base inner among st.declared st.none_read) are.1.0.follows
+    (subst (λ (x : Conditions). StepsLed (steps more) x given others) frees rest.led) in
+    let to_here = behind_staying tokens c in
+    record {
+      led = joined (map staying tokens) (staying sign ∷ steps more) c (map as_kept (kept_sides d s parts)) (as_kept (hash place) ∷ given) (told_parts d s parts) others first.led
+          (subst (λ (x : Conditions). StepsLed (staying sign ∷ steps more) x (as_kept (hash place) ∷ given) others) (sym to_here)
+          (held_led sign (steps more) c_here then (as_kept (hash place) ∷ given) others h on.led));
+      ends = subst (λ (x : Conditions). EndsAs (end_sign more) (end_handed more) (behind_files d here more) w x)
+          (sym
+          (behind_both (map staying tokens) (staying sign ∷ steps more) c
+          ∙ ap (steps_behind (staying sign ∷ steps more)) to_here
+          ∙ ap (steps_behind (steps more)) h.next
+          ∙ on.behind
+          ∙ ap (steps_behind (steps more)) (sym frees))) rest.ends;
+    }
+files_led d (CutHashLast parts outer u sign) s w c b are =
+    let first = stretch d s w c parts b are.0 in
+    let broken = broken_led d s w c parts outer u first are.1.0 in
+    let tokens = all_tokens parts in
+    let toks = all_begun_tokens outer u in
+    let c_here = all_behind tokens c in
+    let there = all_behind toks c_here in
+    let last = broken.last in
+    let here = behind_all_begun d (behind_parts d s parts) outer u in
+    let alone = told_all_begun d (behind_parts d s parts) outer u in
+    let k : CutHash here w sign there =
+    subst (λ (x : Around). CutHash x w sign there) broken.around
+    (subst (λ ws. CutHash last.around ws sign there) broken.waiting
+    (cut_hash d outer u (behind_parts d s parts) last toks alone c_here sign broken.begun are.1.1.1 (ap all_kept broken.around ∙ are.1.1.0))) in
+    let inner = conditionals here.inside in
+    let among = conditionals here.between in
+    let place = sign.token.place in
+    let then = state k.base (Some place) inner among None k.declared in
+    let ends : EndsAs (Some (sign_as handed.Unfit sign)) handed.Kept here w then =
+    record {
+      base = given_up_at k.base;
+      stand = AllStay here.inside here.between k.inside_kept k.between_kept;
+      declared = k.declared;
+      none_read = refl;
+      waits = k.waits;
+      stack = refl;
+      inner = refl;
+      among = refl;
+      at_end = λ end is_last. end_frees place end k.base (k.p ∷ k.others) inner among k.declared k.read is_last;
+    } in
+    let given = map as_kept (kept_sides d s parts) in
+    let to_here = behind_staying tokens c in
+    let to_there = behind_staying toks c_here in
+    let second : StepsLed (map staying toks ++ staying sign ∷ []) c_here [] (alone ++ []) =
+    joined (map staying toks) (staying sign ∷ []) c_here [] [] alone [] broken.led
+    (subst (λ (x : Conditions). StepsLed (staying sign ∷ []) x [] []) (sym to_there) (held_led sign [] there then [] [] k.held (record { hands = refl; tells = refl }))) in
+    let both =
+    joined (map staying tokens) (map staying toks ++ staying sign ∷ []) c given [] (told_parts d s parts) (alone ++ []) first.led
+    (subst (λ (x : Conditions). StepsLed (map staying toks ++ staying sign ∷ []) x [] (alone ++ [])) (sym to_here) second) in
+    record {
+      led = record { hands = both.hands ∙ append-nil given; tells = both.tells ∙ ap (λ ps. told_parts d s parts ++ ps) (append-nil alone) };
+      ends = subst (λ (x : Conditions). EndsAs (Some (sign_as handed.Unfit sign)) handed.Kept here w x)
+          (sym
+          (behind_both (map staying tokens) (map staying toks ++ staying sign ∷ []) c
+          ∙ ap (steps_behind (map staying toks ++ staying sign ∷ [])) to_here
+          ∙ behind_both (map staying toks) (staying sign ∷ []) c_here
+          ∙ ap (steps_behind (staying sign ∷ [])) to_there
+          ∙ k.held.next)) ends;
+    }
+files_led d (CutHashThen parts outer u sign more) s w c b are =
+    let first = stretch d s w c parts b are.0 in
+    let broken = broken_led d s w c parts outer u first are.1.0 in
+    let tokens = all_tokens parts in
+    let toks = all_begun_tokens outer u in
+    let c_here = all_behind tokens c in
+    let there = all_behind toks c_here in
+    let last = broken.last in
+    let here = behind_all_begun d (behind_parts d s parts) outer u in
+    let alone = told_all_begun d (behind_parts d s parts) outer u in
+    let k : CutHash here w sign there =
+    subst (λ (x : Around). CutHash x w sign there) broken.around
+    (subst (λ ws. CutHash last.around ws sign there) broken.waiting
+    (cut_hash d outer u (behind_parts d s parts) last toks alone c_here sign broken.begun are.1.1.0.is_sign (ap all_kept broken.around ∙ are.1.1.0.is_kept))) in
+    let inner = conditionals here.inside in
+    let among = conditionals here.between in
+    let place = sign.token.place in
+    let then = state k.base (Some place) inner among None k.declared in
+    let free = at (given_up_at k.base) inner among None k.declared in
+    let frees : released (going_on sign there) ≡ free = ap released k.held.next in
+    let begun = subst (λ (x : Conditions). Begun here w x) (sym frees) (free_begun here w k.base k.declared k.inside_kept k.between_kept k.waits) in
+    let rest = files_led d more here w (released (going_on sign there)) begun are.1.1.1 in
+    let given = handed_files d here more in
+    let others = told_files d here more in
+    let on =
+    led_on handed.Unfit place (steps more) then free given others (frees_unfit place k.base k.p k.others inner among k.declared k.read) are.1.1.0.follows
+    (subst (λ (x : Conditions). StepsLed (steps more) x given others) frees rest.led) in
+    let to_here = behind_staying tokens c in
+    let to_there = behind_staying toks c_here in
+    let second : StepsLed (map staying toks ++ staying sign ∷ steps more) c_here (as_unfit (hash place) ∷ given) (alone ++ others) =
+    joined (map staying toks) (staying sign ∷ steps more) c_here [] (as_unfit (hash place) ∷ given) alone others broken.led
+    (subst (λ (x : Conditions). StepsLed (staying sign ∷ steps more) x (as_unfit (hash place) ∷ given) others) (sym to_there)
+    (held_led sign (steps more) there then (as_unfit (hash place) ∷ given) others k.held on.led)) in
+    record {
+      led = joined (map staying tokens) (map staying toks ++ staying sign ∷ steps more) c (map as_kept (kept_sides d s parts)) (as_unfit (hash place) ∷ given) (told_parts d s parts) (alone ++ others) first.led
+          (subst (λ (x : Conditions). StepsLed (map staying toks ++ staying sign ∷ steps more) x (as_unfit (hash place) ∷ given) (alone ++ others)) (sym to_here) second);
+      ends = subst (λ (x : Conditions). EndsAs (end_sign more) (end_handed more) (behind_files d here more) w x)
+          (sym
+          (behind_both (map staying tokens) (map staying toks ++ staying sign ∷ steps more) c
+          ∙ ap (steps_behind (map staying toks ++ staying sign ∷ steps more)) to_here
+          ∙ behind_both (map staying toks) (staying sign ∷ steps more) c_here
+          ∙ ap (steps_behind (staying sign ∷ steps more)) to_there
+          ∙ ap (steps_behind (steps more)) k.held.next
+          ∙ on.behind
+          ∙ ap (steps_behind (steps more)) (sym frees))) rest.ends;
+    }
 files_led d (Cut parts outer u) s w c b are =
     let first = stretch d s w c parts b are.0 in
     let broken = broken_led d s w c parts outer u first are.1 in
@@ -400,9 +744,9 @@ files_led d (Cut parts outer u) s w c b are =
     let ends = ends_cut d outer u (behind_parts d s parts) last toks alone here broken.begun in
     record {
       led = record { hands = both.hands ∙ append-nil given; tells = both.tells };
-      ends = subst (λ (x : Conditions). EndsAs handed.Unfit (behind_all_begun d (behind_parts d s parts) outer u) w x)
+      ends = subst (λ (x : Conditions). EndsAs None handed.Unfit (behind_all_begun d (behind_parts d s parts) outer u) w x)
           (sym (behind_both (map staying (all_tokens parts)) (map staying toks) c ∙ ap (steps_behind (map staying toks)) to_here ∙ behind_staying toks here))
-          (subst (λ (x : Around). EndsAs handed.Unfit x w (all_behind toks here)) broken.around (subst (λ ws. EndsAs handed.Unfit last.around ws (all_behind toks here)) broken.waiting ends));
+          (subst (λ (x : Around). EndsAs None handed.Unfit x w (all_behind toks here)) broken.around (subst (λ ws. EndsAs None handed.Unfit last.around ws (all_behind toks here)) broken.waiting ends));
     }
 files_led d (Breaking parts outer u misfit more) s w c b are =
     let first = stretch d s w c parts b are.0 in
@@ -435,7 +779,7 @@ files_led d (Breaking parts outer u misfit more) s w c b are =
     record {
       led = joined (map staying tokens) (map staying toks ++ (map staying bad ++ steps more)) c (map as_kept (kept_sides d s parts)) (handed_misfit misfit ++ given) (told_parts d s parts) (alone ++ (told_bad ++ others)) first.led
           (subst (λ (x : Conditions). StepsLed (map staying toks ++ (map staying bad ++ steps more)) x (handed_misfit misfit ++ given) (alone ++ (told_bad ++ others))) (sym to_here) second);
-      ends = subst (λ (x : Conditions). EndsAs (end_handed more) (behind_files d around more) w x)
+      ends = subst (λ (x : Conditions). EndsAs (end_sign more) (end_handed more) (behind_files d around more) w x)
           (sym
           (behind_both (map staying tokens) (map staying toks ++ (map staying bad ++ steps more)) c
           ∙ ap (steps_behind (map staying toks ++ (map staying bad ++ steps more))) to_here
@@ -457,23 +801,23 @@ files_led d (Including parts t f end more) s w c b are =
     let st = stays_at (stretch_last d s w c parts) c_here first.stands are.1.0.is_kept in
     let enter = entered_at t here w c_here st are.1.0.plain in
     let inner = files_led d f inside (conditionals here.between ∷ w) c_in enter.begun are.1.1.0 in
-    let leave = left_at_end end (end_handed f) here (behind_files d inside f) w c_end inner.ends st.between_kept are.1.0.is_last in
+    let leave = left_at_end end (end_sign f) (end_handed f) here (behind_files d inside f) w c_end inner.ends st.between_kept are.1.0.is_last in
     let rest = files_led d more (around_behind here) w c_more leave.begun are.1.1.1 in
     let given = handed_files d (around_behind here) more in
-    let last_so : Handing = record { handed = end_handed f; token = end.token } in
+    let last_so = handed_end f end.token in
     let others = told_files d (around_behind here) more in
     let missing_here = all_unended (behind_files d inside f) in
-    let leaving_on : StepsLed (leaves end ∷ steps more) c_end (last_so ∷ given) (missing_here ++ others) =
+    let leaving_on : StepsLed (leaves end ∷ steps more) c_end (last_so ++ given) (missing_here ++ others) =
     record {
-      hands = ap (λ hs. hs ++ handed_by (steps more) c_more) (leave.hands ∙ end_is_handed f end) ∙ ap (λ hs. last_so ∷ hs) rest.led.hands;
+      hands = ap (λ hs. hs ++ handed_by (steps more) c_more) (leave.hands ∙ ap (λ hs. handed_sign (end_sign f) ++ hs) (end_is_handed f end)) ∙ ap (λ hs. last_so ++ hs) rest.led.hands;
       tells = ap (λ ps. ps ++ told_by (steps more) c_more) leave.tells ∙ ap (λ ps. missing_here ++ ps) rest.led.tells;
     } in
     let all_inner = steps f ++ leaves end ∷ steps more in
-    let inner_given = handed_files d inside f ++ last_so ∷ given in
+    let inner_given = handed_files d inside f ++ (last_so ++ given) in
     let told_in = told_files d inside f ++ (missing_here ++ others) in
     let told_entering = missing_in t.ended here in
     let inner_on : StepsLed all_inner c_in inner_given told_in =
-    joined (steps f) (leaves end ∷ steps more) c_in (handed_files d inside f) (last_so ∷ given) (told_files d inside f) (missing_here ++ others) inner.led leaving_on in
+    joined (steps f) (leaves end ∷ steps more) c_in (handed_files d inside f) (last_so ++ given) (told_files d inside f) (missing_here ++ others) inner.led leaving_on in
     let entering_on : StepsLed (enters t ∷ all_inner) c_here (as_kept t.token ∷ inner_given) (told_entering ++ told_in) =
     record {
       hands = ap (λ hs. hs ++ handed_by all_inner c_in) enter.hands ∙ ap (λ hs. as_kept t.token ∷ hs) inner_on.hands;
@@ -482,7 +826,7 @@ files_led d (Including parts t f end more) s w c b are =
     record {
       led = joined (map staying tokens) (enters t ∷ all_inner) c (map as_kept (kept_sides d s parts)) (as_kept t.token ∷ inner_given) (told_parts d s parts) (told_entering ++ told_in) first.led
           (subst (λ (x : Conditions). StepsLed (enters t ∷ all_inner) x (as_kept t.token ∷ inner_given) (told_entering ++ told_in)) (sym to_here) entering_on);
-      ends = subst (λ (x : Conditions). EndsAs (end_handed more) (behind_files d (around_behind here) more) w x)
+      ends = subst (λ (x : Conditions). EndsAs (end_sign more) (end_handed more) (behind_files d (around_behind here) more) w x)
           (sym
           (behind_both (map staying tokens) (enters t ∷ all_inner) c
           ∙ ap (steps_behind (enters t ∷ all_inner)) to_here
@@ -509,7 +853,9 @@ files_keep_sides d f c clear are =
     record {
       handed_on = all.led.hands;
       told = all.led.tells;
-      at_last = λ end is_last. misses_at end (end_handed f) (behind_files d none_around f) c.waiting (steps_behind (steps f) c) all.ends is_last;
+      end_on = λ end is_last.
+          ap (λ (b : Behind). handed_on b.judged end.token) (all.ends.at_end end is_last) ∙ ap (λ hs. handed_sign (end_sign f) ++ hs) (end_is_handed f end);
+      at_last = λ end is_last. misses_at end (end_sign f) (end_handed f) (behind_files d none_around f) c.waiting (steps_behind (steps f) c) all.ends is_last;
     }
 
 pub files_tell_unended : FilesTellUnended

@@ -145,7 +145,7 @@ plain_kept t c inner among declared none is =
     go false e = refl
 
 -- a `#` between directives, and inside one
-sign_kept : (t : At) (c : Conditions) (inner among : List Conditional) (declared : ℕ) → is_front t c ≡ true → is_mark mark.Hash t.token.kind ≡ true
+pub sign_kept : (t : At) (c : Conditions) (inner among : List Conditional) (declared : ℕ) → is_front t c ≡ true → is_mark mark.Hash t.token.kind ≡ true
     → judged_at t (at c inner among None declared) ≡ passed (reading false t.token.place awaits.Word c inner among declared)
 sign_kept t c inner among declared front hash =
     let here = at c inner among None declared in
@@ -218,7 +218,7 @@ end_is_no_hash (kind.Word x) e = cc
 end_is_no_hash (kind.Mark x) e = cc
 end_is_no_hash (kind.Bad x) e = cc
 
-end_word : (t : Spelled) → is_end t.kind ≡ true → word_of t ≡ None
+pub end_word : (t : Spelled) → is_end t.kind ≡ true → word_of t ≡ None
 end_word t e = mark_word t.kind t.bytes t.place (λ name. let never : true ≡ false = sym e ∙ ap is_end name in cc)
 
 pub end_kept_so : (front quiet : Bool) (o : Out) (t : Spelled) (c : Conditions) → is_end t.kind ≡ true → c.pending ≡ [] → offered front quiet o t c ≡ kept c
@@ -309,7 +309,7 @@ word_ends w t sign c inner among inner_now among_now b declared is ends acted =
 abbrev Calm : Bool → List Conditional → Option LeftOut → Type 0
 Calm is_inner inner left = is_inner ≡ false → (inner ≡ []) × (side_kept left ≡ left)
 
-mid : (is_inner : Bool) (t : At) (c : Conditions) (sign : Option Place) (inner among : List Conditional) (left : Option LeftOut) (declared : ℕ) → GoesOn is_inner t → Calm is_inner inner left
+pub mid : (is_inner : Bool) (t : At) (c : Conditions) (sign : Option Place) (inner among : List Conditional) (left : Option LeftOut) (declared : ℕ) → GoesOn is_inner t → Calm is_inner inner left
     → (ended_behind t.ended (state c sign inner among left declared) ≡ state c sign inner among left (declared_behind t declared))
     × (ended_places t.ended inner ≡ [])
 mid true t c sign inner among left declared goes calm = (
@@ -783,7 +783,7 @@ inner_front : (r : Reader) (sign : At) (c : Conditions) → Holds r c → (withi
 inner_front Hands sign c holds inside = ap (λ b. b && is_none_pending c.pending) (inside refl)
 inner_front (Reads p others ks) sign c holds inside = ap (λ ps. sign.site.is_between && is_none_pending ps) holds.0 ∙ and-false sign.site.is_between
 
-outer_front : (sign : At) (c : Conditions) → c.pending ≡ [] → sign.site.is_between ≡ true → is_front sign c ≡ true
+pub outer_front : (sign : At) (c : Conditions) → c.pending ≡ [] → sign.site.is_between ≡ true → is_front sign c ≡ true
 outer_front sign c none between = ap (λ ps. sign.site.is_between && is_none_pending ps) none ∙ ap (λ b. b && true) between
 
 pub begins_kept : (r q : Reader) (is_inner : Bool) (w : ConditionalWord) (a : Awaits) (sign : Option At) (t : At) (all : List At) (c after : Conditions) (inner among : List Conditional) (declared : ℕ) (places : List Place) (last : Last)
@@ -1636,16 +1636,16 @@ same_first r t all c held_back tokens places last e is = record {
 abbrev pub with_sign : Handed → Place → Behind → Behind
 with_sign h place b = record b { judged = record b.judged { sign = Some (record { place = place; handed = h }) } }
 
-pub hash_kept : (place : Place) (t : At) (c : Conditions) (inner among : List Conditional) (declared : ℕ) → c.pending ≡ [] → is_mark mark.Hash t.token.kind ≡ true → t.site.is_between ≡ false
-    → judged_at t (state c (Some place) inner among None declared) ≡ with_sign handed.Kept place (judged_at t (at (given_up_so c) inner among None declared))
-hash_kept place t c inner among declared none hash inside =
+pub hash_freed : (place : Place) (t : At) (c : Conditions) (ps : List Pending) (inner among : List Conditional) (declared : ℕ) → c.pending ≡ ps → is_mark mark.Hash t.token.kind ≡ true → t.site.is_between ≡ false
+    → judged_at t (state c (Some place) inner among None declared)
+    ≡ with_sign (cond (is_none_pending ps) handed.Kept handed.Unfit) place (judged_at t (at (given_up_so c) inner among None declared))
+hash_freed place t c ps inner among declared read hash inside =
     let here = at (given_up_so c) inner among None declared in
-    let signed : List Pending → Behind → Behind = λ ps b.
-    record b { judged = record b.judged { sign = Some (record { place = place; handed = cond (is_none_pending ps) handed.Kept handed.Unfit }) } } in
+    let signed : List Pending → Behind → Behind = λ ps b. with_sign (cond (is_none_pending ps) handed.Kept handed.Unfit) place b in
     ap (λ o. behind_sign o place t.site.is_quiet t.out t.token (state c (Some place) inner among None declared)) (hash_word t.token hash)
     ∙ ap (λ (b : Bool). signed c.pending (cond b (passed (held false t.token.place here)) (kept here))) hash
-    ∙ ap (λ ps. signed ps (passed (held false t.token.place here))) none
-    ∙ sym (ap (with_sign handed.Kept place) (sign_inner t (given_up_so c) inner among declared (ap (λ b. b && true) inside) hash))
+    ∙ ap (λ ps. signed ps (passed (held false t.token.place here))) read
+    ∙ sym (ap (signed ps) (sign_inner t (given_up_so c) inner among declared (ap (λ b. b && true) inside) hash))
 
 kept_first : (place : Place) (t : At) (all : List At) (c : Conditions) (inner among : List Conditional) (declared : ℕ) (tokens : List Spelled) (places : List Place) (last : Last)
     → c.pending ≡ [] → is_mark mark.Hash t.token.kind ≡ true → t.site.is_between ≡ false
@@ -1653,7 +1653,7 @@ kept_first : (place : Place) (t : At) (all : List At) (c : Conditions) (inner am
     → Led Hands (t ∷ all) (state c (Some place) inner among None declared) (hash place ∷ tokens) places last
 kept_first place t all c inner among declared tokens places last none is inside led_on =
     let there = at (given_up_so c) inner among None declared in
-    let b = hash_kept place t c inner among declared none is inside in
+    let b = hash_freed place t c [] inner among declared none is inside in
     let e = sign_inner t (given_up_so c) inner among declared (ap (λ b. b && true) inside) is in
     let next : ended_behind t.ended (silent (judged_at t (state c (Some place) inner among None declared)).now) ≡ going_on t there =
     ap (λ (b : Behind). ended_behind t.ended (silent b.now)) b in

@@ -1,6 +1,7 @@
 -- Which tokens are kept of files that include one another: of each file those that its own conditionals keep.
-use Rattle.std.specs.Prelude.{◌≡◌, ◌≤◌, ℕ, zero, suc, List, [], ◌∷◌, ◌++◌, map, reverse, length, Bool, true, false, if◌then◌else◌}
+use Rattle.std.specs.Prelude.{◌≡◌, ◌≤◌, ℕ, zero, suc, List, [], ◌∷◌, ◌++◌, map, reverse, length, Bool, true, false, if◌then◌else◌, Option, Some, None}
 use Rattle.inf_token.specs.Files.{Sources}
+use Rattle.inf_scanner.specs.declared.tokens.Mark.TheVariants as mark
 use Rattle.inf_scanner.specs.declared.tokens.Place.{Place}
 use Rattle.inf_sources.specs.Inclusions.{Inclusion, Opens, OpensNone, inclusion}
 use Rattle.inf_unit.specs.Directives.{Asked, End, Include, Nothing}
@@ -8,13 +9,15 @@ use Rattle.inf_unit.specs.Messages.{FileNames, Reported}
 use Rattle.inf_unit.specs.Tokens.{Spelled, is_end}
 use Rattle.inf_conditionals.specs.declared.judged.Handed.{Handed}
 use Rattle.inf_conditionals.specs.declared.judged.Handed.TheVariants as handed
+use Rattle.inf_conditionals.specs.declared.judged.Sign.{Sign}
 use Rattle.inf_conditionals.specs.Ends.{file_entered, file_left, file_told}
 use Rattle.inf_conditionals.specs.Open.{Conditions, most_levels, silent}
+use Rattle.inf_reader.specs.Handing.{hash}
 use Rattle.inf_reader.specs.Reading.{is_mode_ended}
 use Rattle.inf_session.specs.Choices.{Choices}
 use Rattle.inf_session.specs.Session.{State, file_closed, stepped, token_of, turn}
-use Rattle.inf_laws.specs.KeptSides.{Answers, AreParts, Around, At, Handing, IsClear, IsPlain, Parts, all_behind, all_kept, all_tokens, as_kept, behind_parts, declared_tokens, ended_behind, ended_in, ended_places, handed_on, judged_at, kept_sides, lone_places, missing_in, none_around, places, told_parts, unended}
-use Rattle.inf_laws.specs.Unfinished.{HaveBegun, IsMisfit, Misfit, Unfinished, all_begun_tokens, behind_all_begun, behind_misfit, handed_misfit, misfit_tokens, told_all_begun, told_misfit}
+use Rattle.inf_laws.specs.KeptSides.{Answers, AreParts, Around, At, Begins, Follows, Handing, IsClear, IsPlain, IsSign, NoneInside, Parts, all_behind, all_kept, all_tokens, as_kept, behind_parts, declared_tokens, ended_behind, ended_in, ended_places, going_on, handed_on, handed_sign, judged_at, kept_sides, lone_places, missing_in, none_around, places, told_parts, unended}
+use Rattle.inf_laws.specs.Unfinished.{HaveBegun, IsMisfit, Misfit, Unfinished, all_begun_tokens, as_unfit, behind_all_begun, behind_misfit, handed_misfit, misfit_tokens, told_all_begun, told_misfit}
 use Rattle.inf_laws.specs.KeptTurns.{given_in, turned}
 use Rattle.inf_laws.specs.MissingEnds.{with_all_at}
 use Rattle.inf_laws.specs.SideTurns.{at_turn, shown}
@@ -68,16 +71,25 @@ told_by (x ∷ steps) c = told_at x c ++ told_by steps (step_behind x c)
 
 -- What is still to come of a file: no more than parts; or parts and a conditional directive that the end of the file cuts; or parts, one that a
 -- token cuts, this token, and what comes behind it; or parts, the token with which an included file is entered, what that has, the token at its
--- end, and what comes behind.
+-- end, and what comes behind. A `#` may stand last, or before another one, with which the rest of the file begins, behind parts or where it cuts a
+-- directive.
 pub data Files : Type 0 where
   Alone : (parts : Parts) → Files
+  HashLast : (parts : Parts) (is_inner : Bool) (sign : At) → Files
+  HashThen : (parts : Parts) (sign : At) (behind : Files) → Files
   Cut : (parts : Parts) (outer : List Unfinished) (u : Unfinished) → Files
+  CutHashLast : (parts : Parts) (outer : List Unfinished) (u : Unfinished) (sign : At) → Files
+  CutHashThen : (parts : Parts) (outer : List Unfinished) (u : Unfinished) (sign : At) (behind : Files) → Files
   Breaking : (parts : Parts) (outer : List Unfinished) (u : Unfinished) (misfit : Misfit) (behind : Files) → Files
   Including : (parts : Parts) (entering : At) (included : Files) (leaving : At) (behind : Files) → Files
 
 abbrev pub steps : Files → List Step
 steps (Alone parts) = map staying (all_tokens parts)
 steps (Cut parts outer u) = map staying (all_tokens parts) ++ map staying (all_begun_tokens outer u)
+steps (HashLast parts is_inner sign) = map staying (all_tokens parts) ++ staying sign ∷ []
+steps (HashThen parts sign behind) = map staying (all_tokens parts) ++ staying sign ∷ steps behind
+steps (CutHashLast parts outer u sign) = map staying (all_tokens parts) ++ (map staying (all_begun_tokens outer u) ++ staying sign ∷ [])
+steps (CutHashThen parts outer u sign behind) = map staying (all_tokens parts) ++ (map staying (all_begun_tokens outer u) ++ staying sign ∷ steps behind)
 steps (Breaking parts outer u misfit behind) =
     map staying (all_tokens parts) ++ (map staying (all_begun_tokens outer u) ++ (map staying (misfit_tokens misfit) ++ steps behind))
 steps (Including parts entering included leaving behind) =
@@ -98,27 +110,60 @@ around_broken answers s parts outer u misfit = behind_misfit misfit (behind_all_
 abbrev pub behind_files : Answers → Around → Files → Around
 behind_files answers s (Alone parts) = behind_parts answers s parts
 behind_files answers s (Cut parts outer u) = behind_all_begun answers (behind_parts answers s parts) outer u
+behind_files answers s (HashLast parts is_inner sign) = behind_parts answers s parts
+behind_files answers s (HashThen parts sign behind) = behind_files answers (behind_parts answers s parts) behind
+behind_files answers s (CutHashLast parts outer u sign) = behind_all_begun answers (behind_parts answers s parts) outer u
+behind_files answers s (CutHashThen parts outer u sign behind) = behind_files answers (behind_all_begun answers (behind_parts answers s parts) outer u) behind
 behind_files answers s (Breaking parts outer u misfit behind) = behind_files answers (around_broken answers s parts outer u misfit) behind
 behind_files answers s (Including parts entering included leaving behind) = behind_files answers (around_behind (behind_parts answers s parts)) behind
+
+-- a `#` that is handed on there, as one that is kept or as one that does not fit
+abbrev pub sign_as : Handed → At → Sign
+sign_as h sign = record { place = sign.token.place; handed = h }
+
+-- before the end of a file it is handed on with that
+abbrev pub end_sign : Files → Option Sign
+end_sign (Alone parts) = None
+end_sign (HashLast parts is_inner sign) = Some (sign_as handed.Kept sign)
+end_sign (HashThen parts sign behind) = end_sign behind
+end_sign (Cut parts outer u) = None
+end_sign (CutHashLast parts outer u sign) = Some (sign_as handed.Unfit sign)
+end_sign (CutHashThen parts outer u sign behind) = end_sign behind
+end_sign (Breaking parts outer u misfit behind) = end_sign behind
+end_sign (Including parts entering included leaving behind) = end_sign behind
 
 -- the end of a file is kept, but where it cuts a directive it does not fit
 abbrev pub end_handed : Files → Handed
 end_handed (Alone parts) = handed.Kept
+end_handed (HashLast parts is_inner sign) = handed.Kept
+end_handed (HashThen parts sign behind) = end_handed behind
 end_handed (Cut parts outer u) = handed.Unfit
+end_handed (CutHashLast parts outer u sign) = handed.Kept
+end_handed (CutHashThen parts outer u sign behind) = end_handed behind
 end_handed (Breaking parts outer u misfit behind) = end_handed behind
 end_handed (Including parts entering included leaving behind) = end_handed behind
+
+abbrev pub handed_end : Files → Spelled → List Handing
+handed_end files end = handed_sign (end_sign files) ++ record { handed = end_handed files; token = end } ∷ []
 
 -- the tokens that are handed on: of each file those that its own conditionals keep, and those that cut a directive, with the end of each included one
 abbrev pub handed_files : Answers → Around → Files → List Handing
 handed_files answers s (Alone parts) = map as_kept (kept_sides answers s parts)
 handed_files answers s (Cut parts outer u) = map as_kept (kept_sides answers s parts)
+handed_files answers s (HashLast parts is_inner sign) = map as_kept (kept_sides answers s parts)
+handed_files answers s (HashThen parts sign behind) =
+    map as_kept (kept_sides answers s parts) ++ as_kept (hash sign.token.place) ∷ handed_files answers (behind_parts answers s parts) behind
+handed_files answers s (CutHashLast parts outer u sign) = map as_kept (kept_sides answers s parts)
+handed_files answers s (CutHashThen parts outer u sign behind) =
+    map as_kept (kept_sides answers s parts)
+    ++ as_unfit (hash sign.token.place) ∷ handed_files answers (behind_all_begun answers (behind_parts answers s parts) outer u) behind
 handed_files answers s (Breaking parts outer u misfit behind) =
     map as_kept (kept_sides answers s parts) ++ (handed_misfit misfit ++ handed_files answers (around_broken answers s parts outer u misfit) behind)
 handed_files answers s (Including parts entering included leaving behind) =
     map as_kept (kept_sides answers s parts)
     ++ as_kept entering.token
     ∷ (handed_files answers (around_included entering (behind_parts answers s parts)) included
-    ++ record { handed = end_handed included; token = leaving.token } ∷ handed_files answers (around_behind (behind_parts answers s parts)) behind)
+    ++ (handed_end included leaving.token ++ handed_files answers (around_behind (behind_parts answers s parts)) behind))
 
 -- what is told: of each file by its own conditionals, and at the end of each included one what is open in it
 abbrev pub all_unended : Around → List Place
@@ -127,6 +172,13 @@ all_unended s = unended s.inside ++ unended s.between
 abbrev pub told_files : Answers → Around → Files → List Place
 told_files answers s (Alone parts) = told_parts answers s parts
 told_files answers s (Cut parts outer u) = told_parts answers s parts ++ told_all_begun answers (behind_parts answers s parts) outer u
+told_files answers s (HashLast parts is_inner sign) = told_parts answers s parts
+told_files answers s (HashThen parts sign behind) = told_parts answers s parts ++ told_files answers (behind_parts answers s parts) behind
+told_files answers s (CutHashLast parts outer u sign) = told_parts answers s parts ++ told_all_begun answers (behind_parts answers s parts) outer u
+told_files answers s (CutHashThen parts outer u sign behind) =
+    told_parts answers s parts
+    ++ (told_all_begun answers (behind_parts answers s parts) outer u
+    ++ told_files answers (behind_all_begun answers (behind_parts answers s parts) outer u) behind)
 told_files answers s (Breaking parts outer u misfit behind) =
     told_parts answers s parts
     ++ (told_all_begun answers (behind_parts answers s parts) outer u
@@ -151,11 +203,44 @@ pub record IsIncluded (s : Around) (entering leaving : At) : Type 0 where
   pub plain : IsPlain true false entering
   pub is_last : is_end leaving.token.kind ≡ true
 
+-- the first token of steps
+abbrev pub first_step : List Step → Option At
+first_step [] = None
+first_step (x ∷ steps) = Some x.at
+
+-- where a `#` that was held back is handed on, and what was read is given up
+abbrev pub released : Conditions → Conditions
+released c = record c { pending = []; conditions = []; sign = None }
+
+-- A `#` that another one follows, with which these begin, stands inside a directive, and so does the other one.
+pub record IsThen (s : Around) (sign : At) (behind : Files) : Type 0 where
+  pub is_kept : all_kept s ≡ true
+  pub is_sign : IsSign true sign
+  pub follows : Follows true true (first_step (steps behind))
+
 abbrev pub AreFiles : Answers → Around → Conditions → Files → Type 0
 AreFiles answers s c (Alone parts) = AreOfAFile answers s c.declared parts
 AreFiles answers s c (Cut parts outer u) =
     AreOfAFile answers s c.declared parts
     × HaveBegun answers (behind_parts answers s parts) (declared_tokens (all_tokens parts) c.declared) (length (all_tokens parts)) outer u
+AreFiles answers s c (HashLast parts is_inner sign) =
+    AreOfAFile answers s c.declared parts
+    × ((all_kept (behind_parts answers s parts) ≡ true) × (Begins true is_inner false (Some sign) sign × NoneInside is_inner (behind_parts answers s parts)))
+AreFiles answers s c (HashThen parts sign behind) =
+    AreOfAFile answers s c.declared parts
+    × (IsThen (behind_parts answers s parts) sign behind
+    × ((sign.site.is_between ≡ false)
+    × AreFiles answers (behind_parts answers s parts) (released (going_on sign (all_behind (all_tokens parts) c))) behind))
+AreFiles answers s c (CutHashLast parts outer u sign) =
+    AreOfAFile answers s c.declared parts
+    × (HaveBegun answers (behind_parts answers s parts) (declared_tokens (all_tokens parts) c.declared) (length (all_tokens parts)) outer u
+    × ((all_kept (behind_all_begun answers (behind_parts answers s parts) outer u) ≡ true) × IsSign true sign))
+AreFiles answers s c (CutHashThen parts outer u sign behind) =
+    AreOfAFile answers s c.declared parts
+    × (HaveBegun answers (behind_parts answers s parts) (declared_tokens (all_tokens parts) c.declared) (length (all_tokens parts)) outer u
+    × (IsThen (behind_all_begun answers (behind_parts answers s parts) outer u) sign behind
+    × AreFiles answers (behind_all_begun answers (behind_parts answers s parts) outer u)
+    (released (going_on sign (all_behind (all_begun_tokens outer u) (all_behind (all_tokens parts) c)))) behind))
 AreFiles answers s c (Breaking parts outer u misfit behind) =
     AreOfAFile answers s c.declared parts
     × (HaveBegun answers (behind_parts answers s parts) (declared_tokens (all_tokens parts) c.declared) (length (all_tokens parts)) outer u
@@ -168,11 +253,16 @@ AreFiles answers s c (Including parts entering included leaving behind) =
     × AreFiles answers (around_behind (behind_parts answers s parts))
     (step_behind (record { at = leaving; passage = Leaves }) (steps_behind (steps included) (step_behind (record { at = entering; passage = Enters }) (all_behind (all_tokens parts) c)))) behind))
 
+-- what is handed on of a token
+abbrev pub handed_at : At → Conditions → List Handing
+handed_at t c = handed_on (judged_at t c).judged t.token
+
 -- Just these tokens are handed on, each as one that is kept or as one that does not fit, and just these places are told, in this order; at the end of the
--- outermost file those of what is open in it.
+-- outermost file those of what is open in it. The end is handed on too, perhaps behind a `#`.
 pub record KeepsFiles (answers : Answers) (files : Files) (c : Conditions) : Type 0 where
   pub handed_on : handed_by (steps files) c ≡ handed_files answers none_around files
   pub told : told_by (steps files) c ≡ told_files answers none_around files
+  pub end_on : (end : At) → is_end end.token.kind ≡ true → handed_at end (steps_behind (steps files) c) ≡ handed_end files end.token
   pub at_last : (end : At) → is_end end.token.kind ≡ true
       → told_behind Leaves (judged_at end (steps_behind (steps files) c)).now ≡ all_unended (behind_files answers none_around files)
 
