@@ -17,10 +17,9 @@ use Rattle.inf_conditionals.specs.declared.judged.Judged.{Judged}
 use Rattle.inf_conditionals.specs.declared.judged.Sign.{Sign}
 use Rattle.inf_conditionals.specs.declared.open.Conditional.{Conditional}
 use Rattle.inf_conditionals.specs.declared.open.LeftOut.{LeftOut}
-use Rattle.inf_conditionals.specs.declared.pending.Awaits.TheVariants as awaits
 use Rattle.inf_conditionals.specs.declared.pending.Pending.{Pending}
 use Rattle.inf_conditionals.specs.Ends.{file_entered, file_left, file_left_to, file_told, with_all_lone}
-use Rattle.inf_conditionals.specs.Judging.{Behind, behind_front, behind_sign, held, judged, judged_by, is_none_pending, kept, none_handed, offered, passed, passed_by}
+use Rattle.inf_conditionals.specs.Judging.{Behind, behind_sign, judged, judged_by, is_none_pending, kept, none_handed, offered, passed, passed_by}
 use Rattle.inf_conditionals.specs.Open.{Conditions, silent}
 use Rattle.inf_conditionals.specs.Words.{word_of}
 use Rattle.inf_reader.specs.Handing.{hash, said_told, site_of}
@@ -28,14 +27,14 @@ use Rattle.inf_reader.specs.Reading.{is_mode_ended}
 use Rattle.inf_session.specs.Choices.{Choices}
 use Rattle.inf_session.specs.Session.{State, answered, asked_nothing, heeded, included_by, left, left_by, file_closed, none_included, stand_of, stepped, token_of, turn}
 use Rattle.inf_laws.specs.IncludedFiles.{Alone, AreFiles, AreOfAFile, Breaking, Cut, CutHashLast, CutHashThen, Enters, Files, FilesKeepSides, FilesTellUnended, HashLast, HashThen, Including, Leaves, Stays, Step, TurnsKeepFiles, all_unended, around_behind, around_broken, around_included, asked_passage, behind_files, end_handed, end_sign, first_step, handed_by, handed_end, handed_files, opens, passage, passed_files, released, sign_as, staying, step_at, step_behind, steps, steps_at, steps_behind, told_at, told_behind, told_by, told_files}
-use Rattle.inf_laws.specs.KeptSides.{Answers, Around, At, Begins, Follows, Handing, IsClear, IsPlain, IsSign, NoneInside, Parts, all_behind, all_handed_on, all_kept, all_tokens, all_told, are_kept, as_kept, behind_parts, declared_behind, declared_tokens, ended_behind, ended_in, ended_places, going_on, handed_as, handed_on, handed_sign, handed_token, judged_at, kept_sides, lone_places, missing_in, none_around, places, told_parts, unended}
-use Rattle.inf_laws.specs.Unfinished.{Bare, Hashed, HaveBegun, IsMisfit, Misfit, Unfinished, all_begun_tokens, as_unfit, behind_all_begun, behind_misfit, handed_misfit, misfit_tokens, told_all_begun, told_misfit}
+use Rattle.inf_laws.specs.KeptSides.{Answers, Around, At, Follows, Handing, IsClear, IsPlain, IsSign, Parts, all_behind, all_handed_on, all_kept, all_tokens, all_told, are_kept, as_kept, behind_parts, declared_tokens, ended_behind, ended_in, ended_places, going_on, handed_as, handed_on, handed_sign, handed_token, judged_at, kept_sides, lone_places, missing_in, none_around, places, told_parts, unended}
+use Rattle.inf_laws.specs.Unfinished.{Asked as HasAsked, Bare, Closes, Fronting, Hashed, HaveBegun, IsMisfit, Misfit, Named, Turns, Unfinished, Unnamed, all_begun_tokens, as_unfit, begun_handed, begun_sign, behind_all_begun, behind_misfit, handed_misfit, misfit_tokens, told_all_begun, told_misfit}
 use Rattle.inf_laws.specs.KeptTurns.{given_by, given_in, turned}
 use Rattle.inf_laws.specs.MissingEnds.{with_all_at}
 use Rattle.inf_laws.specs.SideTurns.{at_turn, ends_there, shown}
-use Rattle.inf_laws.proofs.KeptSides.{AllStay, Hands, InnerLeft, Last, OuterLeft, Reader, Stands, StandsAt, all_handed, all_taken, among_of, are_open, at, awaits_it, conditionals, directive, end_is_no_hash, end_kept_so, end_word, ended_told, hands_on, hash_freed, inner_not_kept, inner_of, kept_at, last_at, led, mid, not_kept, outer, outer_front, plain_kept, reading, sign_inner, sign_kept, stack_of, stands_at, state, told_both, told_places, with_sign}
+use Rattle.inf_laws.proofs.KeptSides.{AllStay, Hands, InnerLeft, Last, OuterLeft, Reader, Stands, StandsAt, all_handed, all_taken, among_of, are_open, at, conditionals, end_is_no_hash, end_kept_so, end_word, ended_told, hands_on, hash_freed, inner_not_kept, inner_of, kept_at, last_at, led, not_kept, outer, plain_kept, sign_inner, stack_of, stands_at, state, told_both, told_places, with_sign}
 use Rattle.inf_laws.proofs.MissingEnds.{told_at as told_each}
-use Rattle.inf_laws.proofs.Unfinished.{AllBegun, all_begun_led, cut_kept, given_up_at, sign_cut, sign_cut_so, unfit_end}
+use Rattle.inf_laws.proofs.Unfinished.{AllBegun, EndCuts, all_begun_led, cut_kept, front_end_kept, given_up_at, sign_cut, sign_cut_so, unfit_end}
 use Rattle.inf_laws.proofs.SideTurns.{all_shown, rested_conditions}
 
 -- Steps one after the other
@@ -230,9 +229,9 @@ ends_kept last c e = record {
 }
 
 -- in the midst of a directive
-ends_cut : (d : Answers) (outer : List Unfinished) (u : Unfinished) (s : Around) (last : Last) (toks : List At) (alone : List Place) (c : Conditions) → AllBegun d outer u s last toks alone c
+ends_unfit : (d : Answers) (outer : List Unfinished) (u : Unfinished) (s : Around) (last : Last) (toks : List At) (alone : List Place) (c : Conditions) → EndCuts u → AllBegun d outer u s last toks alone c
     → EndsAs None handed.Unfit last.around last.waiting (all_behind toks c)
-ends_cut d outer u s last toks alone c b =
+ends_unfit d outer u s last toks alone c so b =
     let e = b.led.ends in
     record {
       base = given_up_at e.base;
@@ -243,7 +242,28 @@ ends_cut d outer u s last toks alone c b =
       stack = e.stack;
       inner = ap (λ (x : Conditions). x.inner) e.is;
       among = ap (λ (x : Conditions). x.among) e.is;
-      at_end = λ end is_last. unfit_end d s outer u last toks alone c b end is_last;
+      at_end = λ end is_last. unfit_end d s outer u last toks alone c b end so is_last;
+    }
+
+ends_cut : (d : Answers) (outer : List Unfinished) (u : Unfinished) (s : Around) (last : Last) (toks : List At) (alone : List Place) (c : Conditions) → AllBegun d outer u s last toks alone c
+    → EndsAs (begun_sign u) (begun_handed u) last.around last.waiting (all_behind toks c)
+ends_cut d outer (Unnamed is_inner if_declared first before) s last toks alone c b = ends_unfit d outer (Unnamed is_inner if_declared first before) s last toks alone c tt b
+ends_cut d outer (Named is_inner if_declared first before name behind) s last toks alone c b = ends_unfit d outer (Named is_inner if_declared first before name behind) s last toks alone c tt b
+ends_cut d outer (HasAsked is_inner wanted first parts) s last toks alone c b = ends_unfit d outer (HasAsked is_inner wanted first parts) s last toks alone c tt b
+ends_cut d outer (Turns is_inner first parts) s last toks alone c b = ends_unfit d outer (Turns is_inner first parts) s last toks alone c tt b
+ends_cut d outer (Closes is_inner first parts) s last toks alone c b = ends_unfit d outer (Closes is_inner first parts) s last toks alone c tt b
+ends_cut d outer (Fronting sign parts) s last toks alone c b =
+    let e = b.led.ends in
+    record {
+      base = record e.base { pending = [] };
+      stand = e.stand;
+      declared = last.declared;
+      none_read = refl;
+      waits = e.waits;
+      stack = e.stack;
+      inner = ap (λ (x : Conditions). x.inner) e.is;
+      among = ap (λ (x : Conditions). x.among) e.is;
+      at_end = λ end is_last. front_end_kept d s outer sign parts last toks alone c b end is_last;
     }
 
 none_ended : (e : Option ℕ) → ended_places e [] ≡ []
@@ -433,36 +453,22 @@ end_frees place end c ps inner among declared read is_last =
     ∙ ap (signed c.pending) (end_kept_so false end.site.is_quiet end.out end.token here is_last refl)
     ∙ ap (λ ps. signed ps (kept here)) read
 
--- also at the front of a directive
-front_end : (place : Place) (end : At) (c : Conditions) (inner among : List Conditional) (declared : ℕ) → is_end end.token.kind ≡ true
-    → judged_at end (reading false place awaits.Word c inner among declared)
-    ≡ record {
-      now = at c inner among None declared;
-      judged = record none_handed { sign = Some (record { place = place; handed = handed.Kept }); token = Some handed.Kept };
-    }
-front_end place end c inner among declared is_last =
-    let here = at c inner among None declared in
-    let p = directive false place awaits.Word in
-    ap (λ (b : Bool). cond b (passed (held (end.site.is_between && false) end.token.place (reading false place awaits.Word c inner among declared)))
-    (behind_front (word_of end.token) end.token p here)) (end_is_no_hash end.token.kind is_last)
-    ∙ ap (λ o. behind_front o end.token p here) (end_word end.token is_last)
-
 record HashEnds (s : Around) (w : List (List Conditional)) (o : Sign) (sign : At) (c : Conditions) : Type 0 where
   then : Conditions
   held : HeldBack sign c then
   ends : EndsAs (Some o) handed.Kept s w then
 
-hash_last : (is_inner : Bool) (s : Around) (w : List (List Conditional)) (sign : At) (c : Conditions) → StaysAt s w c → Begins true is_inner false (Some sign) sign → NoneInside is_inner s
+hash_last : (s : Around) (w : List (List Conditional)) (sign : At) (c : Conditions) → StaysAt s w c → sign.site.is_between ≡ false → IsSign true sign
     → HashEnds s w (sign_as handed.Kept sign) sign c
-hash_last true s w sign c st begins none =
+hash_last s w sign c st outside is =
     let inner = conditionals s.inside in
     let among = conditionals s.between in
     let place = sign.token.place in
     let now = state st.base (Some place) inner among None st.declared in
-    let e = ap (judged_at sign) st.is ∙ sign_inner sign st.base inner among st.declared (ap (λ b. b && is_none_pending st.base.pending) (begins.0 refl)) begins.1.is in
+    let e = ap (judged_at sign) st.is ∙ sign_inner sign st.base inner among st.declared (ap (λ b. b && is_none_pending st.base.pending) outside) is.is in
     record {
       then = now;
-      held = held_back sign c now now e (ap (λ e. ended_behind e now) begins.1.goes_on, ap (λ e. ended_places e inner) begins.1.goes_on);
+      held = held_back sign c now now e (ap (λ e. ended_behind e now) is.goes_on, ap (λ e. ended_places e inner) is.goes_on);
       ends = record {
         base = given_up_at st.base;
         stand = AllStay s.inside s.between st.inside_kept st.between_kept;
@@ -475,35 +481,21 @@ hash_last true s w sign c st begins none =
         at_end = λ end is_last. end_frees place end st.base [] inner among st.declared st.none_read is_last;
       };
     }
-hash_last false s w sign c st begins none =
-    let inner = conditionals s.inside in
-    let among = conditionals s.between in
-    let place = sign.token.place in
-    let now : ℕ → Conditions = reading false place awaits.Word st.base inner among in
-    let later = declared_behind sign st.declared in
-    let e = ap (judged_at sign) st.is ∙ sign_kept sign st.base inner among st.declared (outer_front sign st.base st.none_read begins.0) begins.1.is in
-    record {
-      then = now later;
-      held = held_back sign c (now st.declared) (now later) e (mid false sign (awaits_it false place awaits.Word st.base) None inner among None st.declared tt (λ _. (ap conditionals none, refl)));
-      ends = record {
-        base = st.base;
-        stand = AllStay s.inside s.between st.inside_kept st.between_kept;
-        declared = later;
-        none_read = st.none_read;
-        waits = st.waits;
-        stack = refl;
-        inner = refl;
-        among = refl;
-        at_end = λ end is_last. front_end place end st.base inner among later is_last;
-      };
-    }
 
 -- All files
 
+begun_is_handed : (u : Unfinished) (end : At) → handed_as (begun_handed u) end.token ≡ record { handed = begun_handed u; token = end.token } ∷ []
+begun_is_handed (Unnamed is_inner if_declared first before) end = refl
+begun_is_handed (Named is_inner if_declared first before name behind) end = refl
+begun_is_handed (HasAsked is_inner wanted first parts) end = refl
+begun_is_handed (Turns is_inner first parts) end = refl
+begun_is_handed (Closes is_inner first parts) end = refl
+begun_is_handed (Fronting sign parts) end = refl
+
 end_is_handed : (f : Files) (end : At) → handed_as (end_handed f) end.token ≡ record { handed = end_handed f; token = end.token } ∷ []
 end_is_handed (Alone parts) end = refl
-end_is_handed (Cut parts outer u) end = refl
-end_is_handed (HashLast parts is_inner sign) end = refl
+end_is_handed (Cut parts outer u) end = begun_is_handed u end
+end_is_handed (HashLast parts sign) end = refl
 end_is_handed (HashThen parts sign more) end = end_is_handed more end
 end_is_handed (CutHashLast parts outer u sign) end = refl
 end_is_handed (CutHashThen parts outer u sign more) end = end_is_handed more end
@@ -580,12 +572,12 @@ files_led : (d : Answers) (f : Files) (s : Around) (w : List (List Conditional))
 files_led d (Alone parts) s w c b are =
     let first = stretch d s w c parts b are in
     record { led = first.led; ends = subst (λ (x : Conditions). EndsAs None handed.Kept (behind_parts d s parts) w x) (sym (behind_staying (all_tokens parts) c)) (ends_kept (stretch_last d s w c parts) (all_behind (all_tokens parts) c) first.stands) }
-files_led d (HashLast parts is_inner sign) s w c b are =
+files_led d (HashLast parts sign) s w c b are =
     let first = stretch d s w c parts b are.0 in
     let tokens = all_tokens parts in
     let here = behind_parts d s parts in
     let c_here = all_behind tokens c in
-    let h = hash_last is_inner here w sign c_here (stays_at (stretch_last d s w c parts) c_here first.stands are.1.0) are.1.1.0 are.1.1.1 in
+    let h = hash_last here w sign c_here (stays_at (stretch_last d s w c parts) c_here first.stands are.1.0) are.1.1.0 are.1.1.1 in
     let to_here = behind_staying tokens c in
     let given = map as_kept (kept_sides d s parts) in
     let told = told_parts d s parts in
@@ -744,9 +736,9 @@ files_led d (Cut parts outer u) s w c b are =
     let ends = ends_cut d outer u (behind_parts d s parts) last toks alone here broken.begun in
     record {
       led = record { hands = both.hands ∙ append-nil given; tells = both.tells };
-      ends = subst (λ (x : Conditions). EndsAs None handed.Unfit (behind_all_begun d (behind_parts d s parts) outer u) w x)
+      ends = subst (λ (x : Conditions). EndsAs (begun_sign u) (begun_handed u) (behind_all_begun d (behind_parts d s parts) outer u) w x)
           (sym (behind_both (map staying (all_tokens parts)) (map staying toks) c ∙ ap (steps_behind (map staying toks)) to_here ∙ behind_staying toks here))
-          (subst (λ (x : Around). EndsAs None handed.Unfit x w (all_behind toks here)) broken.around (subst (λ ws. EndsAs None handed.Unfit last.around ws (all_behind toks here)) broken.waiting ends));
+          (subst (λ (x : Around). EndsAs (begun_sign u) (begun_handed u) x w (all_behind toks here)) broken.around (subst (λ ws. EndsAs (begun_sign u) (begun_handed u) last.around ws (all_behind toks here)) broken.waiting ends));
     }
 files_led d (Breaking parts outer u misfit more) s w c b are =
     let first = stretch d s w c parts b are.0 in

@@ -35,7 +35,7 @@ use Rattle.inf_conditionals.specs.Judging.{Behind, at_front, asking as asking_on
 use Rattle.inf_conditionals.specs.Open.{Conditions, ended_by, is_second, latest_among, levels_behind, most_levels, silent, turned_first}
 use Rattle.inf_conditionals.specs.Words.{word_of}
 use Rattle.inf_reader.specs.Handing.{hash}
-use Rattle.inf_laws.specs.KeptSides.{AddsNone, Answers, AreParts, AreTaken, Around, Asking, At, Before, Begins, Closing, First, Follows, GoesOn, Handing, IsAsked, IsCondition, IsFirst, IsName, IsPart, IsPlain, IsSemicolon, IsSign, IsSignedPlain, NoneInside, NoneInsideBehind, NoParts, OneSideIsKept, Open, Opening, Part, Parts, Passed, Plain, Signed, StayAs, Then, Turning, acted, acting, all_behind, all_handed_on, all_kept, all_told, all_tokens, among, are_kept, as_kept, asking, asking_parts, before_parts, begins, begins_at, behind_name, behind_part, behind_parts, closed, condition_behind, declared_behind, declared_first, declared_sign, declared_tokens, ended_behind, ended_in, ended_places, first_side, first_sign, first_tokens, going_on, handed_on, judged_at, kept_of, kept_sides, lone_at, lone_places, missing_in, none_around, opened_more, opening, opening_parts, other_side, part_tokens, passed_by as word_passed, placed_word, places, seconds, signed_tokens, told_of, told_parts, turned, unended, whole_condition}
+use Rattle.inf_laws.specs.KeptSides.{AddsNone, Answers, AreParts, AreTaken, Around, Asking, At, Before, Begins, Closing, First, Follows, Fronted, GoesOn, Handing, IsAsked, IsCondition, IsFirst, IsName, IsPart, IsPlain, IsSemicolon, IsSign, IsSignedPlain, NoneInside, NoneInsideBehind, NoParts, OneSideIsKept, Open, Opening, Part, Parts, Passed, Plain, Signed, StayAs, Then, Turning, acted, acting, all_behind, all_handed_on, all_kept, all_told, all_tokens, among, are_kept, as_kept, asking, asking_parts, before_parts, begins, begins_at, behind_name, behind_part, behind_parts, closed, condition_behind, declared_behind, declared_first, declared_sign, declared_tokens, ended_behind, ended_in, ended_places, first_side, first_sign, first_tokens, going_on, handed_on, judged_at, kept_of, kept_sides, lone_at, lone_places, missing_in, none_around, opened_more, opening, opening_parts, other_side, part_tokens, passed_by as word_passed, placed_word, places, seconds, signed_tokens, told_of, told_parts, turned, unended, whole_condition}
 use Rattle.inf_laws.specs.LoneEnds.{is_lone}
 use Rattle.inf_laws.specs.MissingEnds.{with_all_at}
 use Rattle.inf_laws.specs.Sides.{ends_side, level_behind}
@@ -1021,14 +1021,14 @@ Leads d parts = (r : Reader) (s : Around) (declared n : ℕ) (w : List (List Con
     → Led r (all_tokens parts) c (kept_sides d s parts) (told_parts d s parts) (last_behind d parts s declared n w)
 
 -- of one that is kept
-pub within_led : (d : Answers) (parts : Parts) → Leads d parts → (r : Reader) (rest : List At) (is_inner : Bool) (place : Place) (a : Awaits) (c : Conditions) (ks after : List Condition) (s : Around) (declared n : ℕ) (w : List (List Conditional)) (start : Conditions) (places : List Place) (last : Last)
+within_led_so : (tokens : List Spelled) → (d : Answers) (parts : Parts) → Leads d parts → (r : Reader) (rest : List At) (is_inner : Bool) (place : Place) (a : Awaits) (c : Conditions) (ks after : List Condition) (s : Around) (declared n : ℕ) (w : List (List Conditional)) (start : Conditions) (places : List Place) (last : Last)
     → let p = directive is_inner place a in let l = last_behind d parts s declared n w in
     StandsAt (Reads p c.pending ks) (last_at s declared n w) start → all_kept s ≡ true → AreParts d true s declared parts → StayAs d s parts → TakesAll (Reads p c.pending ks) (kept_sides d s parts)
     → read_on (kept_sides d s parts) (Reads p c.pending ks) ≡ Reads p c.pending after → n + length (all_tokens parts) ≤ most_levels
     → ((base : Conditions) → base.waiting ≡ w → are_kept l.around.inside ≡ true → are_kept l.around.between ≡ true
-    → Led r rest (reading is_inner place a (record base { pending = c.pending; conditions = after }) (conditionals l.around.inside) (conditionals l.around.between) l.declared) [] places last)
-    → Led r (all_tokens parts ++ rest) start [] (told_parts d s parts ++ places) last
-within_led d parts leads r rest is_inner place a c ks after s declared n w start places last e all are stay taken_so read few further =
+    → Led r rest (reading is_inner place a (record base { pending = c.pending; conditions = after }) (conditionals l.around.inside) (conditionals l.around.between) l.declared) tokens places last)
+    → Led r (all_tokens parts ++ rest) start tokens (told_parts d s parts ++ places) last
+within_led_so tokens d parts leads r rest is_inner place a c ks after s declared n w start places last e all are stay taken_so read few further =
     let p = directive is_inner place a in
     let l = last_behind d parts s declared n w in
     let first = leads (Reads p c.pending ks) s declared n w start e are taken_so few in
@@ -1036,15 +1036,24 @@ within_led d parts leads r rest is_inner place a c ks after s declared n w start
     let stands : StandsAt (Reads p c.pending after) l there = subst (λ (q : Reader). StandsAt q l there) read first.ends in
     let k = kept_at p c.pending after l there stands (stay ∙ all) in
     let more = further k.base k.waits k.inside_kept k.between_kept in
-    let second : Led r rest there [] places last = subst (λ (x : Conditions). Led r rest x [] places last) (sym k.is) more in
+    let second : Led r rest there tokens places last = subst (λ (x : Conditions). Led r rest x tokens places last) (sym k.is) more in
     record {
       hands =
           hands_both (all_tokens parts) rest start
           ∙ ap (λ hs. hs ++ all_handed_on rest there) (first.hands ∙ nothing_handed (kept_sides d s parts) p c.pending ks)
           ∙ second.hands;
       tells = tells_both (all_tokens parts) rest start ∙ ap (λ ps. ps ++ all_told rest there) first.tells ∙ ap (λ ps. told_parts d s parts ++ ps) second.tells;
-      ends = subst (λ (x : Conditions). StandsAt r last x) (sym (behind_both (all_tokens parts) rest start)) second.ends;
+      ends = subst (λ (x : Conditions). StandsAt (read_on tokens r) last x) (sym (behind_both (all_tokens parts) rest start)) second.ends;
     }
+
+pub within_led : (d : Answers) (parts : Parts) → Leads d parts → (r : Reader) (rest : List At) (is_inner : Bool) (place : Place) (a : Awaits) (c : Conditions) (ks after : List Condition) (s : Around) (declared n : ℕ) (w : List (List Conditional)) (start : Conditions) (places : List Place) (last : Last)
+    → let p = directive is_inner place a in let l = last_behind d parts s declared n w in
+    StandsAt (Reads p c.pending ks) (last_at s declared n w) start → all_kept s ≡ true → AreParts d true s declared parts → StayAs d s parts → TakesAll (Reads p c.pending ks) (kept_sides d s parts)
+    → read_on (kept_sides d s parts) (Reads p c.pending ks) ≡ Reads p c.pending after → n + length (all_tokens parts) ≤ most_levels
+    → ((base : Conditions) → base.waiting ≡ w → are_kept l.around.inside ≡ true → are_kept l.around.between ≡ true
+    → Led r rest (reading is_inner place a (record base { pending = c.pending; conditions = after }) (conditionals l.around.inside) (conditionals l.around.between) l.declared) [] places last)
+    → Led r (all_tokens parts ++ rest) start [] (told_parts d s parts ++ places) last
+within_led = within_led_so []
 
 -- of which nothing is kept
 pub takes_none : (tokens : List Spelled) (r : Reader) → tokens ≡ [] → TakesAll r tokens
@@ -1673,6 +1682,7 @@ begins_with : (part : Part) (next : At) → first_sign part ≡ Some next → (r
 begins_with (Plain t) next e = cc
 begins_with (Signed is_inner sign t) next e = signed_begins (Some sign) next (t ∷ []) e
 begins_with (Before is_inner sign part) next e = signed_begins (Some sign) next (part_tokens part) e
+begins_with (Fronted sign parts t) next e = signed_begins (Some sign) next (all_tokens parts ++ t ∷ []) e
 begins_with (Opening is_inner if_declared first before name behind end) next e =
     signed_begins first.sign next (first.word ∷ (all_tokens before ++ name ∷ (all_tokens behind ++ end ∷ []))) e
 begins_with (Asking is_inner wanted first parts end) next e = signed_begins first.sign next (first.word ∷ (all_tokens parts ++ end ∷ [])) e
@@ -1782,6 +1792,48 @@ before_leads d is_inner sign part leads r (OuterLeft deep x between left sb) dec
     before_left_led d is_inner sign part leads r (OuterLeft deep x between left sb) false (length deep) declared n v c refl few_st gone (λ _. (refl, refl)) holds waits few_st is
     (subst (λ k. Follows k is_inner (first_sign part)) gone are.1.1.1.0) are.1.1.1.1
     (subst (λ k. TakesAll r (cond k (hash sign.token.place ∷ []) [] ++ kept_of part (record { inside = []; between = deep ++ x ∷ between }))) gone takes) few
+
+-- A `#` that begins a directive
+
+fronted_leads : (d : Answers) (sign : At) (parts : Parts) (t : At) → Leads d parts → StandLeads d (Fronted sign parts t)
+fronted_leads d sign parts t leads (Reads p others ks) st declared n v c holds waits few_st are takes few = absurd are.1.0
+fronted_leads d sign parts t leads Hands (AllStay (y ∷ inside) between si sb) declared n v c holds waits few_st are takes few = absurd (some_open [] y inside are.1.1.0)
+fronted_leads d sign parts t leads Hands (InnerLeft deep x inside between left si sb) declared n v c holds waits few_st are takes few = absurd (some_open deep x inside are.1.1.0)
+fronted_leads d sign parts t leads Hands (OuterLeft deep x between left sb) declared n v c holds waits few_st are takes few =
+    absurd (let never : true ≡ false = sym are.0 ∙ not_kept deep x between left in cc)
+fronted_leads d sign parts t leads Hands (AllStay [] between si sb) declared n v c holds waits few_st are takes few =
+    let s : Around = record { inside = []; between = between } in
+    let among = conditionals between in
+    let here = at c [] among None declared in
+    let place = sign.token.place in
+    let now = declared_behind sign declared in
+    let both = hash place ∷ t.token ∷ [] in
+    let ks = c.conditions in
+    let p = directive false place awaits.Word in
+    let adds = are.1.1.1.0.1 in
+    let tokens = kept_sides d s parts in
+    let l = last_behind d parts s now n v in
+    let m = n + length (sign ∷ (all_tokens parts ++ t ∷ [])) in
+    let last = last_at (ended_in t.ended l.around) (declared_behind t l.declared) m v in
+    let missing = missing_in t.ended l.around in
+    let sum = length_both (all_tokens parts) (t ∷ []) in
+    let start = reading false place awaits.Word c [] among now in
+    relaxed Hands (sign ∷ (all_tokens parts ++ t ∷ [])) here both (told_parts d s parts ++ missing) last.around last.declared (declared_tokens (sign ∷ (all_tokens parts ++ t ∷ [])) declared) m m v
+    (sym (declared_both (all_tokens parts) (t ∷ []) now)) (omega arith)
+    (goes_by Hands sign (all_tokens parts ++ t ∷ []) here (reading false place awaits.Word c [] among declared) start both (told_parts d s parts ++ missing) last
+    (sign_kept sign c [] among declared (outer_front sign c holds are.1.0.0) are.1.0.1.is)
+    (mid false sign (awaits_it false place awaits.Word c) None [] among None declared tt (λ _. (refl, refl)))
+    (within_led_so both d parts leads Hands (t ∷ []) false place awaits.Word c ks ks s now n v start missing last
+    (record { base = awaits_it false place awaits.Word c; stand = AllStay [] between si sb; holds = (refl, refl); waits = waits; is = refl; stack = refl; few = omega arith })
+    are.0 are.1.1.1.0.0 adds.0 (takes_none tokens (Reads p c.pending ks) adds.1) (reads_none tokens (Reads p c.pending ks) adds.1) (omega (arith, few, sum))
+    (λ base waits_so bi bb.
+    let after = record base { pending = c.pending; conditions = ks } in
+    let i = conditionals l.around.inside in
+    let b = conditionals l.around.between in
+    keeps_both t place (reading false place awaits.Word after i b l.declared) (at after i b None l.declared) missing last
+    (front_kept place t after i b l.declared are.1.1.1.1)
+    (ended_stands Hands t.ended (AllStay l.around.inside l.around.between bi bb) l.declared m v after holds waits_so (omega arith))
+    (ended_told t.ended (AllStay l.around.inside l.around.between bi bb) l.declared after))))
 
 -- Directives
 
@@ -2269,6 +2321,7 @@ mutual
   part_led d (Plain t) = part_from d (Plain t) (plain_leads d t)
   part_led d (Signed is_inner sign t) = part_from d (Signed is_inner sign t) (signed_leads d is_inner sign t)
   part_led d (Before is_inner sign part) = part_from d (Before is_inner sign part) (before_leads d is_inner sign part (part_led d part))
+  part_led d (Fronted sign parts t) = part_from d (Fronted sign parts t) (fronted_leads d sign parts t (led d parts))
   part_led d (Opening is_inner if_declared first before name behind end) =
       part_from d (Opening is_inner if_declared first before name behind end) (opening_leads d is_inner if_declared first before name behind end (led d before) (led d behind))
   part_led d (Asking is_inner wanted first parts end) = part_from d (Asking is_inner wanted first parts end) (asking_leads d is_inner wanted first parts end (led d parts))

@@ -21,15 +21,15 @@ use Rattle.inf_conditionals.specs.declared.pending.Effect.TheVariants as effect
 use Rattle.inf_conditionals.specs.declared.pending.Pending.{Pending}
 use Rattle.inf_conditionals.specs.declared.words.ConditionalWord.{ConditionalWord}
 use Rattle.inf_conditionals.specs.declared.words.ConditionalWord.TheVariants as word
-use Rattle.inf_conditionals.specs.Judging.{Behind, behind_sign, begun, is_none_pending, effected, is_kept, kept, held, named, none_handed, awaiting, offered, passed, passed_by, unfit, went_on}
+use Rattle.inf_conditionals.specs.Judging.{Behind, behind_front, behind_sign, begun, is_none_pending, effected, is_kept, kept, held, named, none_handed, awaiting, offered, passed, passed_by, unfit, went_on}
 use Rattle.inf_conditionals.specs.Open.{Conditions, most_levels}
 use Rattle.inf_conditionals.specs.Words.{word_of}
 use Rattle.inf_conditionals.specs.declared.open.LeftOut.{LeftOut}
 use Rattle.inf_conditionals.proofs.Misfits.{end_fits_nothing}
 use Rattle.inf_laws.specs.KeptSides.{Answers, AreParts, Around, At, First, IsFirst, IsSignedPlain, NoneInside, Parts, all_behind, all_handed_on, all_kept, all_tokens, all_told, are_kept, asking, begins, behind_name, behind_parts, closed, declared_behind, declared_first, declared_tokens, ended_behind, first_tokens, judged_at, kept_sides, missing_in, opening, placed_word, told_parts, turned}
-use Rattle.inf_laws.specs.Unfinished.{Asked, AreBegun, AreCutBy, Closes, GoOn, IsBegun, IsCutBy, Named, Turns, Unfinished, Unnamed, all_begun_tokens, behind_all_begun, behind_begun, begun_tokens, condition_so, told_all_begun, told_begun}
+use Rattle.inf_laws.specs.Unfinished.{Asked, AreBegun, AreCutBy, Closes, Fronting, GoOn, IsBegun, IsCutBy, Named, Turns, Unfinished, Unnamed, all_begun_tokens, behind_all_begun, behind_begun, begun_tokens, condition_so, told_all_begun, told_begun}
 use Rattle.inf_laws.proofs.AskingWords.{asking_fits}
-use Rattle.inf_laws.proofs.KeptSides.{AllStay, Holds, InnerLeft, Last, Led, LeftLed, OuterLeft, Reader, Reads, Stands, StandsAt, TakesAll, among_of, at, awaits_it, begins_kept, begun_asking, begun_opening, behind_both, calm_open, closes_left, conditionals, declared_behind_first, declared_both, directive, end_is_no_hash, ended_stands, ended_told, fewer, hands_both, inner_not_kept, inner_of, last_at, last_behind, led, left_of, length_both, name_kept, not_kept, nothing_handed, passes, read_condition, read_on, reading, reads_none, relaxed, sign_inner, stack_of, stands_at, state, takes_none, tells_both, turns_left, with_condition, within, within_led}
+use Rattle.inf_laws.proofs.KeptSides.{AllStay, Hands, Holds, InnerLeft, Last, Led, LeftLed, OuterLeft, Reader, Reads, Stands, StandsAt, TakesAll, among_of, at, awaits_it, begins_kept, begun_asking, begun_opening, behind_both, calm_open, closes_left, conditionals, declared_behind_first, declared_both, directive, end_is_no_hash, end_word, ended_stands, ended_told, fewer, goes_by, hands_both, inner_not_kept, inner_of, last_at, last_behind, led, left_of, length_both, mid, name_kept, not_kept, nothing_handed, outer_front, passes, read_condition, read_on, reading, reads_none, relaxed, sign_inner, sign_kept, stack_of, stands_at, state, takes_none, tells_both, turns_left, with_condition, within, within_led}
 
 -- what the innermost one waits for
 abbrev IsAwaited : Unfinished → Awaits → Type 0
@@ -38,6 +38,12 @@ IsAwaited (Named is_inner if_declared first before name behind) a = (e : Effect)
 IsAwaited (Asked is_inner wanted first parts) a = a ≡ awaits.Condition wanted
 IsAwaited (Turns is_inner first parts) a = (e : Effect) × (a ≡ awaits.End e)
 IsAwaited (Closes is_inner first parts) a = (e : Effect) × (a ≡ awaits.End e)
+IsAwaited (Fronting sign parts) a = a ≡ awaits.Word
+
+-- no other one stands around that with which it begins
+abbrev pub IsAlone : Unfinished → Pending → List Pending → Type 0
+IsAlone (Fronting sign parts) p others = (p ≡ directive false sign.token.place awaits.Word) × (others ≡ [])
+IsAlone u p others = Unit {0}
 
 -- and its condition
 abbrev HasCondition : Answers → Around → Unfinished → List Condition → Type 0
@@ -54,6 +60,7 @@ record Begun (d : Answers) (u : Unfinished) (s : Around) (last : Last) (toks : L
   led : Led (Reads p others ks) toks c [] places last
   waits_for : IsAwaited u p.awaits
   condition : HasCondition d s u ks
+  alone : IsAlone u p others
 
 -- where all is kept
 record KeptSo (r : Reader) (last : Last) (c : Conditions) : Type 0 where
@@ -218,6 +225,7 @@ begun_led d (Unnamed is_inner if_declared first before) r s declared n v c e are
           (takes_none tokens (Reads p k.base.pending k.base.conditions) none_kept) (reads_none tokens (Reads p k.base.pending k.base.conditions) none_kept) few;
       waits_for = refl;
       condition = tt;
+      alone = tt;
     }
 begun_led d (Named is_inner if_declared first before name behind) r s declared n v c e are few =
     let all = are.1.1.0 in
@@ -275,6 +283,7 @@ begun_led d (Named is_inner if_declared first before name behind) r s declared n
           (λ m. begun_opening is_inner if_declared first.word.token place (at base inner among None m)) (calm_open is_inner s.inside s.between are.1.0) rest));
       waits_for = (effect.Opens is_so, refl);
       condition = tt;
+      alone = tt;
     }
 begun_led d (Asked is_inner wanted first parts) r s declared n v c e are few =
     let all = are.1.1.0 in
@@ -294,13 +303,48 @@ begun_led d (Asked is_inner wanted first parts) r s declared n v c e are few =
           (read_so tokens begun_so is_inner wanted (begins first) k.base.pending ks so_far) (read_condition tokens p k.base.pending begun_so ks) few;
       waits_for = refl;
       condition = (ks, refl);
+      alone = tt;
     }
 begun_led d (Turns is_inner first parts) r s declared n v c e are few =
     let is = ending_begun word.Ifnot turned effect.Turns (λ t place inner y. refl) turns_left d parts r is_inner first s declared n v c e (all_kept s) refl are.0 are.1.0 are.1.1.0 are.1.1.1.0 are.1.1.1.1 few in
-    record { p = is.p; others = is.others; ks = is.ks; led = is.led; waits_for = is.waits_for; condition = tt }
+    record { p = is.p; others = is.others; ks = is.ks; led = is.led; waits_for = is.waits_for; condition = tt; alone = tt }
 begun_led d (Closes is_inner first parts) r s declared n v c e are few =
     let is = ending_begun word.Endif closed effect.Closes (λ t place inner y. refl) closes_left d parts r is_inner first s declared n v c e (all_kept s) refl are.0 are.1.0 are.1.1.0 are.1.1.1.0 are.1.1.1.1 few in
-    record { p = is.p; others = is.others; ks = is.ks; led = is.led; waits_for = is.waits_for; condition = tt }
+    record { p = is.p; others = is.others; ks = is.ks; led = is.led; waits_for = is.waits_for; condition = tt; alone = tt }
+
+begun_led d (Fronting sign parts) (Reads p others ks) s declared n v c e are few = absurd are.0
+begun_led d (Fronting sign parts) Hands s declared n v c e are few =
+    let k = kept_so Hands (last_at s declared n v) c e are.1.1.0 in
+    let base = k.base in
+    let inner = conditionals s.inside in
+    let among = conditionals s.between in
+    let place = sign.token.place in
+    let now = declared_behind sign declared in
+    let p = directive false place awaits.Word in
+    let q = Reads p base.pending base.conditions in
+    let tokens = kept_sides d s parts in
+    let none_kept = are.1.1.1.1 in
+    let toks = sign ∷ all_tokens parts in
+    let l = last_behind d parts s now n v in
+    let here = at base inner among None declared in
+    let start = reading false place awaits.Word base inner among now in
+    let places = told_parts d s parts in
+    record {
+      p = p;
+      others = base.pending;
+      ks = base.conditions;
+      led = subst (λ (x : Conditions). Led q toks x [] places (last_at l.around (declared_tokens toks declared) (n + length toks) v)) (sym k.is)
+          (relaxed q toks here [] places l.around l.declared (declared_tokens toks declared) l.levels (n + length toks) v refl (omega arith)
+          (goes_by q sign (all_tokens parts) here (reading false place awaits.Word base inner among declared) start [] places l
+          (sign_kept sign base inner among declared (outer_front sign base k.holds are.0.0) are.0.1.is)
+          (mid false sign (awaits_it false place awaits.Word base) None inner among None declared tt (λ _. (ap conditionals are.1.0, refl)))
+          (parts_read d parts p base.pending base.conditions base.conditions s now n v start
+          (record { base = awaits_it false place awaits.Word base; stand = AllStay s.inside s.between k.inside_kept k.between_kept; holds = (refl, refl); waits = k.waits; is = refl; stack = refl; few = omega arith })
+          are.1.1.1.0 (takes_none tokens q none_kept) (reads_none tokens q none_kept) (omega (arith, few)))));
+      waits_for = refl;
+      condition = tt;
+      alone = (refl, k.holds);
+    }
 
 -- One in the other
 
@@ -318,12 +362,13 @@ pub record AllBegun (d : Answers) (outer : List Unfinished) (u : Unfinished) (s 
   pub led : Led (Reads p others ks) toks c [] places last
   pub waits_for : IsAwaited u p.awaits
   pub condition : HasAllCondition d s outer u ks
+  pub alone : IsAlone u p others
 
 pub all_begun_led : (d : Answers) (outer : List Unfinished) (u : Unfinished) (r : Reader) (s : Around) (declared n : ℕ) (v : List (List Conditional)) (c : Conditions) → StandsAt r (last_at s declared n v) c → AreBegun d (within r) s declared outer u
     → n + length (all_begun_tokens outer u) ≤ most_levels → AllBegun d outer u s (all_begun_last d outer u s declared n v) (all_begun_tokens outer u) (told_all_begun d s outer u) c
 all_begun_led d [] u r s declared n v c e are few =
     let is = begun_led d u r s declared n v c e are few in
-    record { p = is.p; others = is.others; ks = is.ks; led = is.led; waits_for = is.waits_for; condition = is.condition }
+    record { p = is.p; others = is.others; ks = is.ks; led = is.led; waits_for = is.waits_for; condition = is.condition; alone = is.alone }
 all_begun_led d (x ∷ outer) u r s declared n v c e are few =
     let toks = begun_tokens x in
     let more = all_begun_tokens outer u in
@@ -347,6 +392,7 @@ all_begun_led d (x ∷ outer) u r s declared n v c e are few =
       led = relaxed q (toks ++ more) c [] places l2.around l2.declared (declared_tokens (toks ++ more) declared) l2.levels (n + length (toks ++ more)) v (sym (declared_both toks more declared)) (omega (arith, sum)) both;
       waits_for = rest.waits_for;
       condition = rest.condition;
+      alone = rest.alone;
     }
 
 -- What cuts them
@@ -417,6 +463,7 @@ cut_one d s (Turns is_inner first parts) p others ks base inner among declared f
     subst (λ (a : Awaits). IsUnfit (directive p.is_inner p.place a) others ks base inner among declared front t) (sym waits.1) (cut_end waits.0 p.is_inner p.place others ks base inner among declared front t no_hash cut)
 cut_one d s (Closes is_inner first parts) p others ks base inner among declared front t waits condition no_hash cut =
     subst (λ (a : Awaits). IsUnfit (directive p.is_inner p.place a) others ks base inner among declared front t) (sym waits.1) (cut_end waits.0 p.is_inner p.place others ks base inner among declared front t no_hash cut)
+cut_one d s (Fronting sign parts) p others ks base inner among declared front t waits condition no_hash cut = absurd cut
 
 cut_by : (d : Answers) (s : Around) (outer : List Unfinished) (u : Unfinished) (p : Pending) (others : List Pending) (ks : List Condition) (base : Conditions) (inner among : List Conditional) (declared : ℕ) (front : Bool) (t : At)
     → IsAwaited u p.awaits → HasAllCondition d s outer u ks → is_mark mark.Hash t.token.kind ≡ false → AreCutBy d s outer u t → IsUnfit p others ks base inner among declared front t
@@ -454,23 +501,28 @@ is_the_end (kind.Word x) e = cc
 is_the_end (kind.Mark x) e = cc
 is_the_end (kind.Bad x) e = cc
 
-end_cuts_one : (d : Answers) (s : Around) (u : Unfinished) (t : At) → is_end t.token.kind ≡ true → IsCutBy d s u t
-end_cuts_one d s (Unnamed is_inner if_declared first before) t is = λ name. let never : true ≡ false = sym is ∙ ap is_end name in cc
-end_cuts_one d s (Named is_inner if_declared first before name behind) t is = ap (is_mark mark.Semicolon) (is_the_end t.token.kind is)
-end_cuts_one d s (Asked is_inner wanted first parts) t is =
+abbrev pub EndCuts : Unfinished → Type 0
+EndCuts (Fronting sign parts) = ⊥
+EndCuts u = Unit {0}
+
+end_cuts_one : (d : Answers) (s : Around) (u : Unfinished) (t : At) → EndCuts u → is_end t.token.kind ≡ true → IsCutBy d s u t
+end_cuts_one d s (Fronting sign parts) t so is = so
+end_cuts_one d s (Unnamed is_inner if_declared first before) t so is = λ name. let never : true ≡ false = sym is ∙ ap is_end name in cc
+end_cuts_one d s (Named is_inner if_declared first before name behind) t so is = ap (is_mark mark.Semicolon) (is_the_end t.token.kind is)
+end_cuts_one d s (Asked is_inner wanted first parts) t so is =
     let k = condition_so first (kept_sides d s parts) in
     ap (λ (x : TokenKind). fits grammar known (atom_of (record t.token { kind = x })) k.stack) (is_the_end t.token.kind is) ∙ end_fits_nothing k.stack
-end_cuts_one d s (Turns is_inner first parts) t is = ap (is_mark mark.Semicolon) (is_the_end t.token.kind is)
-end_cuts_one d s (Closes is_inner first parts) t is = ap (is_mark mark.Semicolon) (is_the_end t.token.kind is)
+end_cuts_one d s (Turns is_inner first parts) t so is = ap (is_mark mark.Semicolon) (is_the_end t.token.kind is)
+end_cuts_one d s (Closes is_inner first parts) t so is = ap (is_mark mark.Semicolon) (is_the_end t.token.kind is)
 
-end_cuts : (d : Answers) (s : Around) (outer : List Unfinished) (u : Unfinished) (t : At) → is_end t.token.kind ≡ true → AreCutBy d s outer u t
-end_cuts d s [] u t is = end_cuts_one d s u t is
-end_cuts d s (x ∷ outer) u t is = end_cuts d (behind_begun d s x) outer u t is
+end_cuts : (d : Answers) (s : Around) (outer : List Unfinished) (u : Unfinished) (t : At) → EndCuts u → is_end t.token.kind ≡ true → AreCutBy d s outer u t
+end_cuts d s [] u t so is = end_cuts_one d s u t so is
+end_cuts d s (x ∷ outer) u t so is = end_cuts d (behind_begun d s x) outer u t so is
 
 -- whatever side is left out
-pub unfit_end : (d : Answers) (s : Around) (outer : List Unfinished) (u : Unfinished) (last : Last) (toks : List At) (places : List Place) (c : Conditions) (b : AllBegun d outer u s last toks places c) (t : At) → is_end t.token.kind ≡ true
+pub unfit_end : (d : Answers) (s : Around) (outer : List Unfinished) (u : Unfinished) (last : Last) (toks : List At) (places : List Place) (c : Conditions) (b : AllBegun d outer u s last toks places c) (t : At) → EndCuts u → is_end t.token.kind ≡ true
     → (let st = b.led.ends.stand in judged_at t (all_behind toks c) ≡ unfit_so (at (given_up_at b.led.ends.base) (inner_of st) (among_of st) None last.declared))
-unfit_end d s outer u last toks places c b t is = ap (judged_at t) b.led.ends.is ∙ go (left_of b.led.ends.stand)
+unfit_end d s outer u last toks places c b t so is = ap (judged_at t) b.led.ends.is ∙ go (left_of b.led.ends.stand)
   where
     inner : List Conditional
     inner = inner_of b.led.ends.stand
@@ -483,10 +535,54 @@ unfit_end d s outer u last toks places c b t is = ap (judged_at t) b.led.ends.is
 
     go : (left : Option LeftOut) → judged_at t (at b.led.ends.base inner among left last.declared) ≡ unfit_so (at (given_up_at b.led.ends.base) inner among None last.declared)
     go None =
-        unfit_there d s outer u last toks places c b (t.site.is_between && is_none_pending b.led.ends.base.pending) t (end_is_no_hash t.token.kind is) (end_cuts d s outer u t is)
+        unfit_there d s outer u last toks places c b (t.site.is_between && is_none_pending b.led.ends.base.pending) t (end_is_no_hash t.token.kind is) (end_cuts d s outer u t so is)
     go (Some side) =
         ap (λ (x : Bool). cond x (offered false t.site.is_quiet t.out t.token here) (passed (passed_by (word_of t.token) t.token side (at b.led.ends.base inner among (Some side) last.declared)))) is
-        ∙ unfit_there d s outer u last toks places c b false t (end_is_no_hash t.token.kind is) (end_cuts d s outer u t is)
+        ∙ unfit_there d s outer u last toks places c b false t (end_is_no_hash t.token.kind is) (end_cuts d s outer u t so is)
+
+-- But behind a `#` that begins a directive the end is kept, with that.
+pub front_end_kept : (d : Answers) (s : Around) (outer : List Unfinished) (sign : At) (parts : Parts) (last : Last) (toks : List At) (places : List Place) (c : Conditions) (b : AllBegun d outer (Fronting sign parts) s last toks places c) (t : At)
+    → is_end t.token.kind ≡ true
+    → (let st = b.led.ends.stand in judged_at t (all_behind toks c)
+    ≡ record {
+      now = at (record b.led.ends.base { pending = [] }) (inner_of st) (among_of st) None last.declared;
+      judged = record none_handed { sign = Some (record { place = sign.token.place; handed = handed.Kept }); token = Some handed.Kept };
+    })
+front_end_kept d s outer sign parts last toks places c b t is = ap (judged_at t) b.led.ends.is ∙ go (left_of b.led.ends.stand)
+  where
+    base : Conditions
+    base = b.led.ends.base
+
+    inner : List Conditional
+    inner = inner_of b.led.ends.stand
+
+    among : List Conditional
+    among = among_of b.led.ends.stand
+
+    here : Conditions
+    here = at base inner among None last.declared
+
+    p : Pending
+    p = directive false sign.token.place awaits.Word
+
+    kept_with : Conditions → Behind
+    kept_with x = record { now = x; judged = record none_handed { sign = Some (record { place = sign.token.place; handed = handed.Kept }); token = Some handed.Kept } }
+
+    one : base.pending ≡ p ∷ []
+    one = b.led.ends.holds.0 ∙ ap (λ x. x ∷ b.others) b.alone.0 ∙ ap (λ others. p ∷ others) b.alone.1
+
+    offers : (front : Bool) → offered front t.site.is_quiet t.out t.token here ≡ kept_with (at (record base { pending = [] }) inner among None last.declared)
+    offers front =
+        ap (λ ps. offered front t.site.is_quiet t.out t.token (at (record base { pending = ps }) inner among None last.declared)) one
+        ∙ ap (λ (x : Bool). cond x (passed (held front t.token.place (at (record base { pending = p ∷ [] }) inner among None last.declared)))
+        (behind_front (word_of t.token) t.token p (at (record base { pending = [] }) inner among None last.declared))) (end_is_no_hash t.token.kind is)
+        ∙ ap (λ o. behind_front o t.token p (at (record base { pending = [] }) inner among None last.declared)) (end_word t.token is)
+
+    go : (left : Option LeftOut) → judged_at t (at base inner among left last.declared) ≡ kept_with (at (record base { pending = [] }) inner among None last.declared)
+    go None = offers (t.site.is_between && is_none_pending base.pending)
+    go (Some side) =
+        ap (λ (x : Bool). cond x (offered false t.site.is_quiet t.out t.token here) (passed (passed_by (word_of t.token) t.token side (at base inner among (Some side) last.declared)))) is
+        ∙ offers false
 
 -- a `#` and what is behind it
 pub sign_cut : (t : At) (base : Conditions) (p : Pending) (others : List Pending) (inner among : List Conditional) (declared : ℕ) → base.pending ≡ p ∷ others → is_mark mark.Hash t.token.kind ≡ true

@@ -16,8 +16,8 @@ use Rattle.inf_reader.specs.Handing.{hash}
 use Rattle.inf_reader.specs.Reading.{is_mode_ended}
 use Rattle.inf_session.specs.Choices.{Choices}
 use Rattle.inf_session.specs.Session.{State, file_closed, stepped, token_of, turn}
-use Rattle.inf_laws.specs.KeptSides.{Answers, AreParts, Around, At, Begins, Follows, Handing, IsClear, IsPlain, IsSign, NoneInside, Parts, all_behind, all_kept, all_tokens, as_kept, behind_parts, declared_tokens, ended_behind, ended_in, ended_places, going_on, handed_on, handed_sign, judged_at, kept_sides, lone_places, missing_in, none_around, places, told_parts, unended}
-use Rattle.inf_laws.specs.Unfinished.{HaveBegun, IsMisfit, Misfit, Unfinished, all_begun_tokens, as_unfit, behind_all_begun, behind_misfit, handed_misfit, misfit_tokens, told_all_begun, told_misfit}
+use Rattle.inf_laws.specs.KeptSides.{Answers, AreParts, Around, At, Follows, Handing, IsClear, IsPlain, IsSign, Parts, all_behind, all_kept, all_tokens, as_kept, behind_parts, declared_tokens, ended_behind, ended_in, ended_places, going_on, handed_on, handed_sign, judged_at, kept_sides, lone_places, missing_in, none_around, places, told_parts, unended}
+use Rattle.inf_laws.specs.Unfinished.{HaveBegun, IsMisfit, Misfit, Unfinished, all_begun_tokens, as_unfit, begun_handed, begun_sign, behind_all_begun, behind_misfit, handed_misfit, misfit_tokens, told_all_begun, told_misfit}
 use Rattle.inf_laws.specs.KeptTurns.{given_in, turned}
 use Rattle.inf_laws.specs.MissingEnds.{with_all_at}
 use Rattle.inf_laws.specs.SideTurns.{at_turn, shown}
@@ -75,7 +75,7 @@ told_by (x ∷ steps) c = told_at x c ++ told_by steps (step_behind x c)
 -- directive.
 pub data Files : Type 0 where
   Alone : (parts : Parts) → Files
-  HashLast : (parts : Parts) (is_inner : Bool) (sign : At) → Files
+  HashLast : (parts : Parts) (sign : At) → Files
   HashThen : (parts : Parts) (sign : At) (behind : Files) → Files
   Cut : (parts : Parts) (outer : List Unfinished) (u : Unfinished) → Files
   CutHashLast : (parts : Parts) (outer : List Unfinished) (u : Unfinished) (sign : At) → Files
@@ -86,7 +86,7 @@ pub data Files : Type 0 where
 abbrev pub steps : Files → List Step
 steps (Alone parts) = map staying (all_tokens parts)
 steps (Cut parts outer u) = map staying (all_tokens parts) ++ map staying (all_begun_tokens outer u)
-steps (HashLast parts is_inner sign) = map staying (all_tokens parts) ++ staying sign ∷ []
+steps (HashLast parts sign) = map staying (all_tokens parts) ++ staying sign ∷ []
 steps (HashThen parts sign behind) = map staying (all_tokens parts) ++ staying sign ∷ steps behind
 steps (CutHashLast parts outer u sign) = map staying (all_tokens parts) ++ (map staying (all_begun_tokens outer u) ++ staying sign ∷ [])
 steps (CutHashThen parts outer u sign behind) = map staying (all_tokens parts) ++ (map staying (all_begun_tokens outer u) ++ staying sign ∷ steps behind)
@@ -110,7 +110,7 @@ around_broken answers s parts outer u misfit = behind_misfit misfit (behind_all_
 abbrev pub behind_files : Answers → Around → Files → Around
 behind_files answers s (Alone parts) = behind_parts answers s parts
 behind_files answers s (Cut parts outer u) = behind_all_begun answers (behind_parts answers s parts) outer u
-behind_files answers s (HashLast parts is_inner sign) = behind_parts answers s parts
+behind_files answers s (HashLast parts sign) = behind_parts answers s parts
 behind_files answers s (HashThen parts sign behind) = behind_files answers (behind_parts answers s parts) behind
 behind_files answers s (CutHashLast parts outer u sign) = behind_all_begun answers (behind_parts answers s parts) outer u
 behind_files answers s (CutHashThen parts outer u sign behind) = behind_files answers (behind_all_begun answers (behind_parts answers s parts) outer u) behind
@@ -124,20 +124,20 @@ sign_as h sign = record { place = sign.token.place; handed = h }
 -- before the end of a file it is handed on with that
 abbrev pub end_sign : Files → Option Sign
 end_sign (Alone parts) = None
-end_sign (HashLast parts is_inner sign) = Some (sign_as handed.Kept sign)
+end_sign (HashLast parts sign) = Some (sign_as handed.Kept sign)
 end_sign (HashThen parts sign behind) = end_sign behind
-end_sign (Cut parts outer u) = None
+end_sign (Cut parts outer u) = begun_sign u
 end_sign (CutHashLast parts outer u sign) = Some (sign_as handed.Unfit sign)
 end_sign (CutHashThen parts outer u sign behind) = end_sign behind
 end_sign (Breaking parts outer u misfit behind) = end_sign behind
 end_sign (Including parts entering included leaving behind) = end_sign behind
 
--- the end of a file is kept, but where it cuts a directive it does not fit
+-- the end of a file is kept, but where it cuts a conditional directive it does not fit
 abbrev pub end_handed : Files → Handed
 end_handed (Alone parts) = handed.Kept
-end_handed (HashLast parts is_inner sign) = handed.Kept
+end_handed (HashLast parts sign) = handed.Kept
 end_handed (HashThen parts sign behind) = end_handed behind
-end_handed (Cut parts outer u) = handed.Unfit
+end_handed (Cut parts outer u) = begun_handed u
 end_handed (CutHashLast parts outer u sign) = handed.Kept
 end_handed (CutHashThen parts outer u sign behind) = end_handed behind
 end_handed (Breaking parts outer u misfit behind) = end_handed behind
@@ -150,7 +150,7 @@ handed_end files end = handed_sign (end_sign files) ++ record { handed = end_han
 abbrev pub handed_files : Answers → Around → Files → List Handing
 handed_files answers s (Alone parts) = map as_kept (kept_sides answers s parts)
 handed_files answers s (Cut parts outer u) = map as_kept (kept_sides answers s parts)
-handed_files answers s (HashLast parts is_inner sign) = map as_kept (kept_sides answers s parts)
+handed_files answers s (HashLast parts sign) = map as_kept (kept_sides answers s parts)
 handed_files answers s (HashThen parts sign behind) =
     map as_kept (kept_sides answers s parts) ++ as_kept (hash sign.token.place) ∷ handed_files answers (behind_parts answers s parts) behind
 handed_files answers s (CutHashLast parts outer u sign) = map as_kept (kept_sides answers s parts)
@@ -172,7 +172,7 @@ all_unended s = unended s.inside ++ unended s.between
 abbrev pub told_files : Answers → Around → Files → List Place
 told_files answers s (Alone parts) = told_parts answers s parts
 told_files answers s (Cut parts outer u) = told_parts answers s parts ++ told_all_begun answers (behind_parts answers s parts) outer u
-told_files answers s (HashLast parts is_inner sign) = told_parts answers s parts
+told_files answers s (HashLast parts sign) = told_parts answers s parts
 told_files answers s (HashThen parts sign behind) = told_parts answers s parts ++ told_files answers (behind_parts answers s parts) behind
 told_files answers s (CutHashLast parts outer u sign) = told_parts answers s parts ++ told_all_begun answers (behind_parts answers s parts) outer u
 told_files answers s (CutHashThen parts outer u sign behind) =
@@ -223,9 +223,9 @@ AreFiles answers s c (Alone parts) = AreOfAFile answers s c.declared parts
 AreFiles answers s c (Cut parts outer u) =
     AreOfAFile answers s c.declared parts
     × HaveBegun answers (behind_parts answers s parts) (declared_tokens (all_tokens parts) c.declared) (length (all_tokens parts)) outer u
-AreFiles answers s c (HashLast parts is_inner sign) =
+AreFiles answers s c (HashLast parts sign) =
     AreOfAFile answers s c.declared parts
-    × ((all_kept (behind_parts answers s parts) ≡ true) × (Begins true is_inner false (Some sign) sign × NoneInside is_inner (behind_parts answers s parts)))
+    × ((all_kept (behind_parts answers s parts) ≡ true) × ((sign.site.is_between ≡ false) × IsSign true sign))
 AreFiles answers s c (HashThen parts sign behind) =
     AreOfAFile answers s c.declared parts
     × (IsThen (behind_parts answers s parts) sign behind

@@ -119,7 +119,8 @@ signed_tokens (Some sign) tokens = sign ∷ tokens
 abbrev pub first_tokens : First → List At → List At
 first_tokens first tokens = signed_tokens first.sign (first.word ∷ tokens)
 
--- A token that belongs to no conditional directive, alone or behind a `#`; a `#` before another one, with which a part begins; a directive with a name, which opens a conditional, where the name is
+-- A token that belongs to no conditional directive, alone or behind a `#`; a `#` before another one, with which a part begins; a `#` that
+-- begins a directive, with parts before the next token of that; a directive with a name, which opens a conditional, where the name is
 -- to be declared or not, and one with a condition, which is to be true or not; and an `Ifnot` and an `Endif`, each with its semicolon. A directive
 -- stands inside another one or between the others, and parts stand between the tokens of a conditional one: before and behind its name, among
 -- those of its condition, and before its semicolon. In a side that is left out the word of a directive may stand alone, whatever comes behind it.
@@ -128,6 +129,7 @@ mutual
     Plain : (token : At) → Part
     Signed : (is_inner : Bool) (sign token : At) → Part
     Before : (is_inner : Bool) (sign : At) (part : Part) → Part
+    Fronted : (sign : At) (within : Parts) (token : At) → Part
     Opening : (is_inner if_declared : Bool) (first : First) (before : Parts) (name : At) (behind : Parts) (end : At) → Part
     Asking : (is_inner wanted : Bool) (first : First) (within : Parts) (end : At) → Part
     Turning : (is_inner : Bool) (first : First) (within : Parts) (end : At) → Part
@@ -143,6 +145,7 @@ abbrev mutual
   part_tokens (Plain t) = t ∷ []
   part_tokens (Signed is_inner sign t) = sign ∷ t ∷ []
   part_tokens (Before is_inner sign part) = sign ∷ part_tokens part
+  part_tokens (Fronted sign within t) = sign ∷ (all_tokens within ++ t ∷ [])
   part_tokens (Opening is_inner if_declared first before name behind end) =
       first_tokens first (all_tokens before ++ name ∷ (all_tokens behind ++ end ∷ []))
   part_tokens (Asking is_inner wanted first within end) = first_tokens first (all_tokens within ++ end ∷ [])
@@ -264,6 +267,7 @@ abbrev pub kept_of : Part → Around → List Spelled
 kept_of (Plain t) s = if all_kept s then t.token ∷ [] else []
 kept_of (Signed is_inner sign t) s = if all_kept s then hash sign.token.place ∷ t.token ∷ [] else []
 kept_of (Before is_inner sign part) s = (if all_kept s then hash sign.token.place ∷ [] else []) ++ kept_of part s
+kept_of (Fronted sign within t) s = hash sign.token.place ∷ t.token ∷ []
 kept_of _ s = []
 
 -- what is open behind a part, and behind parts; and the tokens of these that are kept
@@ -272,6 +276,7 @@ abbrev mutual
   behind_part answers (Plain t) s = ended_in t.ended s
   behind_part answers (Signed is_inner sign t) s = ended_in t.ended s
   behind_part answers (Before is_inner sign part) s = behind_part answers part s
+  behind_part answers (Fronted sign within t) s = ended_in t.ended (behind_parts answers s within)
   behind_part answers (Opening is_inner if_declared first before name behind end) s =
       ended_in end.ended
       (acted (opened_more is_inner (first_side first if_declared (answers.is_declared name)))
@@ -333,6 +338,7 @@ abbrev mutual
   told_of answers (Plain t) s = missing_in t.ended s
   told_of answers (Signed is_inner sign t) s = missing_in t.ended s
   told_of answers (Before is_inner sign part) s = told_of answers part s
+  told_of answers (Fronted sign within t) s = told_parts answers s within ++ missing_in t.ended (behind_parts answers s within)
   told_of answers (Opening is_inner if_declared first before name behind end) s =
       let act : Around → Around = opened_more is_inner (first_side first if_declared (answers.is_declared name)) in
       let x = opening_parts answers is_inner if_declared first name s in
@@ -399,6 +405,7 @@ abbrev pub first_sign : Part → Option At
 first_sign (Plain t) = None
 first_sign (Signed is_inner sign t) = Some sign
 first_sign (Before is_inner sign part) = Some sign
+first_sign (Fronted sign within t) = Some sign
 first_sign (Opening is_inner if_declared first before name behind end) = first.sign
 first_sign (Asking is_inner wanted first within end) = first.sign
 first_sign (Turning is_inner first within end) = first.sign
@@ -479,6 +486,10 @@ abbrev mutual
       × (NoneInside is_inner s
       × ((is_within ≡ true → all_kept s ≡ false)
       × (Follows (all_kept s) is_inner (first_sign part) × IsPart answers is_within s (declared_behind sign declared) part)))
+  IsPart answers is_within s declared (Fronted sign within t) =
+      (all_kept s ≡ true)
+      × (Begins true false is_within (Some sign) sign
+      × (NoneInside false s × ((AreParts answers true s (declared_behind sign declared) within × AddsNone answers s within) × IsSignedPlain t)))
   IsPart answers is_within s declared (Opening is_inner if_declared first before name behind end) =
       let x = opening_parts answers is_inner if_declared first name s in
       let y = behind_name answers before name x in

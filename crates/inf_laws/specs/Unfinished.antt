@@ -1,5 +1,5 @@
 -- Conditional directives that are not whole: a token that does not fit cuts one, with those around it that are read, or the end of the file does.
-use Rattle.std.specs.Prelude.{◌≡◌, ◌≤◌, ◌+◌, ℕ, List, [], ◌∷◌, ◌++◌, length, Bool, true, false}
+use Rattle.std.specs.Prelude.{◌≡◌, ◌≤◌, ◌+◌, ℕ, List, [], ◌∷◌, ◌++◌, length, Bool, true, false, Option, Some, None}
 use Rattle.inf_scanner.specs.declared.tokens.Mark.TheVariants as mark
 use Rattle.inf_scanner.specs.declared.tokens.Place.{Place}
 use Rattle.inf_scanner.specs.declared.tokens.TokenKind.TheVariants as kind
@@ -8,22 +8,25 @@ use Rattle.inf_grammar.specs.Language.{grammar, known}
 use Rattle.inf_unit.specs.Tokens.{Spelled, is_mark}
 use Rattle.inf_conditionals.specs.Atoms.{atom_of}
 use Rattle.inf_conditionals.specs.Condition.{Condition, condition_begun, condition_took, is_whole}
+use Rattle.inf_conditionals.specs.declared.judged.Handed.{Handed}
 use Rattle.inf_conditionals.specs.declared.judged.Handed.TheVariants as handed
+use Rattle.inf_conditionals.specs.declared.judged.Sign.{Sign}
 use Rattle.inf_conditionals.specs.declared.words.ConditionalWord.TheVariants as word
 use Rattle.inf_conditionals.specs.Open.{most_levels}
 use Rattle.inf_reader.specs.Handing.{hash}
-use Rattle.inf_laws.specs.KeptSides.{AddsNone, Answers, AreParts, Around, At, First, Handing, IsFirst, IsSign, IsSignedPlain, NoneInside, Parts, all_kept, all_tokens, as_kept, asking, before_parts, behind_name, behind_parts, closed, condition_behind, declared_behind, declared_first, declared_tokens, ended_in, first_tokens, kept_sides, missing_in, opening, placed_word, told_parts, turned}
+use Rattle.inf_laws.specs.KeptSides.{AddsNone, Answers, AreParts, Around, At, Begins, First, Handing, IsFirst, IsSign, IsSignedPlain, NoneInside, Parts, all_kept, all_tokens, as_kept, asking, before_parts, behind_name, behind_parts, closed, condition_behind, declared_behind, declared_first, declared_tokens, ended_in, first_tokens, kept_sides, missing_in, opening, placed_word, told_parts, turned}
 
 -- What is there of one
 
 -- A directive with a name up to where that must come, or up to its semicolon; one with a condition up to a further token of it; and an `Ifnot` and an
--- `Endif` up to the semicolon.
+-- `Endif` up to the semicolon. And a `#` that begins a directive, of which no more is known.
 pub data Unfinished : Type 0 where
   Unnamed : (is_inner if_declared : Bool) (first : First) (before : Parts) → Unfinished
   Named : (is_inner if_declared : Bool) (first : First) (before : Parts) (name : At) (behind : Parts) → Unfinished
   Asked : (is_inner wanted : Bool) (first : First) (within : Parts) → Unfinished
   Turns : (is_inner : Bool) (first : First) (within : Parts) → Unfinished
   Closes : (is_inner : Bool) (first : First) (within : Parts) → Unfinished
+  Fronting : (sign : At) (within : Parts) → Unfinished
 
 abbrev pub begun_tokens : Unfinished → List At
 begun_tokens (Unnamed is_inner if_declared first before) = first_tokens first (all_tokens before)
@@ -31,6 +34,7 @@ begun_tokens (Named is_inner if_declared first before name behind) = first_token
 begun_tokens (Asked is_inner wanted first within) = first_tokens first (all_tokens within)
 begun_tokens (Turns is_inner first within) = first_tokens first (all_tokens within)
 begun_tokens (Closes is_inner first within) = first_tokens first (all_tokens within)
+begun_tokens (Fronting sign within) = sign ∷ all_tokens within
 
 -- It has not acted, but for one whose word ended a side that was left out.
 abbrev pub behind_begun : Answers → Around → Unfinished → Around
@@ -39,6 +43,7 @@ behind_begun answers s (Named is_inner if_declared first before name behind) = b
 behind_begun answers s (Asked is_inner wanted first within) = behind_parts answers s within
 behind_begun answers s (Turns is_inner first within) = behind_parts answers (before_parts turned s) within
 behind_begun answers s (Closes is_inner first within) = behind_parts answers (before_parts closed s) within
+behind_begun answers s (Fronting sign within) = behind_parts answers s within
 
 -- what is told of its parts
 abbrev pub told_begun : Answers → Around → Unfinished → List Place
@@ -48,6 +53,7 @@ told_begun answers s (Named is_inner if_declared first before name behind) =
 told_begun answers s (Asked is_inner wanted first within) = told_parts answers s within
 told_begun answers s (Turns is_inner first within) = told_parts answers (before_parts turned s) within
 told_begun answers s (Closes is_inner first within) = told_parts answers (before_parts closed s) within
+told_begun answers s (Fronting sign within) = told_parts answers s within
 
 -- the kept tokens of a condition so far, of which the grammar takes each, and none is the last
 abbrev pub GoOn : List Spelled → Condition → Type 0
@@ -84,6 +90,19 @@ IsBegun answers is_within s declared (Closes is_inner first within) =
     let x = before_parts closed s in
     IsFirst (all_kept s) is_inner is_within word.Endif first
     × (NoneInside is_inner s × ((all_kept x ≡ true) × (AreParts answers true x (declared_first first declared) within × (kept_sides answers x within ≡ []))))
+
+IsBegun answers is_within s declared (Fronting sign within) =
+    Begins true false is_within (Some sign) sign
+    × (NoneInside false s × ((all_kept s ≡ true) × (AreParts answers true s (declared_behind sign declared) within × (kept_sides answers s within ≡ []))))
+
+-- The end of the file cuts a conditional directive. Behind a `#` that begins another one it is kept, and so is that.
+abbrev pub begun_sign : Unfinished → Option Sign
+begun_sign (Fronting sign within) = Some (record { place = sign.token.place; handed = handed.Kept })
+begun_sign u = None
+
+abbrev pub begun_handed : Unfinished → Handed
+begun_handed (Fronting sign within) = handed.Kept
+begun_handed u = handed.Unfit
 
 -- One in the other
 
@@ -146,6 +165,8 @@ IsCutBy answers s (Asked is_inner wanted first within) t =
     fits grammar known (atom_of t.token) (condition_so first (kept_sides answers s within)).stack ≡ false
 IsCutBy answers s (Turns is_inner first within) t = is_mark mark.Semicolon t.token.kind ≡ false
 IsCutBy answers s (Closes is_inner first within) t = is_mark mark.Semicolon t.token.kind ≡ false
+
+IsCutBy answers s (Fronting sign within) t = ⊥
 
 abbrev pub AreCutBy : Answers → Around → List Unfinished → Unfinished → At → Type 0
 AreCutBy answers s [] u t = IsCutBy answers s u t
