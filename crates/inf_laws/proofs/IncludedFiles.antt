@@ -1,5 +1,5 @@
 -- Files that include one another keep what each of them keeps.
-use Rattle.std.proofs.Common.{◌≡◌, ℕ, zero, suc, ◌+◌, length, List, [], ◌∷◌, ◌++◌, map, reverse, cond, ◌&&◌, Bool, true, false, Option, Some, None, refl, sym, ap, subst, ◌∙◌, append_assoc, arith}
+use Rattle.std.proofs.Common.{◌≡◌, ℕ, zero, suc, ◌+◌, ◌≤◌, length, List, [], ◌∷◌, ◌++◌, map, reverse, cond, ◌&&◌, Bool, true, false, Option, Some, None, refl, sym, ap, subst, ◌∙◌, append_assoc, arith}
 use Rattle.std.proofs.lemmas.List.{append-nil, map-append}
 use Rattle.inf_scanner.specs.declared.tokens.Mark.TheVariants as mark
 use Rattle.inf_scanner.specs.declared.tokens.Place.{Place}
@@ -20,21 +20,21 @@ use Rattle.inf_conditionals.specs.declared.open.LeftOut.{LeftOut}
 use Rattle.inf_conditionals.specs.declared.pending.Pending.{Pending}
 use Rattle.inf_conditionals.specs.Ends.{file_entered, file_left, file_left_to, file_told, with_all_lone}
 use Rattle.inf_conditionals.specs.Judging.{Behind, behind_sign, judged, judged_by, is_none_pending, kept, none_handed, offered, passed, passed_by}
-use Rattle.inf_conditionals.specs.Open.{Conditions, silent}
+use Rattle.inf_conditionals.specs.Open.{Conditions, most_levels, silent}
 use Rattle.inf_conditionals.specs.Words.{word_of}
 use Rattle.inf_reader.specs.Handing.{hash, said_told, site_of}
 use Rattle.inf_reader.specs.Reading.{is_mode_ended}
 use Rattle.inf_session.specs.Choices.{Choices}
 use Rattle.inf_session.specs.Session.{State, answered, asked_nothing, heeded, included_by, left, left_by, file_closed, none_included, stand_of, stepped, token_of, turn}
-use Rattle.inf_laws.specs.IncludedFiles.{Alone, AreFiles, AreOfAFile, Breaking, Cut, CutHashLast, CutHashThen, Enters, Files, FilesKeepSides, FilesTellUnended, HashLast, HashThen, Including, Leaves, Stays, Step, TurnsKeepFiles, all_unended, around_behind, around_broken, around_included, asked_passage, behind_files, end_handed, end_sign, first_step, handed_by, handed_end, handed_files, opens, passage, passed_files, released, sign_as, staying, step_at, step_behind, steps, steps_at, steps_behind, told_at, told_behind, told_by, told_files}
-use Rattle.inf_laws.specs.KeptSides.{Answers, Around, At, Follows, Handing, IsClear, IsPlain, IsSign, Parts, all_behind, all_handed_on, all_kept, all_tokens, all_told, are_kept, as_kept, behind_parts, declared_tokens, ended_behind, ended_in, ended_places, going_on, handed_as, handed_on, handed_sign, handed_token, judged_at, kept_sides, lone_places, missing_in, none_around, places, told_parts, unended}
+use Rattle.inf_laws.specs.IncludedFiles.{Alone, AreFiles, AreHashes, AreOfAFile, Breaking, Cut, CutHashLast, CutHashThen, CutHashesLeft, Enters, Files, FilesKeepSides, FilesTellUnended, HashLast, HashThen, HashesLeft, Including, Leaves, Stays, Step, TurnsKeepFiles, all_unended, around_behind, around_broken, around_included, asked_passage, behind_files, end_handed, end_sign, first_step, handed_by, handed_end, handed_files, opens, passage, passed_files, released, sign_as, staying, step_at, step_behind, steps, steps_at, steps_behind, told_at, told_behind, told_by, told_files}
+use Rattle.inf_laws.specs.KeptSides.{Answers, Around, At, Follows, Handing, IsClear, IsPlain, IsSign, NoneInside, Parts, all_behind, all_handed_on, all_kept, all_tokens, all_told, are_kept, as_kept, behind_parts, declared_behind, declared_tokens, ended_behind, ended_in, ended_places, going_on, handed_as, handed_on, handed_sign, handed_token, judged_at, kept_sides, lone_places, missing_in, none_around, places, told_parts, unended}
 use Rattle.inf_laws.specs.Unfinished.{Asked as HasAsked, Bare, Closes, Fronting, Hashed, HaveBegun, IsMisfit, Misfit, Named, Turns, Unfinished, Unnamed, all_begun_tokens, as_unfit, begun_handed, begun_sign, behind_all_begun, behind_misfit, handed_misfit, misfit_tokens, told_all_begun, told_misfit}
 use Rattle.inf_laws.specs.KeptTurns.{given_by, given_in, turned}
 use Rattle.inf_laws.specs.MissingEnds.{with_all_at}
 use Rattle.inf_laws.specs.SideTurns.{at_turn, ends_there, shown}
-use Rattle.inf_laws.proofs.KeptSides.{AllStay, Hands, InnerLeft, Last, OuterLeft, Reader, Stands, StandsAt, all_handed, all_taken, among_of, are_open, at, conditionals, end_is_no_hash, end_kept_so, end_word, ended_told, hands_on, hash_freed, inner_not_kept, inner_of, kept_at, last_at, led, not_kept, outer, plain_kept, sign_inner, stack_of, stands_at, state, told_both, told_places, with_sign}
+use Rattle.inf_laws.proofs.KeptSides.{AllStay, CalmLeft, Hands, InnerLeft, Last, OuterLeft, Reader, Reads, Stands, StandsAt, all_handed, all_taken, among_of, are_open, at, both_kept, calm_at, conditionals, end_is_no_hash, end_kept_so, end_word, ended_told, hands_on, hash_freed, inner_not_kept, inner_of, kept_at, last_at, led, left_at, left_of, levels_of, mid, none_open, not_kept, outer, plain_kept, sign_inner, sign_left, some_open, stack_of, stands_at, state, told_both, told_places, with_sign}
 use Rattle.inf_laws.proofs.MissingEnds.{told_at as told_each}
-use Rattle.inf_laws.proofs.Unfinished.{AllBegun, EndCuts, all_begun_led, cut_kept, front_end_kept, given_up_at, sign_cut, sign_cut_so, unfit_end}
+use Rattle.inf_laws.proofs.Unfinished.{AllBegun, EndCuts, all_begun_led, cut_kept, end_cuts, front_end_kept, front_there, given_up_at, sign_cut, sign_cut_so, unfit_end, unfit_there}
 use Rattle.inf_laws.proofs.SideTurns.{all_shown, rested_conditions}
 
 -- Steps one after the other
@@ -482,6 +482,110 @@ hash_last s w sign c st outside is =
       };
     }
 
+-- In a side that is left out each is passed over, and so it is at the end of the file.
+
+record LeftSo (st : Stands) : Type 0 where
+  b : Bool
+  m : ℕ
+  is : left_of st ≡ left_at b m
+  few : m ≤ levels_of st
+  calm : (is_inner : Bool) → NoneInside is_inner (stack_of st) → CalmLeft is_inner (inner_of st) b
+
+left_so : (st : Stands) → all_kept (stack_of st) ≡ false → LeftSo st
+left_so (AllStay inside between si sb) left = absurd (let never : true ≡ false = sym (both_kept inside between si sb) ∙ left in cc)
+left_so (InnerLeft deep x inside between gone si sb) left = record {
+  b = true;
+  m = length deep;
+  is = refl;
+  few = omega arith;
+  calm = λ is_inner none e. absurd (some_open deep x inside (none_open is_inner (record { inside = deep ++ x ∷ inside; between = between }) none e));
+}
+left_so (OuterLeft deep x between gone sb) left = record { b = false; m = length deep; is = refl; few = omega arith; calm = λ is_inner none e. (refl, refl) }
+
+record Passes (signs : List At) (c base : Conditions) (inner among : List Conditional) (b : Bool) (m : ℕ) : Type 0 where
+  sign : Option Place
+  declared : ℕ
+  led : StepsLed (map staying signs) c [] []
+  behind : steps_behind (map staying signs) c ≡ state base sign inner among (left_at b m) declared
+
+hashes_pass : (is_inner : Bool) (signs : List At) (c base : Conditions) (sign : Option Place) (inner among : List Conditional) (b : Bool) (m declared : ℕ) → AreHashes is_inner signs → CalmLeft is_inner inner b
+    → m + length signs ≤ most_levels → c ≡ state base sign inner among (left_at b m) declared → Passes signs c base inner among b m
+hashes_pass is_inner [] c base sign inner among b m declared are calm few is = record { sign = sign; declared = declared; led = record { hands = refl; tells = refl }; behind = is }
+hashes_pass is_inner (t ∷ signs) c base sign inner among b m declared are calm few is =
+    let place = t.token.place in
+    let now = state base (Some place) inner among (left_at b m) declared in
+    let then = state base (Some place) inner among (left_at b m) (declared_behind t declared) in
+    let h =
+    held_back t c now then (ap (judged_at t) is ∙ sign_left t sign base inner among b m declared are.0.is (omega (arith, few)))
+    (mid is_inner t base (Some place) inner among (left_at b m) declared are.0.goes_on (calm_at is_inner inner b m calm)) in
+    let rest = hashes_pass is_inner signs then base (Some place) inner among b m (declared_behind t declared) are.1 calm (omega (arith, few)) refl in
+    record { sign = rest.sign; declared = rest.declared; led = held_led t (map staying signs) c then [] [] h rest.led; behind = ap (steps_behind (map staying signs)) h.next ∙ rest.behind }
+
+end_offered : (end : At) (base : Conditions) (sign : Option Place) (inner among : List Conditional) (b : Bool) (m declared : ℕ) → is_end end.token.kind ≡ true
+    → judged_at end (state base sign inner among (left_at b m) declared) ≡ offered false end.site.is_quiet end.out end.token (at base inner among None declared)
+end_offered end base sign inner among b m declared is_last =
+    let here = state base sign inner among (left_at b m) declared in
+    ap (λ (x : Bool). cond x (offered false end.site.is_quiet end.out end.token (at base inner among None declared)) (passed (passed_by (word_of end.token) end.token (record { is_inner = b; levels = m }) here))) is_last
+
+record LeftEnds (o : Option Sign) (h : Handed) (s : Around) (w : List (List Conditional)) (signs : List At) (c : Conditions) : Type 0 where
+  led : StepsLed (map staying signs) c [] []
+  ends : EndsAs o h s w (steps_behind (map staying signs) c)
+
+left_ends : (r : Reader) (last : Last) (c : Conditions) (is_inner : Bool) (signs : List At) (o : Option Sign) (h : Handed) (e : StandsAt r last c) → all_kept last.around ≡ false → NoneInside is_inner last.around → AreHashes is_inner signs
+    → last.levels + length signs ≤ most_levels → (free : Conditions) → free.pending ≡ [] → free.waiting ≡ last.waiting
+    → ((declared : ℕ) (end : At) → is_end end.token.kind ≡ true → offered false end.site.is_quiet end.out end.token (at e.base (inner_of e.stand) (among_of e.stand) None declared)
+    ≡ record { now = at free (inner_of e.stand) (among_of e.stand) None declared; judged = record none_handed { sign = o; token = Some h } })
+    → LeftEnds o h last.around last.waiting signs c
+left_ends r last c is_inner signs o h e left none are few free none_read waits offers =
+    let st = e.stand in
+    let inner = inner_of st in
+    let among = among_of st in
+    let l = left_so st (ap all_kept e.stack ∙ left) in
+    let few_st = e.few in
+    let few_m = l.few in
+    let at_here : c ≡ state e.base None inner among (left_at l.b l.m) last.declared = e.is ∙ ap (λ x. at e.base inner among x last.declared) l.is in
+    let p = hashes_pass is_inner signs c e.base None inner among l.b l.m last.declared are (l.calm is_inner (subst (NoneInside is_inner) (sym e.stack) none)) (omega (arith, few, few_st, few_m)) at_here in
+    record {
+      led = p.led;
+      ends = record {
+        base = free;
+        stand = st;
+        declared = p.declared;
+        none_read = none_read;
+        waits = waits;
+        stack = e.stack;
+        inner = ap (λ (x : Conditions). x.inner) p.behind;
+        among = ap (λ (x : Conditions). x.among) p.behind;
+        at_end = λ end is_last. ap (judged_at end) p.behind ∙ end_offered end e.base p.sign inner among l.b l.m p.declared is_last ∙ offers p.declared end is_last;
+      };
+    }
+
+cut_left_unfit : (d : Answers) (outer : List Unfinished) (u : Unfinished) (s : Around) (last : Last) (toks : List At) (alone : List Place) (c : Conditions) (is_inner : Bool) (signs : List At) → EndCuts u → AllBegun d outer u s last toks alone c
+    → all_kept last.around ≡ false → NoneInside is_inner last.around → AreHashes is_inner signs → last.levels + length signs ≤ most_levels
+    → LeftEnds None handed.Unfit last.around last.waiting signs (all_behind toks c)
+cut_left_unfit d outer u s last toks alone c is_inner signs so b left none are few =
+    let e = b.led.ends in
+    left_ends (Reads b.p b.others b.ks) last (all_behind toks c) is_inner signs None handed.Unfit e left none are few (given_up_at e.base) refl e.waits
+    (λ declared end is_last. unfit_there d s outer u last toks alone c b declared false end (end_is_no_hash end.token.kind is_last) (end_cuts d s outer u end so is_last))
+
+cut_left : (d : Answers) (outer : List Unfinished) (u : Unfinished) (s : Around) (last : Last) (toks : List At) (alone : List Place) (c : Conditions) (is_inner : Bool) (signs : List At) → AllBegun d outer u s last toks alone c
+    → all_kept last.around ≡ false → NoneInside is_inner last.around → AreHashes is_inner signs → last.levels + length signs ≤ most_levels
+    → LeftEnds (begun_sign u) (begun_handed u) last.around last.waiting signs (all_behind toks c)
+cut_left d outer (Unnamed i if_declared first before) s last toks alone c is_inner signs b left none are few =
+    cut_left_unfit d outer (Unnamed i if_declared first before) s last toks alone c is_inner signs tt b left none are few
+cut_left d outer (Named i if_declared first before name behind) s last toks alone c is_inner signs b left none are few =
+    cut_left_unfit d outer (Named i if_declared first before name behind) s last toks alone c is_inner signs tt b left none are few
+cut_left d outer (HasAsked i wanted first parts) s last toks alone c is_inner signs b left none are few =
+    cut_left_unfit d outer (HasAsked i wanted first parts) s last toks alone c is_inner signs tt b left none are few
+cut_left d outer (Turns i first parts) s last toks alone c is_inner signs b left none are few =
+    cut_left_unfit d outer (Turns i first parts) s last toks alone c is_inner signs tt b left none are few
+cut_left d outer (Closes i first parts) s last toks alone c is_inner signs b left none are few =
+    cut_left_unfit d outer (Closes i first parts) s last toks alone c is_inner signs tt b left none are few
+cut_left d outer (Fronting sign parts) s last toks alone c is_inner signs b left none are few =
+    let e = b.led.ends in
+    left_ends (Reads b.p b.others b.ks) last (all_behind toks c) is_inner signs (begun_sign (Fronting sign parts)) handed.Kept e left none are few (record e.base { pending = [] }) refl e.waits
+    (λ declared end is_last. front_there d s outer sign parts last toks alone c b declared false end is_last)
+
 -- All files
 
 begun_is_handed : (u : Unfinished) (end : At) → handed_as (begun_handed u) end.token ≡ record { handed = begun_handed u; token = end.token } ∷ []
@@ -497,6 +601,8 @@ end_is_handed (Alone parts) end = refl
 end_is_handed (Cut parts outer u) end = begun_is_handed u end
 end_is_handed (HashLast parts sign) end = refl
 end_is_handed (HashThen parts sign more) end = end_is_handed more end
+end_is_handed (HashesLeft parts is_inner signs) end = refl
+end_is_handed (CutHashesLeft parts outer u is_inner signs) end = begun_is_handed u end
 end_is_handed (CutHashLast parts outer u sign) end = refl
 end_is_handed (CutHashThen parts outer u sign more) end = end_is_handed more end
 end_is_handed (Breaking parts outer u misfit more) end = end_is_handed more end
@@ -550,6 +656,7 @@ record BrokenLed (d : Answers) (s : Around) (w : List (List Conditional)) (c : C
   last : Last
   around : last.around ≡ behind_all_begun d (behind_parts d s parts) outer u
   waiting : last.waiting ≡ w
+  levels : last.levels ≡ 0 + length (all_tokens parts) + length (all_begun_tokens outer u)
   begun : AllBegun d outer u (behind_parts d s parts) last (all_begun_tokens outer u) (told_all_begun d (behind_parts d s parts) outer u) (all_behind (all_tokens parts) c)
 
 broken_led : (d : Answers) (s : Around) (w : List (List Conditional)) (c : Conditions) (parts : Parts) (outer : List Unfinished) (u : Unfinished) → Stretch d s w c parts
@@ -565,6 +672,7 @@ broken_led d s w c parts outer u first has =
       last = last_at (behind_all_begun d l.around outer u) (declared_tokens toks l.declared) (l.levels + length toks) w;
       around = refl;
       waiting = refl;
+      levels = refl;
       begun = b;
     }
 
@@ -625,6 +733,61 @@ files_led d (HashThen parts sign more) s w c b are =
           ∙ ap (steps_behind (steps more)) h.next
           ∙ on.behind
           ∙ ap (steps_behind (steps more)) (sym frees))) rest.ends;
+    }
+files_led d (HashesLeft parts is_inner signs) s w c b are =
+    let first = stretch d s w c parts b are.0 in
+    let tokens = all_tokens parts in
+    let here = behind_parts d s parts in
+    let c_here = all_behind tokens c in
+    let e = first.stands in
+    let few = are.1.few in
+    let h =
+    left_ends Hands (stretch_last d s w c parts) c_here is_inner signs None handed.Kept e are.1.is_left are.1.none_inside are.1.are (omega (arith, few)) e.base e.holds e.waits
+    (λ declared end is_last. end_kept_so false end.site.is_quiet end.out end.token (at e.base (inner_of e.stand) (among_of e.stand) None declared) is_last e.holds) in
+    let to_here = behind_staying tokens c in
+    let given = map as_kept (kept_sides d s parts) in
+    let told = told_parts d s parts in
+    let both =
+    joined (map staying tokens) (map staying signs) c given [] told [] first.led (subst (λ (x : Conditions). StepsLed (map staying signs) x [] []) (sym to_here) h.led) in
+    record {
+      led = record { hands = both.hands ∙ append-nil given; tells = both.tells ∙ append-nil told };
+      ends = subst (λ (x : Conditions). EndsAs None handed.Kept here w x) (sym (behind_both (map staying tokens) (map staying signs) c ∙ ap (steps_behind (map staying signs)) to_here)) h.ends;
+    }
+files_led d (CutHashesLeft parts outer u is_inner signs) s w c b are =
+    let first = stretch d s w c parts b are.0 in
+    let broken = broken_led d s w c parts outer u first are.1.0 in
+    let tokens = all_tokens parts in
+    let toks = all_begun_tokens outer u in
+    let c_here = all_behind tokens c in
+    let there = all_behind toks c_here in
+    let last = broken.last in
+    let here = behind_all_begun d (behind_parts d s parts) outer u in
+    let alone = told_all_begun d (behind_parts d s parts) outer u in
+    let few = are.1.1.few in
+    let few_last = broken.levels in
+    let h =
+    cut_left d outer u (behind_parts d s parts) last toks alone c_here is_inner signs broken.begun (ap all_kept broken.around ∙ are.1.1.is_left)
+    (subst (NoneInside is_inner) (sym broken.around) are.1.1.none_inside) are.1.1.are (omega (arith, few, few_last)) in
+    let given = map as_kept (kept_sides d s parts) in
+    let to_here = behind_staying tokens c in
+    let to_there = behind_staying toks c_here in
+    let second : StepsLed (map staying toks ++ map staying signs) c_here [] (alone ++ []) =
+    joined (map staying toks) (map staying signs) c_here [] [] alone [] broken.led
+    (subst (λ (x : Conditions). StepsLed (map staying signs) x [] []) (sym to_there) h.led) in
+    let both =
+    joined (map staying tokens) (map staying toks ++ map staying signs) c given [] (told_parts d s parts) (alone ++ []) first.led
+    (subst (λ (x : Conditions). StepsLed (map staying toks ++ map staying signs) x [] (alone ++ [])) (sym to_here) second) in
+    let behind = steps_behind (map staying signs) there in
+    record {
+      led = record { hands = both.hands ∙ append-nil given; tells = both.tells ∙ ap (λ ps. told_parts d s parts ++ ps) (append-nil alone) };
+      ends = subst (λ (x : Conditions). EndsAs (begun_sign u) (begun_handed u) here w x)
+          (sym
+          (behind_both (map staying tokens) (map staying toks ++ map staying signs) c
+          ∙ ap (steps_behind (map staying toks ++ map staying signs)) to_here
+          ∙ behind_both (map staying toks) (map staying signs) c_here
+          ∙ ap (steps_behind (map staying signs)) to_there))
+          (subst (λ (x : Around). EndsAs (begun_sign u) (begun_handed u) x w behind) broken.around
+          (subst (λ ws. EndsAs (begun_sign u) (begun_handed u) last.around ws behind) broken.waiting h.ends));
     }
 files_led d (CutHashLast parts outer u sign) s w c b are =
     let first = stretch d s w c parts b are.0 in

@@ -269,7 +269,7 @@ signed_left t place c inner among b n declared is few =
     ∙ ap (λ o. passed (left_inside base (side_at b) (level_behind o n) (sign_behind o t.token) declared)) is.no_word
     ∙ ap (λ h. passed (left_inside base (side_at b) n (cond h (Some t.token.place) None) declared)) is.no_hash
 
-sign_left : (t : At) (sign : Option Place) (c : Conditions) (inner among : List Conditional) (b : Bool) (n declared : ℕ) → is_mark mark.Hash t.token.kind ≡ true → n + 1 ≤ most_levels
+pub sign_left : (t : At) (sign : Option Place) (c : Conditions) (inner among : List Conditional) (b : Bool) (n declared : ℕ) → is_mark mark.Hash t.token.kind ≡ true → n + 1 ≤ most_levels
     → judged_at t (state c sign inner among (left_at b n) declared) ≡ passed (state c (Some t.token.place) inner among (left_at b n) declared)
 sign_left t sign c inner among b n declared hash few =
     let base = at c inner among None declared in
@@ -327,10 +327,10 @@ mid false t c sign inner among left declared goes calm = go t.ended
     )
 
 -- where a side is left out
-abbrev CalmLeft : Bool → List Conditional → Bool → Type 0
+abbrev pub CalmLeft : Bool → List Conditional → Bool → Type 0
 CalmLeft is_inner inner b = is_inner ≡ false → (inner ≡ []) × (b ≡ false)
 
-calm_at : (is_inner : Bool) (inner : List Conditional) (b : Bool) (n : ℕ) → CalmLeft is_inner inner b → Calm is_inner inner (left_at b n)
+pub calm_at : (is_inner : Bool) (inner : List Conditional) (b : Bool) (n : ℕ) → CalmLeft is_inner inner b → Calm is_inner inner (left_at b n)
 calm_at is_inner inner b n calm e = ((calm e).0, ap (λ x. cond x None (left_at b n)) (calm e).1)
 
 -- Facts of what is open
@@ -966,14 +966,14 @@ declared_behind_first first tokens declared = go first.sign
     go None = refl
     go (Some sign) = refl
 
-some_open : (deep : List Open) (x : Open) (around : List Open) → deep ++ x ∷ around ≡ [] → ⊥
+pub some_open : (deep : List Open) (x : Open) (around : List Open) → deep ++ x ∷ around ≡ [] → ⊥
 some_open [] x around e = cc
 some_open (y ∷ deep) x around e = cc
 
 no_false : true ≡ false → ⊥
 no_false e = cc
 
-none_open : (is_inner : Bool) (s : Around) → NoneInside is_inner s → is_inner ≡ false → s.inside ≡ []
+pub none_open : (is_inner : Bool) (s : Around) → NoneInside is_inner s → is_inner ≡ false → s.inside ≡ []
 none_open false s right e = right
 none_open true s right e = cc
 

@@ -471,16 +471,16 @@ cut_by d s [] u p others ks base inner among declared front t waits condition no
 cut_by d s (x ∷ outer) u p others ks base inner among declared front t waits condition no_hash cut = cut_by d (behind_begun d s x) outer u p others ks base inner among declared front t waits condition no_hash cut
 
 -- in the midst of directives, whose conditionals stand so
-unfit_there : (d : Answers) (s : Around) (outer : List Unfinished) (u : Unfinished) (last : Last) (toks : List At) (places : List Place) (c : Conditions) (b : AllBegun d outer u s last toks places c) (front : Bool) (t : At)
+pub unfit_there : (d : Answers) (s : Around) (outer : List Unfinished) (u : Unfinished) (last : Last) (toks : List At) (places : List Place) (c : Conditions) (b : AllBegun d outer u s last toks places c) (declared : ℕ) (front : Bool) (t : At)
     → is_mark mark.Hash t.token.kind ≡ false → AreCutBy d s outer u t
-    → (let e = b.led.ends in let st = e.stand in offered front t.site.is_quiet t.out t.token (at e.base (inner_of st) (among_of st) None last.declared) ≡ unfit_so (at (given_up_at e.base) (inner_of st) (among_of st) None last.declared))
-unfit_there d s outer u last toks places c b front t no_hash cut =
+    → (let e = b.led.ends in let st = e.stand in offered front t.site.is_quiet t.out t.token (at e.base (inner_of st) (among_of st) None declared) ≡ unfit_so (at (given_up_at e.base) (inner_of st) (among_of st) None declared))
+unfit_there d s outer u last toks places c b declared front t no_hash cut =
     let e = b.led.ends in
     let inner = inner_of e.stand in
     let among = among_of e.stand in
-    ap (λ ps. offered front t.site.is_quiet t.out t.token (at (record e.base { pending = ps }) inner among None last.declared)) e.holds.0
-    ∙ ap (λ cs. offered front t.site.is_quiet t.out t.token (at (record e.base { pending = b.p ∷ b.others; conditions = cs }) inner among None last.declared)) e.holds.1
-    ∙ cut_by d s outer u b.p b.others b.ks e.base inner among last.declared front t b.waits_for b.condition no_hash cut
+    ap (λ ps. offered front t.site.is_quiet t.out t.token (at (record e.base { pending = ps }) inner among None declared)) e.holds.0
+    ∙ ap (λ cs. offered front t.site.is_quiet t.out t.token (at (record e.base { pending = b.p ∷ b.others; conditions = cs }) inner among None declared)) e.holds.1
+    ∙ cut_by d s outer u b.p b.others b.ks e.base inner among declared front t b.waits_for b.condition no_hash cut
 
 -- one that is kept there
 pub cut_kept : (d : Answers) (s : Around) (outer : List Unfinished) (u : Unfinished) (last : Last) (toks : List At) (places : List Place) (c : Conditions) (b : AllBegun d outer u s last toks places c) (t : At)
@@ -515,7 +515,7 @@ end_cuts_one d s (Asked is_inner wanted first parts) t so is =
 end_cuts_one d s (Turns is_inner first parts) t so is = ap (is_mark mark.Semicolon) (is_the_end t.token.kind is)
 end_cuts_one d s (Closes is_inner first parts) t so is = ap (is_mark mark.Semicolon) (is_the_end t.token.kind is)
 
-end_cuts : (d : Answers) (s : Around) (outer : List Unfinished) (u : Unfinished) (t : At) → EndCuts u → is_end t.token.kind ≡ true → AreCutBy d s outer u t
+pub end_cuts : (d : Answers) (s : Around) (outer : List Unfinished) (u : Unfinished) (t : At) → EndCuts u → is_end t.token.kind ≡ true → AreCutBy d s outer u t
 end_cuts d s [] u t so is = end_cuts_one d s u t so is
 end_cuts d s (x ∷ outer) u t so is = end_cuts d (behind_begun d s x) outer u t so is
 
@@ -535,19 +535,33 @@ unfit_end d s outer u last toks places c b t so is = ap (judged_at t) b.led.ends
 
     go : (left : Option LeftOut) → judged_at t (at b.led.ends.base inner among left last.declared) ≡ unfit_so (at (given_up_at b.led.ends.base) inner among None last.declared)
     go None =
-        unfit_there d s outer u last toks places c b (t.site.is_between && is_none_pending b.led.ends.base.pending) t (end_is_no_hash t.token.kind is) (end_cuts d s outer u t so is)
+        unfit_there d s outer u last toks places c b last.declared (t.site.is_between && is_none_pending b.led.ends.base.pending) t (end_is_no_hash t.token.kind is) (end_cuts d s outer u t so is)
     go (Some side) =
         ap (λ (x : Bool). cond x (offered false t.site.is_quiet t.out t.token here) (passed (passed_by (word_of t.token) t.token side (at b.led.ends.base inner among (Some side) last.declared)))) is
-        ∙ unfit_there d s outer u last toks places c b false t (end_is_no_hash t.token.kind is) (end_cuts d s outer u t so is)
+        ∙ unfit_there d s outer u last toks places c b last.declared false t (end_is_no_hash t.token.kind is) (end_cuts d s outer u t so is)
 
 -- But behind a `#` that begins a directive the end is kept, with that.
+abbrev pub kept_with : At → Conditions → Behind
+kept_with sign now = record { now = now; judged = record none_handed { sign = Some (record { place = sign.token.place; handed = handed.Kept }); token = Some handed.Kept } }
+
+pub front_there : (d : Answers) (s : Around) (outer : List Unfinished) (sign : At) (parts : Parts) (last : Last) (toks : List At) (places : List Place) (c : Conditions) (b : AllBegun d outer (Fronting sign parts) s last toks places c)
+    (declared : ℕ) (front : Bool) (t : At) → is_end t.token.kind ≡ true
+    → (let e = b.led.ends in let st = e.stand in offered front t.site.is_quiet t.out t.token (at e.base (inner_of st) (among_of st) None declared)
+    ≡ kept_with sign (at (record e.base { pending = [] }) (inner_of st) (among_of st) None declared))
+front_there d s outer sign parts last toks places c b declared front t is =
+    let e = b.led.ends in
+    let inner = inner_of e.stand in
+    let among = among_of e.stand in
+    let p = directive false sign.token.place awaits.Word in
+    let cleared = at (record e.base { pending = [] }) inner among None declared in
+    ap (λ ps. offered front t.site.is_quiet t.out t.token (at (record e.base { pending = ps }) inner among None declared))
+    (e.holds.0 ∙ ap (λ x. x ∷ b.others) b.alone.0 ∙ ap (λ others. p ∷ others) b.alone.1)
+    ∙ ap (λ (x : Bool). cond x (passed (held front t.token.place (at (record e.base { pending = p ∷ [] }) inner among None declared))) (behind_front (word_of t.token) t.token p cleared)) (end_is_no_hash t.token.kind is)
+    ∙ ap (λ o. behind_front o t.token p cleared) (end_word t.token is)
+
 pub front_end_kept : (d : Answers) (s : Around) (outer : List Unfinished) (sign : At) (parts : Parts) (last : Last) (toks : List At) (places : List Place) (c : Conditions) (b : AllBegun d outer (Fronting sign parts) s last toks places c) (t : At)
     → is_end t.token.kind ≡ true
-    → (let st = b.led.ends.stand in judged_at t (all_behind toks c)
-    ≡ record {
-      now = at (record b.led.ends.base { pending = [] }) (inner_of st) (among_of st) None last.declared;
-      judged = record none_handed { sign = Some (record { place = sign.token.place; handed = handed.Kept }); token = Some handed.Kept };
-    })
+    → (let st = b.led.ends.stand in judged_at t (all_behind toks c) ≡ kept_with sign (at (record b.led.ends.base { pending = [] }) (inner_of st) (among_of st) None last.declared))
 front_end_kept d s outer sign parts last toks places c b t is = ap (judged_at t) b.led.ends.is ∙ go (left_of b.led.ends.stand)
   where
     base : Conditions
@@ -559,30 +573,12 @@ front_end_kept d s outer sign parts last toks places c b t is = ap (judged_at t)
     among : List Conditional
     among = among_of b.led.ends.stand
 
-    here : Conditions
-    here = at base inner among None last.declared
-
-    p : Pending
-    p = directive false sign.token.place awaits.Word
-
-    kept_with : Conditions → Behind
-    kept_with x = record { now = x; judged = record none_handed { sign = Some (record { place = sign.token.place; handed = handed.Kept }); token = Some handed.Kept } }
-
-    one : base.pending ≡ p ∷ []
-    one = b.led.ends.holds.0 ∙ ap (λ x. x ∷ b.others) b.alone.0 ∙ ap (λ others. p ∷ others) b.alone.1
-
-    offers : (front : Bool) → offered front t.site.is_quiet t.out t.token here ≡ kept_with (at (record base { pending = [] }) inner among None last.declared)
-    offers front =
-        ap (λ ps. offered front t.site.is_quiet t.out t.token (at (record base { pending = ps }) inner among None last.declared)) one
-        ∙ ap (λ (x : Bool). cond x (passed (held front t.token.place (at (record base { pending = p ∷ [] }) inner among None last.declared)))
-        (behind_front (word_of t.token) t.token p (at (record base { pending = [] }) inner among None last.declared))) (end_is_no_hash t.token.kind is)
-        ∙ ap (λ o. behind_front o t.token p (at (record base { pending = [] }) inner among None last.declared)) (end_word t.token is)
-
-    go : (left : Option LeftOut) → judged_at t (at base inner among left last.declared) ≡ kept_with (at (record base { pending = [] }) inner among None last.declared)
-    go None = offers (t.site.is_between && is_none_pending base.pending)
+    go : (left : Option LeftOut) → judged_at t (at base inner among left last.declared) ≡ kept_with sign (at (record base { pending = [] }) inner among None last.declared)
+    go None = front_there d s outer sign parts last toks places c b last.declared (t.site.is_between && is_none_pending base.pending) t is
     go (Some side) =
-        ap (λ (x : Bool). cond x (offered false t.site.is_quiet t.out t.token here) (passed (passed_by (word_of t.token) t.token side (at base inner among (Some side) last.declared)))) is
-        ∙ offers false
+        ap (λ (x : Bool). cond x (offered false t.site.is_quiet t.out t.token (at base inner among None last.declared))
+        (passed (passed_by (word_of t.token) t.token side (at base inner among (Some side) last.declared)))) is
+        ∙ front_there d s outer sign parts last toks places c b last.declared false t is
 
 -- a `#` and what is behind it
 pub sign_cut : (t : At) (base : Conditions) (p : Pending) (others : List Pending) (inner among : List Conditional) (declared : ℕ) → base.pending ≡ p ∷ others → is_mark mark.Hash t.token.kind ≡ true

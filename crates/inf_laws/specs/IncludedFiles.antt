@@ -1,5 +1,5 @@
 -- Which tokens are kept of files that include one another: of each file those that its own conditionals keep.
-use Rattle.std.specs.Prelude.{◌≡◌, ◌≤◌, ℕ, zero, suc, List, [], ◌∷◌, ◌++◌, map, reverse, length, Bool, true, false, if◌then◌else◌, Option, Some, None}
+use Rattle.std.specs.Prelude.{◌≡◌, ◌≤◌, ◌+◌, ℕ, zero, suc, List, [], ◌∷◌, ◌++◌, map, reverse, length, Bool, true, false, if◌then◌else◌, Option, Some, None}
 use Rattle.inf_token.specs.Files.{Sources}
 use Rattle.inf_scanner.specs.declared.tokens.Mark.TheVariants as mark
 use Rattle.inf_scanner.specs.declared.tokens.Place.{Place}
@@ -16,7 +16,7 @@ use Rattle.inf_reader.specs.Handing.{hash}
 use Rattle.inf_reader.specs.Reading.{is_mode_ended}
 use Rattle.inf_session.specs.Choices.{Choices}
 use Rattle.inf_session.specs.Session.{State, file_closed, stepped, token_of, turn}
-use Rattle.inf_laws.specs.KeptSides.{Answers, AreParts, Around, At, Follows, Handing, IsClear, IsPlain, IsSign, Parts, all_behind, all_kept, all_tokens, as_kept, behind_parts, declared_tokens, ended_behind, ended_in, ended_places, going_on, handed_on, handed_sign, judged_at, kept_sides, lone_places, missing_in, none_around, places, told_parts, unended}
+use Rattle.inf_laws.specs.KeptSides.{Answers, AreParts, Around, At, Follows, Handing, IsClear, IsPlain, IsSign, NoneInside, Parts, all_behind, all_kept, all_tokens, as_kept, behind_parts, declared_tokens, ended_behind, ended_in, ended_places, going_on, handed_on, handed_sign, judged_at, kept_sides, lone_places, missing_in, none_around, places, told_parts, unended}
 use Rattle.inf_laws.specs.Unfinished.{HaveBegun, IsMisfit, Misfit, Unfinished, all_begun_tokens, as_unfit, begun_handed, begun_sign, behind_all_begun, behind_misfit, handed_misfit, misfit_tokens, told_all_begun, told_misfit}
 use Rattle.inf_laws.specs.KeptTurns.{given_in, turned}
 use Rattle.inf_laws.specs.MissingEnds.{with_all_at}
@@ -72,12 +72,14 @@ told_by (x ∷ steps) c = told_at x c ++ told_by steps (step_behind x c)
 -- What is still to come of a file: no more than parts; or parts and a conditional directive that the end of the file cuts; or parts, one that a
 -- token cuts, this token, and what comes behind it; or parts, the token with which an included file is entered, what that has, the token at its
 -- end, and what comes behind. A `#` may stand last, or before another one, with which the rest of the file begins, behind parts or where it cuts a
--- directive.
+-- directive; and some may stand last in a side that is left out.
 pub data Files : Type 0 where
   Alone : (parts : Parts) → Files
   HashLast : (parts : Parts) (sign : At) → Files
   HashThen : (parts : Parts) (sign : At) (behind : Files) → Files
+  HashesLeft : (parts : Parts) (is_inner : Bool) (signs : List At) → Files
   Cut : (parts : Parts) (outer : List Unfinished) (u : Unfinished) → Files
+  CutHashesLeft : (parts : Parts) (outer : List Unfinished) (u : Unfinished) (is_inner : Bool) (signs : List At) → Files
   CutHashLast : (parts : Parts) (outer : List Unfinished) (u : Unfinished) (sign : At) → Files
   CutHashThen : (parts : Parts) (outer : List Unfinished) (u : Unfinished) (sign : At) (behind : Files) → Files
   Breaking : (parts : Parts) (outer : List Unfinished) (u : Unfinished) (misfit : Misfit) (behind : Files) → Files
@@ -88,6 +90,8 @@ steps (Alone parts) = map staying (all_tokens parts)
 steps (Cut parts outer u) = map staying (all_tokens parts) ++ map staying (all_begun_tokens outer u)
 steps (HashLast parts sign) = map staying (all_tokens parts) ++ staying sign ∷ []
 steps (HashThen parts sign behind) = map staying (all_tokens parts) ++ staying sign ∷ steps behind
+steps (HashesLeft parts is_inner signs) = map staying (all_tokens parts) ++ map staying signs
+steps (CutHashesLeft parts outer u is_inner signs) = map staying (all_tokens parts) ++ (map staying (all_begun_tokens outer u) ++ map staying signs)
 steps (CutHashLast parts outer u sign) = map staying (all_tokens parts) ++ (map staying (all_begun_tokens outer u) ++ staying sign ∷ [])
 steps (CutHashThen parts outer u sign behind) = map staying (all_tokens parts) ++ (map staying (all_begun_tokens outer u) ++ staying sign ∷ steps behind)
 steps (Breaking parts outer u misfit behind) =
@@ -112,6 +116,8 @@ behind_files answers s (Alone parts) = behind_parts answers s parts
 behind_files answers s (Cut parts outer u) = behind_all_begun answers (behind_parts answers s parts) outer u
 behind_files answers s (HashLast parts sign) = behind_parts answers s parts
 behind_files answers s (HashThen parts sign behind) = behind_files answers (behind_parts answers s parts) behind
+behind_files answers s (HashesLeft parts is_inner signs) = behind_parts answers s parts
+behind_files answers s (CutHashesLeft parts outer u is_inner signs) = behind_all_begun answers (behind_parts answers s parts) outer u
 behind_files answers s (CutHashLast parts outer u sign) = behind_all_begun answers (behind_parts answers s parts) outer u
 behind_files answers s (CutHashThen parts outer u sign behind) = behind_files answers (behind_all_begun answers (behind_parts answers s parts) outer u) behind
 behind_files answers s (Breaking parts outer u misfit behind) = behind_files answers (around_broken answers s parts outer u misfit) behind
@@ -127,6 +133,8 @@ end_sign (Alone parts) = None
 end_sign (HashLast parts sign) = Some (sign_as handed.Kept sign)
 end_sign (HashThen parts sign behind) = end_sign behind
 end_sign (Cut parts outer u) = begun_sign u
+end_sign (HashesLeft parts is_inner signs) = None
+end_sign (CutHashesLeft parts outer u is_inner signs) = begun_sign u
 end_sign (CutHashLast parts outer u sign) = Some (sign_as handed.Unfit sign)
 end_sign (CutHashThen parts outer u sign behind) = end_sign behind
 end_sign (Breaking parts outer u misfit behind) = end_sign behind
@@ -138,6 +146,8 @@ end_handed (Alone parts) = handed.Kept
 end_handed (HashLast parts sign) = handed.Kept
 end_handed (HashThen parts sign behind) = end_handed behind
 end_handed (Cut parts outer u) = begun_handed u
+end_handed (HashesLeft parts is_inner signs) = handed.Kept
+end_handed (CutHashesLeft parts outer u is_inner signs) = begun_handed u
 end_handed (CutHashLast parts outer u sign) = handed.Kept
 end_handed (CutHashThen parts outer u sign behind) = end_handed behind
 end_handed (Breaking parts outer u misfit behind) = end_handed behind
@@ -153,6 +163,8 @@ handed_files answers s (Cut parts outer u) = map as_kept (kept_sides answers s p
 handed_files answers s (HashLast parts sign) = map as_kept (kept_sides answers s parts)
 handed_files answers s (HashThen parts sign behind) =
     map as_kept (kept_sides answers s parts) ++ as_kept (hash sign.token.place) ∷ handed_files answers (behind_parts answers s parts) behind
+handed_files answers s (HashesLeft parts is_inner signs) = map as_kept (kept_sides answers s parts)
+handed_files answers s (CutHashesLeft parts outer u is_inner signs) = map as_kept (kept_sides answers s parts)
 handed_files answers s (CutHashLast parts outer u sign) = map as_kept (kept_sides answers s parts)
 handed_files answers s (CutHashThen parts outer u sign behind) =
     map as_kept (kept_sides answers s parts)
@@ -174,6 +186,9 @@ told_files answers s (Alone parts) = told_parts answers s parts
 told_files answers s (Cut parts outer u) = told_parts answers s parts ++ told_all_begun answers (behind_parts answers s parts) outer u
 told_files answers s (HashLast parts sign) = told_parts answers s parts
 told_files answers s (HashThen parts sign behind) = told_parts answers s parts ++ told_files answers (behind_parts answers s parts) behind
+told_files answers s (HashesLeft parts is_inner signs) = told_parts answers s parts
+told_files answers s (CutHashesLeft parts outer u is_inner signs) =
+    told_parts answers s parts ++ told_all_begun answers (behind_parts answers s parts) outer u
 told_files answers s (CutHashLast parts outer u sign) = told_parts answers s parts ++ told_all_begun answers (behind_parts answers s parts) outer u
 told_files answers s (CutHashThen parts outer u sign behind) =
     told_parts answers s parts
@@ -218,6 +233,17 @@ pub record IsThen (s : Around) (sign : At) (behind : Files) : Type 0 where
   pub is_sign : IsSign true sign
   pub follows : Follows true true (first_step (steps behind))
 
+-- where a side is left out, behind so many tokens of the file
+abbrev pub AreHashes : Bool → List At → Type 0
+AreHashes is_inner [] = Unit {0}
+AreHashes is_inner (sign ∷ signs) = IsSign is_inner sign × AreHashes is_inner signs
+
+pub record AreLeft (s : Around) (before : ℕ) (is_inner : Bool) (signs : List At) : Type 0 where
+  pub is_left : all_kept s ≡ false
+  pub none_inside : NoneInside is_inner s
+  pub are : AreHashes is_inner signs
+  pub few : before + length signs ≤ most_levels
+
 abbrev pub AreFiles : Answers → Around → Conditions → Files → Type 0
 AreFiles answers s c (Alone parts) = AreOfAFile answers s c.declared parts
 AreFiles answers s c (Cut parts outer u) =
@@ -231,6 +257,12 @@ AreFiles answers s c (HashThen parts sign behind) =
     × (IsThen (behind_parts answers s parts) sign behind
     × ((sign.site.is_between ≡ false)
     × AreFiles answers (behind_parts answers s parts) (released (going_on sign (all_behind (all_tokens parts) c))) behind))
+AreFiles answers s c (HashesLeft parts is_inner signs) =
+    AreOfAFile answers s c.declared parts × AreLeft (behind_parts answers s parts) (length (all_tokens parts)) is_inner signs
+AreFiles answers s c (CutHashesLeft parts outer u is_inner signs) =
+    AreOfAFile answers s c.declared parts
+    × (HaveBegun answers (behind_parts answers s parts) (declared_tokens (all_tokens parts) c.declared) (length (all_tokens parts)) outer u
+    × AreLeft (behind_all_begun answers (behind_parts answers s parts) outer u) (length (all_tokens parts) + length (all_begun_tokens outer u)) is_inner signs)
 AreFiles answers s c (CutHashLast parts outer u sign) =
     AreOfAFile answers s c.declared parts
     × (HaveBegun answers (behind_parts answers s parts) (declared_tokens (all_tokens parts) c.declared) (length (all_tokens parts)) outer u
