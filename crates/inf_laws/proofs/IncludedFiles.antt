@@ -26,15 +26,15 @@ use Rattle.inf_reader.specs.Handing.{hash, said_told, site_of}
 use Rattle.inf_reader.specs.Reading.{is_mode_ended}
 use Rattle.inf_session.specs.Choices.{Choices}
 use Rattle.inf_session.specs.Session.{State, answered, asked_nothing, heeded, included_by, left, left_by, file_closed, none_included, stand_of, stepped, token_of, turn}
-use Rattle.inf_laws.specs.IncludedFiles.{Alone, AreFiles, AreHashes, AreOfAFile, Breaking, Cut, CutHashLast, CutHashThen, CutHashesLeft, Enters, Files, FilesKeepSides, FilesTellUnended, HashLast, HashThen, HashesLeft, Including, Leaves, Stays, Step, TurnsKeepFiles, all_unended, around_behind, around_broken, around_included, asked_passage, behind_files, end_handed, end_sign, first_step, handed_by, handed_end, handed_files, opens, passage, passed_files, released, sign_as, staying, step_at, step_behind, steps, steps_at, steps_behind, told_at, told_behind, told_by, told_files}
+use Rattle.inf_laws.specs.IncludedFiles.{Alone, AreFiles, AreOfAFile, Breaking, Cut, CutHashLast, CutHashThen, CutHashesLeft, Enters, Files, FilesKeepSides, FilesTellUnended, HashLast, HashThen, HashesLeft, Including, Leaves, Stays, Step, TurnsKeepFiles, all_unended, around_behind, around_broken, around_included, asked_passage, behind_files, end_handed, end_sign, first_step, handed_by, handed_end, handed_files, opens, passage, passed_files, released, sign_as, staying, step_at, step_behind, steps, steps_at, steps_behind, told_at, told_behind, told_by, told_files}
 use Rattle.inf_laws.specs.KeptSides.{Answers, Around, At, Follows, Handing, IsClear, IsPlain, IsSign, NoneInside, Parts, all_behind, all_handed_on, all_kept, all_tokens, all_told, are_kept, as_kept, behind_parts, declared_behind, declared_tokens, ended_behind, ended_in, ended_places, going_on, handed_as, handed_on, handed_sign, handed_token, judged_at, kept_sides, lone_places, missing_in, none_around, places, told_parts, unended}
-use Rattle.inf_laws.specs.Unfinished.{Asked as HasAsked, Bare, Closes, Fronting, Hashed, HaveBegun, IsMisfit, Misfit, Named, Turns, Unfinished, Unnamed, all_begun_tokens, as_unfit, begun_handed, begun_sign, behind_all_begun, behind_misfit, handed_misfit, misfit_tokens, told_all_begun, told_misfit}
+use Rattle.inf_laws.specs.Unfinished.{AreHashes, Asked as HasAsked, Bare, Closes, Fronting, Hashed, HaveBegun, IsMisfit, Misfit, Named, Turns, Unfinished, Unnamed, all_begun_tokens, as_unfit, begun_handed, begun_sign, behind_all_begun, behind_misfit, handed_misfit, misfit_tokens, told_all_begun, told_misfit}
 use Rattle.inf_laws.specs.KeptTurns.{given_by, given_in, turned}
 use Rattle.inf_laws.specs.MissingEnds.{with_all_at}
 use Rattle.inf_laws.specs.SideTurns.{at_turn, ends_there, shown}
-use Rattle.inf_laws.proofs.KeptSides.{AllStay, CalmLeft, Hands, InnerLeft, Last, OuterLeft, Reader, Reads, Stands, StandsAt, all_handed, all_taken, among_of, are_open, at, both_kept, calm_at, conditionals, end_is_no_hash, end_kept_so, end_word, ended_told, hands_on, hash_freed, inner_not_kept, inner_of, kept_at, last_at, led, left_at, left_of, levels_of, mid, none_open, not_kept, outer, plain_kept, sign_inner, sign_left, some_open, stack_of, stands_at, state, told_both, told_places, with_sign}
+use Rattle.inf_laws.proofs.KeptSides.{AllStay, CalmLeft, Hands, InnerLeft, Last, OuterLeft, Reader, Reads, Stands, StandsAt, all_handed, all_taken, among_of, are_open, at, calm_at, conditionals, end_is_no_hash, end_kept_so, end_word, ended_told, hands_on, hash_freed, inner_not_kept, inner_of, kept_at, last_at, led, left_at, mid, not_kept, outer, plain_kept, sign_inner, sign_left, stack_of, stands_at, state, told_both, told_places, with_sign}
 use Rattle.inf_laws.proofs.MissingEnds.{told_at as told_each}
-use Rattle.inf_laws.proofs.Unfinished.{AllBegun, EndCuts, all_begun_led, cut_kept, end_cuts, front_end_kept, front_there, given_up_at, sign_cut, sign_cut_so, unfit_end, unfit_there}
+use Rattle.inf_laws.proofs.Unfinished.{AllBegun, EndCuts, all_begun_led, cut_kept, end_cuts, front_end_kept, front_there, given_up_at, left_so, sign_cut, sign_cut_so, unfit_end, unfit_there}
 use Rattle.inf_laws.proofs.SideTurns.{all_shown, rested_conditions}
 
 -- Steps one after the other
@@ -250,8 +250,8 @@ ends_cut : (d : Answers) (outer : List Unfinished) (u : Unfinished) (s : Around)
 ends_cut d outer (Unnamed is_inner if_declared first before) s last toks alone c b = ends_unfit d outer (Unnamed is_inner if_declared first before) s last toks alone c tt b
 ends_cut d outer (Named is_inner if_declared first before name behind) s last toks alone c b = ends_unfit d outer (Named is_inner if_declared first before name behind) s last toks alone c tt b
 ends_cut d outer (HasAsked is_inner wanted first parts) s last toks alone c b = ends_unfit d outer (HasAsked is_inner wanted first parts) s last toks alone c tt b
-ends_cut d outer (Turns is_inner first parts) s last toks alone c b = ends_unfit d outer (Turns is_inner first parts) s last toks alone c tt b
-ends_cut d outer (Closes is_inner first parts) s last toks alone c b = ends_unfit d outer (Closes is_inner first parts) s last toks alone c tt b
+ends_cut d outer (Turns is_inner hashes first parts) s last toks alone c b = ends_unfit d outer (Turns is_inner hashes first parts) s last toks alone c tt b
+ends_cut d outer (Closes is_inner hashes first parts) s last toks alone c b = ends_unfit d outer (Closes is_inner hashes first parts) s last toks alone c tt b
 ends_cut d outer (Fronting sign parts) s last toks alone c b =
     let e = b.led.ends in
     record {
@@ -484,24 +484,6 @@ hash_last s w sign c st outside is =
 
 -- In a side that is left out each is passed over, and so it is at the end of the file.
 
-record LeftSo (st : Stands) : Type 0 where
-  b : Bool
-  m : ℕ
-  is : left_of st ≡ left_at b m
-  few : m ≤ levels_of st
-  calm : (is_inner : Bool) → NoneInside is_inner (stack_of st) → CalmLeft is_inner (inner_of st) b
-
-left_so : (st : Stands) → all_kept (stack_of st) ≡ false → LeftSo st
-left_so (AllStay inside between si sb) left = absurd (let never : true ≡ false = sym (both_kept inside between si sb) ∙ left in cc)
-left_so (InnerLeft deep x inside between gone si sb) left = record {
-  b = true;
-  m = length deep;
-  is = refl;
-  few = omega arith;
-  calm = λ is_inner none e. absurd (some_open deep x inside (none_open is_inner (record { inside = deep ++ x ∷ inside; between = between }) none e));
-}
-left_so (OuterLeft deep x between gone sb) left = record { b = false; m = length deep; is = refl; few = omega arith; calm = λ is_inner none e. (refl, refl) }
-
 record Passes (signs : List At) (c base : Conditions) (inner among : List Conditional) (b : Bool) (m : ℕ) : Type 0 where
   sign : Option Place
   declared : ℕ
@@ -577,10 +559,10 @@ cut_left d outer (Named i if_declared first before name behind) s last toks alon
     cut_left_unfit d outer (Named i if_declared first before name behind) s last toks alone c is_inner signs tt b left none are few
 cut_left d outer (HasAsked i wanted first parts) s last toks alone c is_inner signs b left none are few =
     cut_left_unfit d outer (HasAsked i wanted first parts) s last toks alone c is_inner signs tt b left none are few
-cut_left d outer (Turns i first parts) s last toks alone c is_inner signs b left none are few =
-    cut_left_unfit d outer (Turns i first parts) s last toks alone c is_inner signs tt b left none are few
-cut_left d outer (Closes i first parts) s last toks alone c is_inner signs b left none are few =
-    cut_left_unfit d outer (Closes i first parts) s last toks alone c is_inner signs tt b left none are few
+cut_left d outer (Turns i hashes first parts) s last toks alone c is_inner signs b left none are few =
+    cut_left_unfit d outer (Turns i hashes first parts) s last toks alone c is_inner signs tt b left none are few
+cut_left d outer (Closes i hashes first parts) s last toks alone c is_inner signs b left none are few =
+    cut_left_unfit d outer (Closes i hashes first parts) s last toks alone c is_inner signs tt b left none are few
 cut_left d outer (Fronting sign parts) s last toks alone c is_inner signs b left none are few =
     let e = b.led.ends in
     left_ends (Reads b.p b.others b.ks) last (all_behind toks c) is_inner signs (begun_sign (Fronting sign parts)) handed.Kept e left none are few (record e.base { pending = [] }) refl e.waits
@@ -592,8 +574,8 @@ begun_is_handed : (u : Unfinished) (end : At) → handed_as (begun_handed u) end
 begun_is_handed (Unnamed is_inner if_declared first before) end = refl
 begun_is_handed (Named is_inner if_declared first before name behind) end = refl
 begun_is_handed (HasAsked is_inner wanted first parts) end = refl
-begun_is_handed (Turns is_inner first parts) end = refl
-begun_is_handed (Closes is_inner first parts) end = refl
+begun_is_handed (Turns is_inner hashes first parts) end = refl
+begun_is_handed (Closes is_inner hashes first parts) end = refl
 begun_is_handed (Fronting sign parts) end = refl
 
 end_is_handed : (f : Files) (end : At) → handed_as (end_handed f) end.token ≡ record { handed = end_handed f; token = end.token } ∷ []

@@ -1633,7 +1633,7 @@ signed_leads d is_inner sign t r (OuterLeft deep x between left sb) declared n v
 -- A `#` before another one
 
 -- A `#` may be held back where this one comes.
-same_first : (r : Reader) (t : At) (all : List At) (c held_back : Conditions) (tokens : List Spelled) (places : List Place) (last : Last) → judged_at t held_back ≡ judged_at t c
+pub same_first : (r : Reader) (t : At) (all : List At) (c held_back : Conditions) (tokens : List Spelled) (places : List Place) (last : Last) → judged_at t held_back ≡ judged_at t c
     → Led r (t ∷ all) c tokens places last → Led r (t ∷ all) held_back tokens places last
 same_first r t all c held_back tokens places last e is = record {
   hands = ap (λ (b : Behind). handed_on b.judged t.token ++ all_handed_on all (ended_behind t.ended (silent b.now))) e ∙ is.hands;

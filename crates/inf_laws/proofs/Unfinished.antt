@@ -26,18 +26,18 @@ use Rattle.inf_conditionals.specs.Open.{Conditions, most_levels}
 use Rattle.inf_conditionals.specs.Words.{word_of}
 use Rattle.inf_conditionals.specs.declared.open.LeftOut.{LeftOut}
 use Rattle.inf_conditionals.proofs.Misfits.{end_fits_nothing}
-use Rattle.inf_laws.specs.KeptSides.{Answers, AreParts, Around, At, First, IsFirst, IsSignedPlain, NoneInside, Parts, all_behind, all_handed_on, all_kept, all_tokens, all_told, are_kept, asking, begins, behind_name, behind_parts, closed, declared_behind, declared_first, declared_tokens, ended_behind, first_tokens, judged_at, kept_sides, missing_in, opening, placed_word, told_parts, turned}
-use Rattle.inf_laws.specs.Unfinished.{Asked, AreBegun, AreCutBy, Closes, Fronting, GoOn, IsBegun, IsCutBy, Named, Turns, Unfinished, Unnamed, all_begun_tokens, behind_all_begun, behind_begun, begun_tokens, condition_so, told_all_begun, told_begun}
+use Rattle.inf_laws.specs.KeptSides.{Answers, AreParts, Around, At, First, Follows, IsFirst, IsSignedPlain, NoneInside, Parts, all_behind, all_handed_on, all_kept, all_tokens, all_told, are_kept, asking, begins, behind_name, behind_parts, closed, declared_behind, declared_first, declared_tokens, ended_behind, first_tokens, judged_at, kept_sides, missing_in, opening, placed_word, signed_tokens, told_parts, turned}
+use Rattle.inf_laws.specs.Unfinished.{Asked, AreBegun, AreCutBy, AreHashes, Closes, Fronting, GoOn, HashesBefore, IsBegun, IsCutBy, Named, Turns, Unfinished, Unnamed, all_begun_tokens, behind_all_begun, behind_begun, begun_tokens, condition_so, told_all_begun, told_begun}
 use Rattle.inf_laws.proofs.AskingWords.{asking_fits}
-use Rattle.inf_laws.proofs.KeptSides.{AllStay, Hands, Holds, InnerLeft, Last, Led, LeftLed, OuterLeft, Reader, Reads, Stands, StandsAt, TakesAll, among_of, at, awaits_it, begins_kept, begun_asking, begun_opening, behind_both, calm_open, closes_left, conditionals, declared_behind_first, declared_both, directive, end_is_no_hash, end_word, ended_stands, ended_told, fewer, goes_by, hands_both, inner_not_kept, inner_of, last_at, last_behind, led, left_of, length_both, mid, name_kept, not_kept, nothing_handed, outer_front, passes, read_condition, read_on, reading, reads_none, relaxed, sign_inner, sign_kept, stack_of, stands_at, state, takes_none, tells_both, turns_left, with_condition, within, within_led}
+use Rattle.inf_laws.proofs.KeptSides.{AllStay, CalmLeft, Hands, Holds, InnerLeft, Last, Led, LeftLed, OuterLeft, Reader, Reads, Stands, StandsAt, TakesAll, among_of, at, awaits_it, begins_kept, begun_asking, begun_opening, behind_both, both_kept, calm_at, calm_open, closes_left, conditionals, declared_behind_first, declared_both, directive, end_is_no_hash, end_word, ended_stands, ended_told, fewer, goes_by, hands_both, inner_not_kept, inner_of, last_at, last_behind, led, left_at, left_of, length_both, levels_of, mid, name_kept, none_open, not_kept, nothing_handed, outer_front, passes, read_condition, read_on, reading, reads_none, relaxed, same_first, sign_inner, sign_kept, sign_left, some_open, stack_of, stands_at, state, takes_none, tells_both, turns_left, with_condition, within, within_led}
 
 -- what the innermost one waits for
 abbrev IsAwaited : Unfinished → Awaits → Type 0
 IsAwaited (Unnamed is_inner if_declared first before) a = a ≡ awaits.Name if_declared
 IsAwaited (Named is_inner if_declared first before name behind) a = (e : Effect) × (a ≡ awaits.End e)
 IsAwaited (Asked is_inner wanted first parts) a = a ≡ awaits.Condition wanted
-IsAwaited (Turns is_inner first parts) a = (e : Effect) × (a ≡ awaits.End e)
-IsAwaited (Closes is_inner first parts) a = (e : Effect) × (a ≡ awaits.End e)
+IsAwaited (Turns is_inner hashes first parts) a = (e : Effect) × (a ≡ awaits.End e)
+IsAwaited (Closes is_inner hashes first parts) a = (e : Effect) × (a ≡ awaits.End e)
 IsAwaited (Fronting sign parts) a = a ≡ awaits.Word
 
 -- no other one stands around that with which it begins
@@ -205,6 +205,109 @@ ending_begun w act eff begins_so left_word d parts r is_inner first s declared n
   waits_for = (effect.Nothing, refl);
 }
 
+-- behind a `#`, in a side that is left out
+pub record LeftSo (st : Stands) : Type 0 where
+  pub b : Bool
+  pub m : ℕ
+  pub is : left_of st ≡ left_at b m
+  pub few : m ≤ levels_of st
+  pub calm : (is_inner : Bool) → NoneInside is_inner (stack_of st) → CalmLeft is_inner (inner_of st) b
+
+pub left_so : (st : Stands) → all_kept (stack_of st) ≡ false → LeftSo st
+left_so (AllStay inside between si sb) left = absurd (let never : true ≡ false = sym (both_kept inside between si sb) ∙ left in cc)
+left_so (InnerLeft deep x inside between gone si sb) left = record {
+  b = true;
+  m = length deep;
+  is = refl;
+  few = omega arith;
+  calm = λ is_inner none e. absurd (some_open deep x inside (none_open is_inner (record { inside = deep ++ x ∷ inside; between = between }) none e));
+}
+left_so (OuterLeft deep x between gone sb) left = record { b = false; m = length deep; is = refl; few = omega arith; calm = λ is_inner none e. (refl, refl) }
+
+hashes_before : (q : Reader) (is_inner : Bool) (hashes : List At) (next : At) (rest : List At) (base : Conditions) (inner among : List Conditional) (b : Bool) (m declared : ℕ) (places : List Place) (last : Last)
+    → AreHashes is_inner hashes → is_mark mark.Hash next.token.kind ≡ true → CalmLeft is_inner inner b → m + 1 ≤ most_levels
+    → Led q (next ∷ rest) (at base inner among (left_at b m) (declared_tokens hashes declared)) [] places last
+    → Led q (hashes ++ next ∷ rest) (at base inner among (left_at b m) declared) [] places last
+hashes_before q is_inner [] next rest base inner among b m declared places last are hash calm few is = is
+hashes_before q is_inner (t ∷ hashes) next rest base inner among b m declared places last are hash calm few is =
+    let now = declared_behind t declared in
+    let held_back : ℕ → Conditions = state base (Some t.token.place) inner among (left_at b m) in
+    goes_by q t (hashes ++ next ∷ rest) (at base inner among (left_at b m) declared) (held_back declared) (held_back now) [] places last
+    (sign_left t None base inner among b m declared are.0.is few)
+    (mid is_inner t base (Some t.token.place) inner among (left_at b m) declared are.0.goes_on (calm_at is_inner inner b m calm))
+    (again hashes now are.1 (hashes_before q is_inner hashes next rest base inner among b m now places last are.1 hash calm few is))
+  where
+    same : (x : At) (all : List At) (now : ℕ) → is_mark mark.Hash x.token.kind ≡ true → Led q (x ∷ all) (at base inner among (left_at b m) now) [] places last
+        → Led q (x ∷ all) (state base (Some t.token.place) inner among (left_at b m) now) [] places last
+    same x all now is_hash led_on =
+        same_first q x all (at base inner among (left_at b m) now) (state base (Some t.token.place) inner among (left_at b m) now) [] places last
+        (sign_left x (Some t.token.place) base inner among b m now is_hash few ∙ sym (sign_left x None base inner among b m now is_hash few)) led_on
+
+    again : (more : List At) (now : ℕ) → AreHashes is_inner more → Led q (more ++ next ∷ rest) (at base inner among (left_at b m) now) [] places last
+        → Led q (more ++ next ∷ rest) (state base (Some t.token.place) inner among (left_at b m) now) [] places last
+    again [] now are led_on = same next rest now hash led_on
+    again (x ∷ more) now are led_on = same x (more ++ next ∷ rest) now are.0.is led_on
+
+record FirstIs (first : First) (tokens : List At) : Type 0 where
+  next : At
+  rest : List At
+  is : first_tokens first tokens ≡ next ∷ rest
+  hash : is_mark mark.Hash next.token.kind ≡ true
+
+first_is : (is_inner : Bool) (first : First) (tokens : List At) → Follows false is_inner first.sign → FirstIs first tokens
+first_is is_inner first tokens follows = go first.sign refl follows
+  where
+    go : (sign : Option At) → first.sign ≡ sign → Follows false is_inner sign → FirstIs first tokens
+    go None e follows = absurd follows
+    go (Some next) e follows = record { next = next; rest = first.word ∷ tokens; is = ap (λ o. signed_tokens o (first.word ∷ tokens)) e; hash = follows }
+
+ending_behind : (w : ConditionalWord) (act : Around → Around) (e : Effect) → ((t : Spelled) (place : Place) (is_inner : Bool) (c : Conditions) → begun w t place is_inner c ≡ passed (awaiting place is_inner (awaits.End e) c)) → LeftLed w act
+    → (d : Answers) (parts : Parts) (r : Reader) (is_inner : Bool) (hashes : List At) (first : First) (s : Around) (declared n : ℕ) (v : List (List Conditional)) (c : Conditions)
+    → StandsAt r (last_at s declared n v) c → HashesBefore is_inner s hashes first → IsFirst (all_kept s) is_inner (within r) w first → NoneInside is_inner s → all_kept (cond (all_kept s) s (act s)) ≡ true
+    → AreParts d true (cond (all_kept s) s (act s)) (declared_first first (declared_tokens hashes declared)) parts → kept_sides d (cond (all_kept s) s (act s)) parts ≡ []
+    → n + length (hashes ++ first_tokens first (all_tokens parts)) ≤ most_levels
+    → EndingLed d parts (cond (all_kept s) s (act s))
+    (last_at (behind_parts d (cond (all_kept s) s (act s)) parts) (declared_tokens (hashes ++ first_tokens first (all_tokens parts)) declared) (n + length (hashes ++ first_tokens first (all_tokens parts))) v)
+    (hashes ++ first_tokens first (all_tokens parts)) c
+ending_behind w act eff begins_so left_word d parts r is_inner [] first s declared n v c e before is_first none stays are kept_none few =
+    ending_begun w act eff begins_so left_word d parts r is_inner first s declared n v c e (all_kept s) refl is_first none stays are kept_none few
+ending_behind w act eff begins_so left_word d parts r is_inner (t ∷ hashes) first s declared n v c e before is_first none stays are kept_none few =
+    let x = cond (all_kept s) s (act s) in
+    let signs = t ∷ hashes in
+    let toks = first_tokens first (all_tokens parts) in
+    let later = declared_tokens signs declared in
+    let st = e.stand in
+    let inner = inner_of st in
+    let among = among_of st in
+    let l = left_so st (ap all_kept e.stack ∙ before.0) in
+    let sum = length_both signs toks in
+    let few_st = e.few in
+    let few_m = l.few in
+    let there = stands_at e.base st later in
+    let e_later : StandsAt r (last_at s later n v) there = record { base = e.base; stand = st; holds = e.holds; waits = e.waits; is = refl; stack = e.stack; few = e.few } in
+    let is = ending_begun w act eff begins_so left_word d parts r is_inner first s later n v there e_later (all_kept s) refl is_first none stays are kept_none (omega (arith, few, sum)) in
+    let next = first_is is_inner first (all_tokens parts) before.1.1 in
+    let q = Reads is.p is.others is.ks in
+    let places = told_parts d x parts in
+    let around = behind_parts d x parts in
+    let m = n + length toks in
+    let last = last_at around (declared_tokens toks later) m v in
+    let at_left : (declared : ℕ) → stands_at e.base st declared ≡ at e.base inner among (left_at l.b l.m) declared = λ declared. ap (λ y. at e.base inner among y declared) l.is in
+    let on : Led q (signs ++ toks) (at e.base inner among (left_at l.b l.m) declared) [] places last =
+    subst (λ ts. Led q (signs ++ ts) (at e.base inner among (left_at l.b l.m) declared) [] places last) (sym next.is)
+    (hashes_before q is_inner signs next.next next.rest e.base inner among l.b l.m declared places last before.1.0 next.hash (l.calm is_inner (subst (NoneInside is_inner) (sym e.stack) none)) (omega (arith, few, sum, few_st, few_m))
+    (subst (λ ts. Led q ts (at e.base inner among (left_at l.b l.m) later) [] places last) next.is
+    (subst (λ (y : Conditions). Led q toks y [] places last) (at_left later) is.led))) in
+    record {
+      p = is.p;
+      others = is.others;
+      ks = is.ks;
+      led = subst (λ (y : Conditions). Led q (signs ++ toks) y [] places (last_at around (declared_tokens (signs ++ toks) declared) (n + length (signs ++ toks)) v)) (sym (e.is ∙ at_left declared))
+          (relaxed q (signs ++ toks) (at e.base inner among (left_at l.b l.m) declared) [] places around (declared_tokens toks later) (declared_tokens (signs ++ toks) declared) m (n + length (signs ++ toks)) v
+          (sym (declared_both signs toks declared)) (omega (arith, sum)) on);
+      waits_for = is.waits_for;
+    }
+
 -- Any of them
 
 begun_led : (d : Answers) (u : Unfinished) (r : Reader) (s : Around) (declared n : ℕ) (v : List (List Conditional)) (c : Conditions) → StandsAt r (last_at s declared n v) c → IsBegun d (within r) s declared u
@@ -305,11 +408,11 @@ begun_led d (Asked is_inner wanted first parts) r s declared n v c e are few =
       condition = (ks, refl);
       alone = tt;
     }
-begun_led d (Turns is_inner first parts) r s declared n v c e are few =
-    let is = ending_begun word.Ifnot turned effect.Turns (λ t place inner y. refl) turns_left d parts r is_inner first s declared n v c e (all_kept s) refl are.0 are.1.0 are.1.1.0 are.1.1.1.0 are.1.1.1.1 few in
+begun_led d (Turns is_inner hashes first parts) r s declared n v c e are few =
+    let is = ending_behind word.Ifnot turned effect.Turns (λ t place inner y. refl) turns_left d parts r is_inner hashes first s declared n v c e are.0.0 are.0.1 are.1.0 are.1.1.0 are.1.1.1.0 are.1.1.1.1 few in
     record { p = is.p; others = is.others; ks = is.ks; led = is.led; waits_for = is.waits_for; condition = tt; alone = tt }
-begun_led d (Closes is_inner first parts) r s declared n v c e are few =
-    let is = ending_begun word.Endif closed effect.Closes (λ t place inner y. refl) closes_left d parts r is_inner first s declared n v c e (all_kept s) refl are.0 are.1.0 are.1.1.0 are.1.1.1.0 are.1.1.1.1 few in
+begun_led d (Closes is_inner hashes first parts) r s declared n v c e are few =
+    let is = ending_behind word.Endif closed effect.Closes (λ t place inner y. refl) closes_left d parts r is_inner hashes first s declared n v c e are.0.0 are.0.1 are.1.0 are.1.1.0 are.1.1.1.0 are.1.1.1.1 few in
     record { p = is.p; others = is.others; ks = is.ks; led = is.led; waits_for = is.waits_for; condition = tt; alone = tt }
 
 begun_led d (Fronting sign parts) (Reads p others ks) s declared n v c e are few = absurd are.0
@@ -459,9 +562,9 @@ cut_one d s (Asked is_inner wanted first parts) p others ks base inner among dec
     subst (λ (a : Awaits). IsUnfit (directive p.is_inner p.place a) others ks base inner among declared front t) (sym waits)
     (subst (λ (cs : List Condition). IsUnfit (directive p.is_inner p.place (awaits.Condition wanted)) others cs base inner among declared front t) (sym condition.1)
     (cut_condition p.is_inner wanted p.place others k condition.0 base inner among declared front t no_hash cut))
-cut_one d s (Turns is_inner first parts) p others ks base inner among declared front t waits condition no_hash cut =
+cut_one d s (Turns is_inner hashes first parts) p others ks base inner among declared front t waits condition no_hash cut =
     subst (λ (a : Awaits). IsUnfit (directive p.is_inner p.place a) others ks base inner among declared front t) (sym waits.1) (cut_end waits.0 p.is_inner p.place others ks base inner among declared front t no_hash cut)
-cut_one d s (Closes is_inner first parts) p others ks base inner among declared front t waits condition no_hash cut =
+cut_one d s (Closes is_inner hashes first parts) p others ks base inner among declared front t waits condition no_hash cut =
     subst (λ (a : Awaits). IsUnfit (directive p.is_inner p.place a) others ks base inner among declared front t) (sym waits.1) (cut_end waits.0 p.is_inner p.place others ks base inner among declared front t no_hash cut)
 cut_one d s (Fronting sign parts) p others ks base inner among declared front t waits condition no_hash cut = absurd cut
 
@@ -512,8 +615,8 @@ end_cuts_one d s (Named is_inner if_declared first before name behind) t so is =
 end_cuts_one d s (Asked is_inner wanted first parts) t so is =
     let k = condition_so first (kept_sides d s parts) in
     ap (λ (x : TokenKind). fits grammar known (atom_of (record t.token { kind = x })) k.stack) (is_the_end t.token.kind is) ∙ end_fits_nothing k.stack
-end_cuts_one d s (Turns is_inner first parts) t so is = ap (is_mark mark.Semicolon) (is_the_end t.token.kind is)
-end_cuts_one d s (Closes is_inner first parts) t so is = ap (is_mark mark.Semicolon) (is_the_end t.token.kind is)
+end_cuts_one d s (Turns is_inner hashes first parts) t so is = ap (is_mark mark.Semicolon) (is_the_end t.token.kind is)
+end_cuts_one d s (Closes is_inner hashes first parts) t so is = ap (is_mark mark.Semicolon) (is_the_end t.token.kind is)
 
 pub end_cuts : (d : Answers) (s : Around) (outer : List Unfinished) (u : Unfinished) (t : At) → EndCuts u → is_end t.token.kind ≡ true → AreCutBy d s outer u t
 end_cuts d s [] u t so is = end_cuts_one d s u t so is

@@ -17,7 +17,7 @@ use Rattle.inf_reader.specs.Reading.{is_mode_ended}
 use Rattle.inf_session.specs.Choices.{Choices}
 use Rattle.inf_session.specs.Session.{State, file_closed, stepped, token_of, turn}
 use Rattle.inf_laws.specs.KeptSides.{Answers, AreParts, Around, At, Follows, Handing, IsClear, IsPlain, IsSign, NoneInside, Parts, all_behind, all_kept, all_tokens, as_kept, behind_parts, declared_tokens, ended_behind, ended_in, ended_places, going_on, handed_on, handed_sign, judged_at, kept_sides, lone_places, missing_in, none_around, places, told_parts, unended}
-use Rattle.inf_laws.specs.Unfinished.{HaveBegun, IsMisfit, Misfit, Unfinished, all_begun_tokens, as_unfit, begun_handed, begun_sign, behind_all_begun, behind_misfit, handed_misfit, misfit_tokens, told_all_begun, told_misfit}
+use Rattle.inf_laws.specs.Unfinished.{AreHashes, HaveBegun, IsMisfit, Misfit, Unfinished, all_begun_tokens, as_unfit, begun_handed, begun_sign, behind_all_begun, behind_misfit, handed_misfit, misfit_tokens, told_all_begun, told_misfit}
 use Rattle.inf_laws.specs.KeptTurns.{given_in, turned}
 use Rattle.inf_laws.specs.MissingEnds.{with_all_at}
 use Rattle.inf_laws.specs.SideTurns.{at_turn, shown}
@@ -234,10 +234,6 @@ pub record IsThen (s : Around) (sign : At) (behind : Files) : Type 0 where
   pub follows : Follows true true (first_step (steps behind))
 
 -- where a side is left out, behind so many tokens of the file
-abbrev pub AreHashes : Bool → List At → Type 0
-AreHashes is_inner [] = Unit {0}
-AreHashes is_inner (sign ∷ signs) = IsSign is_inner sign × AreHashes is_inner signs
-
 pub record AreLeft (s : Around) (before : ℕ) (is_inner : Bool) (signs : List At) : Type 0 where
   pub is_left : all_kept s ≡ false
   pub none_inside : NoneInside is_inner s

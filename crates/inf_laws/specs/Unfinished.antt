@@ -14,7 +14,7 @@ use Rattle.inf_conditionals.specs.declared.judged.Sign.{Sign}
 use Rattle.inf_conditionals.specs.declared.words.ConditionalWord.TheVariants as word
 use Rattle.inf_conditionals.specs.Open.{most_levels}
 use Rattle.inf_reader.specs.Handing.{hash}
-use Rattle.inf_laws.specs.KeptSides.{AddsNone, Answers, AreParts, Around, At, Begins, First, Handing, IsFirst, IsSign, IsSignedPlain, NoneInside, Parts, all_kept, all_tokens, as_kept, asking, before_parts, behind_name, behind_parts, closed, condition_behind, declared_behind, declared_first, declared_tokens, ended_in, first_tokens, kept_sides, missing_in, opening, placed_word, told_parts, turned}
+use Rattle.inf_laws.specs.KeptSides.{AddsNone, Answers, AreParts, Around, At, Begins, First, Follows, Handing, IsFirst, IsSign, IsSignedPlain, NoneInside, Parts, all_kept, all_tokens, as_kept, asking, before_parts, behind_name, behind_parts, closed, condition_behind, declared_behind, declared_first, declared_tokens, ended_in, first_tokens, kept_sides, missing_in, opening, placed_word, told_parts, turned}
 
 -- What is there of one
 
@@ -24,16 +24,16 @@ pub data Unfinished : Type 0 where
   Unnamed : (is_inner if_declared : Bool) (first : First) (before : Parts) → Unfinished
   Named : (is_inner if_declared : Bool) (first : First) (before : Parts) (name : At) (behind : Parts) → Unfinished
   Asked : (is_inner wanted : Bool) (first : First) (within : Parts) → Unfinished
-  Turns : (is_inner : Bool) (first : First) (within : Parts) → Unfinished
-  Closes : (is_inner : Bool) (first : First) (within : Parts) → Unfinished
+  Turns : (is_inner : Bool) (hashes : List At) (first : First) (within : Parts) → Unfinished
+  Closes : (is_inner : Bool) (hashes : List At) (first : First) (within : Parts) → Unfinished
   Fronting : (sign : At) (within : Parts) → Unfinished
 
 abbrev pub begun_tokens : Unfinished → List At
 begun_tokens (Unnamed is_inner if_declared first before) = first_tokens first (all_tokens before)
 begun_tokens (Named is_inner if_declared first before name behind) = first_tokens first (all_tokens before ++ name ∷ all_tokens behind)
 begun_tokens (Asked is_inner wanted first within) = first_tokens first (all_tokens within)
-begun_tokens (Turns is_inner first within) = first_tokens first (all_tokens within)
-begun_tokens (Closes is_inner first within) = first_tokens first (all_tokens within)
+begun_tokens (Turns is_inner hashes first within) = hashes ++ first_tokens first (all_tokens within)
+begun_tokens (Closes is_inner hashes first within) = hashes ++ first_tokens first (all_tokens within)
 begun_tokens (Fronting sign within) = sign ∷ all_tokens within
 
 -- It has not acted, but for one whose word ended a side that was left out.
@@ -41,8 +41,8 @@ abbrev pub behind_begun : Answers → Around → Unfinished → Around
 behind_begun answers s (Unnamed is_inner if_declared first before) = behind_parts answers s before
 behind_begun answers s (Named is_inner if_declared first before name behind) = behind_parts answers (behind_name answers before name s) behind
 behind_begun answers s (Asked is_inner wanted first within) = behind_parts answers s within
-behind_begun answers s (Turns is_inner first within) = behind_parts answers (before_parts turned s) within
-behind_begun answers s (Closes is_inner first within) = behind_parts answers (before_parts closed s) within
+behind_begun answers s (Turns is_inner hashes first within) = behind_parts answers (before_parts turned s) within
+behind_begun answers s (Closes is_inner hashes first within) = behind_parts answers (before_parts closed s) within
 behind_begun answers s (Fronting sign within) = behind_parts answers s within
 
 -- what is told of its parts
@@ -51,8 +51,8 @@ told_begun answers s (Unnamed is_inner if_declared first before) = told_parts an
 told_begun answers s (Named is_inner if_declared first before name behind) =
     told_parts answers s before ++ (missing_in name.ended (behind_parts answers s before) ++ told_parts answers (behind_name answers before name s) behind)
 told_begun answers s (Asked is_inner wanted first within) = told_parts answers s within
-told_begun answers s (Turns is_inner first within) = told_parts answers (before_parts turned s) within
-told_begun answers s (Closes is_inner first within) = told_parts answers (before_parts closed s) within
+told_begun answers s (Turns is_inner hashes first within) = told_parts answers (before_parts turned s) within
+told_begun answers s (Closes is_inner hashes first within) = told_parts answers (before_parts closed s) within
 told_begun answers s (Fronting sign within) = told_parts answers s within
 
 -- the kept tokens of a condition so far, of which the grammar takes each, and none is the last
@@ -62,6 +62,15 @@ GoOn (t ∷ tokens) k = (fits grammar known (atom_of t) k.stack ≡ true) × ((i
 
 abbrev pub condition_so : First → List Spelled → Condition
 condition_so first tokens = condition_behind tokens (condition_took (placed_word first) condition_begun)
+
+-- Some may stand before the `#` of a word that ends a side that is left out.
+abbrev pub AreHashes : Bool → List At → Type 0
+AreHashes is_inner [] = Unit {0}
+AreHashes is_inner (sign ∷ signs) = IsSign is_inner sign × AreHashes is_inner signs
+
+abbrev pub HashesBefore : Bool → Around → List At → First → Type 0
+HashesBefore is_inner s [] first = Unit {0}
+HashesBefore is_inner s hashes first = (all_kept s ≡ false) × (AreHashes is_inner hashes × Follows false is_inner first.sign)
 
 -- It is read, and so it is kept; an `Ifnot` or `Endif` may begin in a side that its word ends. Behind the last of its parts a side may be left out.
 abbrev pub IsBegun : Answers → Bool → Around → ℕ → Unfinished → Type 0
@@ -82,14 +91,14 @@ IsBegun answers is_within s declared (Asked is_inner wanted first within) =
     × (NoneInside is_inner s
     × ((all_kept s ≡ true)
     × (AreParts answers true s (declared_first first declared) within × GoOn (kept_sides answers s within) (condition_took (placed_word first) condition_begun))))
-IsBegun answers is_within s declared (Turns is_inner first within) =
+IsBegun answers is_within s declared (Turns is_inner hashes first within) =
     let x = before_parts turned s in
-    IsFirst (all_kept s) is_inner is_within word.Ifnot first
-    × (NoneInside is_inner s × ((all_kept x ≡ true) × (AreParts answers true x (declared_first first declared) within × (kept_sides answers x within ≡ []))))
-IsBegun answers is_within s declared (Closes is_inner first within) =
+    (HashesBefore is_inner s hashes first × IsFirst (all_kept s) is_inner is_within word.Ifnot first)
+    × (NoneInside is_inner s × ((all_kept x ≡ true) × (AreParts answers true x (declared_first first (declared_tokens hashes declared)) within × (kept_sides answers x within ≡ []))))
+IsBegun answers is_within s declared (Closes is_inner hashes first within) =
     let x = before_parts closed s in
-    IsFirst (all_kept s) is_inner is_within word.Endif first
-    × (NoneInside is_inner s × ((all_kept x ≡ true) × (AreParts answers true x (declared_first first declared) within × (kept_sides answers x within ≡ []))))
+    (HashesBefore is_inner s hashes first × IsFirst (all_kept s) is_inner is_within word.Endif first)
+    × (NoneInside is_inner s × ((all_kept x ≡ true) × (AreParts answers true x (declared_first first (declared_tokens hashes declared)) within × (kept_sides answers x within ≡ []))))
 
 IsBegun answers is_within s declared (Fronting sign within) =
     Begins true false is_within (Some sign) sign
@@ -163,8 +172,8 @@ IsCutBy answers s (Unnamed is_inner if_declared first before) t = t.token.kind �
 IsCutBy answers s (Named is_inner if_declared first before name behind) t = is_mark mark.Semicolon t.token.kind ≡ false
 IsCutBy answers s (Asked is_inner wanted first within) t =
     fits grammar known (atom_of t.token) (condition_so first (kept_sides answers s within)).stack ≡ false
-IsCutBy answers s (Turns is_inner first within) t = is_mark mark.Semicolon t.token.kind ≡ false
-IsCutBy answers s (Closes is_inner first within) t = is_mark mark.Semicolon t.token.kind ≡ false
+IsCutBy answers s (Turns is_inner hashes first within) t = is_mark mark.Semicolon t.token.kind ≡ false
+IsCutBy answers s (Closes is_inner hashes first within) t = is_mark mark.Semicolon t.token.kind ≡ false
 
 IsCutBy answers s (Fronting sign within) t = ⊥
 
