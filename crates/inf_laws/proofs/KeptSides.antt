@@ -35,7 +35,7 @@ use Rattle.inf_conditionals.specs.Judging.{Behind, at_front, asking as asking_on
 use Rattle.inf_conditionals.specs.Open.{Conditions, ended_by, is_second, latest_among, levels_behind, most_levels, silent, turned_first}
 use Rattle.inf_conditionals.specs.Words.{word_of}
 use Rattle.inf_reader.specs.Handing.{hash}
-use Rattle.inf_laws.specs.KeptSides.{AddsNone, Answers, AreParts, AreTaken, Around, Asking, At, Before, Begins, Closing, First, Follows, Fronted, GoesOn, Handing, IsAsked, IsCondition, IsFirst, IsName, IsPart, IsPlain, IsSemicolon, IsSign, IsSignedPlain, NoneInside, NoneInsideBehind, NoParts, OneSideIsKept, Open, Opening, Part, Parts, Passed, Plain, Signed, StayAs, Then, Turning, acted, acting, all_behind, all_handed_on, all_kept, all_told, all_tokens, among, are_kept, as_kept, asking, asking_parts, before_parts, begins, begins_at, behind_name, behind_part, behind_parts, closed, condition_behind, declared_behind, declared_first, declared_sign, declared_tokens, ended_behind, ended_in, ended_places, first_side, first_sign, first_tokens, going_on, handed_on, judged_at, kept_of, kept_sides, lone_at, lone_places, missing_in, none_around, opened_more, opening, opening_parts, other_side, part_tokens, passed_by as word_passed, placed_word, places, seconds, signed_tokens, told_of, told_parts, turned, unended, whole_condition}
+use Rattle.inf_laws.specs.KeptSides.{AddsNone, Answers, AreParts, AreTaken, Around, Asking, At, Before, Begins, Closing, First, Follows, Fronted, FrontedWord, GoesOn, Handing, IsAsked, IsCondition, IsFirst, IsName, IsPart, IsPlain, IsSemicolon, IsSign, IsSignedPlain, NoneInside, NoneInsideBehind, NoParts, OneSideIsKept, Open, Opening, Part, Parts, Passed, Plain, Signed, StayAs, Then, Turning, acted, acting, all_behind, all_handed_on, all_kept, all_told, all_tokens, among, are_kept, as_kept, asking, asking_parts, before_parts, begins, begins_at, behind_name, behind_part, behind_parts, closed, condition_behind, declared_behind, declared_first, declared_sign, declared_tokens, ended_behind, ended_in, ended_places, first_side, first_sign, first_tokens, going_on, handed_on, judged_at, kept_of, kept_sides, lone_at, lone_places, missing_in, none_around, opened_more, opening, opening_parts, other_side, part_tokens, passed_by as word_passed, placed_word, places, seconds, signed_tokens, told_of, told_parts, turned, unended, whole_condition}
 use Rattle.inf_laws.specs.LoneEnds.{is_lone}
 use Rattle.inf_laws.specs.MissingEnds.{with_all_at}
 use Rattle.inf_laws.specs.Sides.{ends_side, level_behind}
@@ -1683,6 +1683,7 @@ begins_with (Plain t) next e = cc
 begins_with (Signed is_inner sign t) next e = signed_begins (Some sign) next (t ∷ []) e
 begins_with (Before is_inner sign part) next e = signed_begins (Some sign) next (part_tokens part) e
 begins_with (Fronted sign parts t) next e = signed_begins (Some sign) next (all_tokens parts ++ t ∷ []) e
+begins_with (FrontedWord sign parts part) next e = signed_begins (Some sign) next (all_tokens parts ++ drop 1 (part_tokens part)) e
 begins_with (Opening is_inner if_declared first before name behind end) next e =
     signed_begins first.sign next (first.word ∷ (all_tokens before ++ name ∷ (all_tokens behind ++ end ∷ []))) e
 begins_with (Asking is_inner wanted first parts end) next e = signed_begins first.sign next (first.word ∷ (all_tokens parts ++ end ∷ [])) e
@@ -1834,6 +1835,84 @@ fronted_leads d sign parts t leads Hands (AllStay [] between si sb) declared n v
     (front_kept place t after i b l.declared are.1.1.1.1)
     (ended_stands Hands t.ended (AllStay l.around.inside l.around.between bi bb) l.declared m v after holds waits_so (omega arith))
     (ended_told t.ended (AllStay l.around.inside l.around.between bi bb) l.declared after))))
+
+-- What is led behind a `#` is so from where that is held back.
+pub behind_sign_led : (r : Reader) (sign : At) (all : List At) (c now then : Conditions) (tokens : List Spelled) (places : List Place) (last : Last) → judged_at sign c ≡ passed now
+    → (ended_behind sign.ended (silent now) ≡ then) × (ended_places sign.ended now.inner ≡ []) → Led r (sign ∷ all) c tokens places last → Led r all then tokens places last
+behind_sign_led r sign all c now then tokens places last e both is = record {
+  hands =
+      sym
+      (ap (λ (b : Behind). handed_on b.judged sign.token ++ all_handed_on all (ended_behind sign.ended (silent b.now))) e ∙ ap (all_handed_on all) both.0)
+      ∙ is.hands;
+  tells =
+      sym
+      (ap (λ (b : Behind). lone_places b.judged.lone ++ (ended_places sign.ended b.now.inner ++ all_told all (ended_behind sign.ended (silent b.now)))) e
+      ∙ ap (λ x. ended_places sign.ended now.inner ++ all_told all x) both.0
+      ∙ ap (λ ps. ps ++ all_told all then) both.1)
+      ∙ is.tells;
+  ends = subst (λ (x : Conditions). StandsAt (read_on tokens r) last (all_behind all x)) (ap (λ (b : Behind). ended_behind sign.ended (silent b.now)) e ∙ both.0) is.ends;
+}
+
+-- where it begins a directive
+pub front_led : (r : Reader) (sign : At) (all : List At) (c : Conditions) (inner among : List Conditional) (declared : ℕ) (tokens : List Spelled) (places : List Place) (last : Last) → c.pending ≡ []
+    → sign.site.is_between ≡ true → is_mark mark.Hash sign.token.kind ≡ true → sign.ended ≡ None
+    → Led r (sign ∷ all) (at c inner among None declared) tokens places last → Led r all (reading false sign.token.place awaits.Word c inner among declared) tokens places last
+front_led r sign all c inner among declared tokens places last none front hash goes is =
+    let held_so = reading false sign.token.place awaits.Word c inner among declared in
+    behind_sign_led r sign all (at c inner among None declared) held_so held_so tokens places last (sign_kept sign c inner among declared (outer_front sign c none front) hash)
+    (ap (λ e. ended_behind e held_so) goes, ap (λ e. ended_places e inner) goes) is
+
+word_leads : (d : Answers) (sign : At) (parts : Parts) (part : Part) → Leads d parts → PartLeads d part → StandLeads d (FrontedWord sign parts part)
+word_leads d sign parts part leads leads_part (Reads p others ks) st declared n v c holds waits few_st are takes few = absurd are.1.0
+word_leads d sign parts part leads leads_part Hands (AllStay (y ∷ inside) between si sb) declared n v c holds waits few_st are takes few = absurd (some_open [] y inside are.1.1.0)
+word_leads d sign parts part leads leads_part Hands (InnerLeft deep x inside between left si sb) declared n v c holds waits few_st are takes few = absurd (some_open deep x inside are.1.1.0)
+word_leads d sign parts part leads leads_part Hands (OuterLeft deep x between left sb) declared n v c holds waits few_st are takes few =
+    absurd (let never : true ≡ false = sym are.0 ∙ not_kept deep x between left in cc)
+word_leads d sign parts part leads leads_part Hands (AllStay [] between si sb) declared n v c holds waits few_st are takes few =
+    let s : Around = record { inside = []; between = between } in
+    let among = conditionals between in
+    let here = at c [] among None declared in
+    let place = sign.token.place in
+    let now = declared_behind sign declared in
+    let ks = c.conditions in
+    let p = directive false place awaits.Word in
+    let adds = are.1.1.1.0.1 in
+    let goes = are.1.1.1.1.0.1 in
+    let tokens = kept_sides d s parts in
+    let l = last_behind d parts s now n v in
+    let last = last_part d part l.around l.declared l.levels v in
+    let last_so = last_part d (FrontedWord sign parts part) s declared n v in
+    let more = begins_with part sign are.1.1.1.1.0.0 in
+    let rest = drop 1 (part_tokens part) in
+    let is_rest : part_tokens part ≡ sign ∷ rest = more.1 ∙ ap (λ ts. sign ∷ drop 1 ts) (sym more.1) in
+    let toks = sign ∷ (all_tokens parts ++ rest) in
+    let told_part = told_of d part l.around in
+    let places = told_parts d s parts ++ told_part in
+    let sum = length_both (all_tokens parts) rest in
+    let sum_part = ap (λ ts. length ts) is_rest in
+    let start = reading false place awaits.Word c [] among now in
+    let declared_so : last.declared ≡ declared_tokens toks declared =
+    ap (λ ts. declared_tokens ts l.declared) is_rest ∙ ap (λ e. declared_tokens rest (unwrap_or e l.declared)) goes ∙ sym (declared_both (all_tokens parts) rest now) in
+    relaxed Hands toks here [] places last.around last.declared (declared_tokens toks declared) last.levels (n + length toks) v declared_so (omega (arith, sum, sum_part))
+    (goes_by Hands sign (all_tokens parts ++ rest) here (reading false place awaits.Word c [] among declared) start [] places last
+    (sign_kept sign c [] among declared (outer_front sign c holds are.1.0.0) are.1.0.1.is)
+    (mid false sign (awaits_it false place awaits.Word c) None [] among None declared tt (λ _. (refl, refl)))
+    (within_led d parts leads Hands rest false place awaits.Word c ks ks s now n v start told_part last
+    (record { base = awaits_it false place awaits.Word c; stand = AllStay [] between si sb; holds = (refl, refl); waits = waits; is = refl; stack = refl; few = omega arith })
+    are.0 are.1.1.1.0.0 adds.0 (takes_none tokens (Reads p c.pending ks) adds.1) (reads_none tokens (Reads p c.pending ks) adds.1) (omega (arith, few, sum))
+    (λ base waits_so bi bb.
+    let after = record base { pending = c.pending; conditions = ks } in
+    let i = conditionals l.around.inside in
+    let b = conditionals l.around.between in
+    let there = at after i b None l.declared in
+    let kept_so = kept_of part l.around in
+    let none_kept = are.1.1.1.1.1.0 in
+    let is : Led Hands (part_tokens part) there kept_so told_part last =
+    leads_part Hands l.around l.declared l.levels v there
+    (record { base = after; stand = AllStay l.around.inside l.around.between bi bb; holds = holds; waits = waits_so; is = refl; stack = refl; few = omega arith })
+    are.1.1.1.1.1.1 (all_taken kept_so) (omega (arith, few, sum, sum_part)) in
+    front_led Hands sign rest after i b l.declared [] told_part last holds are.1.0.0 are.1.0.1.is goes
+    (subst (λ ts. Led Hands ts there [] told_part last) is_rest (subst (λ ks. Led Hands (part_tokens part) there ks told_part last) none_kept is)))))
 
 -- Directives
 
@@ -2322,6 +2401,7 @@ mutual
   part_led d (Signed is_inner sign t) = part_from d (Signed is_inner sign t) (signed_leads d is_inner sign t)
   part_led d (Before is_inner sign part) = part_from d (Before is_inner sign part) (before_leads d is_inner sign part (part_led d part))
   part_led d (Fronted sign parts t) = part_from d (Fronted sign parts t) (fronted_leads d sign parts t (led d parts))
+  part_led d (FrontedWord sign parts part) = part_from d (FrontedWord sign parts part) (word_leads d sign parts part (led d parts) (part_led d part))
   part_led d (Opening is_inner if_declared first before name behind end) =
       part_from d (Opening is_inner if_declared first before name behind end) (opening_leads d is_inner if_declared first before name behind end (led d before) (led d behind))
   part_led d (Asking is_inner wanted first parts end) = part_from d (Asking is_inner wanted first parts end) (asking_leads d is_inner wanted first parts end (led d parts))

@@ -120,7 +120,7 @@ abbrev pub first_tokens : First → List At → List At
 first_tokens first tokens = signed_tokens first.sign (first.word ∷ tokens)
 
 -- A token that belongs to no conditional directive, alone or behind a `#`; a `#` before another one, with which a part begins; a `#` that
--- begins a directive, with parts before the next token of that; a directive with a name, which opens a conditional, where the name is
+-- begins a directive, with parts before the next token of that, or before the word of a conditional one, which is given with the same `#`; a directive with a name, which opens a conditional, where the name is
 -- to be declared or not, and one with a condition, which is to be true or not; and an `Ifnot` and an `Endif`, each with its semicolon. A directive
 -- stands inside another one or between the others, and parts stand between the tokens of a conditional one: before and behind its name, among
 -- those of its condition, and before its semicolon. In a side that is left out the word of a directive may stand alone, whatever comes behind it.
@@ -130,6 +130,7 @@ mutual
     Signed : (is_inner : Bool) (sign token : At) → Part
     Before : (is_inner : Bool) (sign : At) (part : Part) → Part
     Fronted : (sign : At) (within : Parts) (token : At) → Part
+    FrontedWord : (sign : At) (within : Parts) (part : Part) → Part
     Opening : (is_inner if_declared : Bool) (first : First) (before : Parts) (name : At) (behind : Parts) (end : At) → Part
     Asking : (is_inner wanted : Bool) (first : First) (within : Parts) (end : At) → Part
     Turning : (is_inner : Bool) (first : First) (within : Parts) (end : At) → Part
@@ -146,6 +147,7 @@ abbrev mutual
   part_tokens (Signed is_inner sign t) = sign ∷ t ∷ []
   part_tokens (Before is_inner sign part) = sign ∷ part_tokens part
   part_tokens (Fronted sign within t) = sign ∷ (all_tokens within ++ t ∷ [])
+  part_tokens (FrontedWord sign within part) = sign ∷ (all_tokens within ++ drop 1 (part_tokens part))
   part_tokens (Opening is_inner if_declared first before name behind end) =
       first_tokens first (all_tokens before ++ name ∷ (all_tokens behind ++ end ∷ []))
   part_tokens (Asking is_inner wanted first within end) = first_tokens first (all_tokens within ++ end ∷ [])
@@ -277,6 +279,7 @@ abbrev mutual
   behind_part answers (Signed is_inner sign t) s = ended_in t.ended s
   behind_part answers (Before is_inner sign part) s = behind_part answers part s
   behind_part answers (Fronted sign within t) s = ended_in t.ended (behind_parts answers s within)
+  behind_part answers (FrontedWord sign within part) s = behind_part answers part (behind_parts answers s within)
   behind_part answers (Opening is_inner if_declared first before name behind end) s =
       ended_in end.ended
       (acted (opened_more is_inner (first_side first if_declared (answers.is_declared name)))
@@ -339,6 +342,7 @@ abbrev mutual
   told_of answers (Signed is_inner sign t) s = missing_in t.ended s
   told_of answers (Before is_inner sign part) s = told_of answers part s
   told_of answers (Fronted sign within t) s = told_parts answers s within ++ missing_in t.ended (behind_parts answers s within)
+  told_of answers (FrontedWord sign within part) s = told_parts answers s within ++ told_of answers part (behind_parts answers s within)
   told_of answers (Opening is_inner if_declared first before name behind end) s =
       let act : Around → Around = opened_more is_inner (first_side first if_declared (answers.is_declared name)) in
       let x = opening_parts answers is_inner if_declared first name s in
@@ -406,6 +410,7 @@ first_sign (Plain t) = None
 first_sign (Signed is_inner sign t) = Some sign
 first_sign (Before is_inner sign part) = Some sign
 first_sign (Fronted sign within t) = Some sign
+first_sign (FrontedWord sign within part) = Some sign
 first_sign (Opening is_inner if_declared first before name behind end) = first.sign
 first_sign (Asking is_inner wanted first within end) = first.sign
 first_sign (Turning is_inner first within end) = first.sign
@@ -490,6 +495,15 @@ abbrev mutual
       (all_kept s ≡ true)
       × (Begins true false is_within (Some sign) sign
       × (NoneInside false s × ((AreParts answers true s (declared_behind sign declared) within × AddsNone answers s within) × IsSignedPlain t)))
+  IsPart answers is_within s declared (FrontedWord sign within part) =
+      let x = behind_parts answers s within in
+      let now = declared_behind sign declared in
+      (all_kept s ≡ true)
+      × (Begins true false is_within (Some sign) sign
+      × (NoneInside false s
+      × ((AreParts answers true s now within × AddsNone answers s within)
+      × (((first_sign part ≡ Some sign) × (sign.ended ≡ None))
+      × ((kept_of part x ≡ []) × IsPart answers is_within x (declared_tokens (all_tokens within) now) part)))))
   IsPart answers is_within s declared (Opening is_inner if_declared first before name behind end) =
       let x = opening_parts answers is_inner if_declared first name s in
       let y = behind_name answers before name x in
