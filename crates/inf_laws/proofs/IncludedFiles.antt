@@ -28,13 +28,13 @@ use Rattle.inf_session.specs.Choices.{Choices}
 use Rattle.inf_session.specs.Session.{State, answered, asked_nothing, heeded, included_by, left, left_by, file_closed, none_included, stand_of, stepped, token_of, turn}
 use Rattle.inf_laws.specs.IncludedFiles.{Alone, AreFiles, AreOfAFile, Breaking, Cut, CutHashLast, CutHashThen, CutHashesLeft, Enters, Files, FilesKeepSides, FilesTellUnended, HashLast, HashThen, HashesLeft, Including, Leaves, Stays, Step, TurnsKeepFiles, all_unended, around_behind, around_broken, around_included, asked_passage, behind_files, end_handed, end_sign, first_step, handed_by, handed_end, handed_files, opens, passage, passed_files, released, sign_as, staying, step_at, step_behind, steps, steps_at, steps_behind, told_at, told_behind, told_by, told_files}
 use Rattle.inf_laws.specs.KeptSides.{Answers, Around, At, Follows, Handing, IsClear, IsPlain, IsSign, NoneInside, Parts, all_behind, all_handed_on, all_kept, all_tokens, all_told, are_kept, as_kept, behind_parts, declared_behind, declared_tokens, ended_behind, ended_in, ended_places, going_on, handed_as, handed_on, handed_sign, handed_token, judged_at, kept_sides, lone_places, missing_in, none_around, places, told_parts, unended}
-use Rattle.inf_laws.specs.Unfinished.{AreHashes, Asked as HasAsked, Bare, Closes, Fronting, Hashed, HaveBegun, IsMisfit, Misfit, Named, Turns, Unfinished, Unnamed, all_begun_tokens, as_unfit, begun_handed, begun_sign, behind_all_begun, behind_misfit, handed_misfit, misfit_tokens, told_all_begun, told_misfit}
+use Rattle.inf_laws.specs.Unfinished.{AreHashes, Asked as HasAsked, Bare, Closes, Fronting, FrontingWord, HasWord, Hashed, HaveBegun, IsMisfit, Misfit, Named, Turns, Unfinished, Unnamed, all_begun_tokens, as_unfit, begun_handed, begun_sign, behind_all_begun, behind_misfit, handed_misfit, misfit_tokens, told_all_begun, told_misfit}
 use Rattle.inf_laws.specs.KeptTurns.{given_by, given_in, turned}
 use Rattle.inf_laws.specs.MissingEnds.{with_all_at}
 use Rattle.inf_laws.specs.SideTurns.{at_turn, ends_there, shown}
 use Rattle.inf_laws.proofs.KeptSides.{AllStay, CalmLeft, Hands, InnerLeft, Last, OuterLeft, Reader, Reads, Stands, StandsAt, all_handed, all_taken, among_of, are_open, at, calm_at, conditionals, end_is_no_hash, end_kept_so, end_word, ended_told, hands_on, hash_freed, inner_not_kept, inner_of, kept_at, last_at, led, left_at, mid, not_kept, outer, plain_kept, sign_inner, sign_left, stack_of, stands_at, state, told_both, told_places, with_sign}
 use Rattle.inf_laws.proofs.MissingEnds.{told_at as told_each}
-use Rattle.inf_laws.proofs.Unfinished.{AllBegun, EndCuts, all_begun_led, cut_kept, end_cuts, front_end_kept, front_there, given_up_at, left_so, sign_cut, sign_cut_so, unfit_end, unfit_there}
+use Rattle.inf_laws.proofs.Unfinished.{AllBegun, all_begun_led, cut_kept, end_cuts, front_end_kept, front_there, given_up_at, left_so, sign_cut, sign_cut_so, unfit_end, unfit_there}
 use Rattle.inf_laws.proofs.SideTurns.{all_shown, rested_conditions}
 
 -- Steps one after the other
@@ -229,7 +229,7 @@ ends_kept last c e = record {
 }
 
 -- in the midst of a directive
-ends_unfit : (d : Answers) (outer : List Unfinished) (u : Unfinished) (s : Around) (last : Last) (toks : List At) (alone : List Place) (c : Conditions) → EndCuts u → AllBegun d outer u s last toks alone c
+ends_unfit : (d : Answers) (outer : List Unfinished) (u : Unfinished) (s : Around) (last : Last) (toks : List At) (alone : List Place) (c : Conditions) → HasWord u → AllBegun d outer u s last toks alone c
     → EndsAs None handed.Unfit last.around last.waiting (all_behind toks c)
 ends_unfit d outer u s last toks alone c so b =
     let e = b.led.ends in
@@ -252,6 +252,7 @@ ends_cut d outer (Named is_inner if_declared first before name behind) s last to
 ends_cut d outer (HasAsked is_inner wanted first parts) s last toks alone c b = ends_unfit d outer (HasAsked is_inner wanted first parts) s last toks alone c tt b
 ends_cut d outer (Turns is_inner hashes first parts) s last toks alone c b = ends_unfit d outer (Turns is_inner hashes first parts) s last toks alone c tt b
 ends_cut d outer (Closes is_inner hashes first parts) s last toks alone c b = ends_unfit d outer (Closes is_inner hashes first parts) s last toks alone c tt b
+ends_cut d outer (FrontingWord sign parts u) s last toks alone c b = ends_unfit d outer (FrontingWord sign parts u) s last toks alone c b.alone b
 ends_cut d outer (Fronting sign parts) s last toks alone c b =
     let e = b.led.ends in
     record {
@@ -542,7 +543,7 @@ left_ends r last c is_inner signs o h e left none are few free none_read waits o
       };
     }
 
-cut_left_unfit : (d : Answers) (outer : List Unfinished) (u : Unfinished) (s : Around) (last : Last) (toks : List At) (alone : List Place) (c : Conditions) (is_inner : Bool) (signs : List At) → EndCuts u → AllBegun d outer u s last toks alone c
+cut_left_unfit : (d : Answers) (outer : List Unfinished) (u : Unfinished) (s : Around) (last : Last) (toks : List At) (alone : List Place) (c : Conditions) (is_inner : Bool) (signs : List At) → HasWord u → AllBegun d outer u s last toks alone c
     → all_kept last.around ≡ false → NoneInside is_inner last.around → AreHashes is_inner signs → last.levels + length signs ≤ most_levels
     → LeftEnds None handed.Unfit last.around last.waiting signs (all_behind toks c)
 cut_left_unfit d outer u s last toks alone c is_inner signs so b left none are few =
@@ -563,6 +564,8 @@ cut_left d outer (Turns i hashes first parts) s last toks alone c is_inner signs
     cut_left_unfit d outer (Turns i hashes first parts) s last toks alone c is_inner signs tt b left none are few
 cut_left d outer (Closes i hashes first parts) s last toks alone c is_inner signs b left none are few =
     cut_left_unfit d outer (Closes i hashes first parts) s last toks alone c is_inner signs tt b left none are few
+cut_left d outer (FrontingWord sign parts u) s last toks alone c is_inner signs b left none are few =
+    cut_left_unfit d outer (FrontingWord sign parts u) s last toks alone c is_inner signs b.alone b left none are few
 cut_left d outer (Fronting sign parts) s last toks alone c is_inner signs b left none are few =
     let e = b.led.ends in
     left_ends (Reads b.p b.others b.ks) last (all_behind toks c) is_inner signs (begun_sign (Fronting sign parts)) handed.Kept e left none are few (record e.base { pending = [] }) refl e.waits
@@ -577,6 +580,7 @@ begun_is_handed (HasAsked is_inner wanted first parts) end = refl
 begun_is_handed (Turns is_inner hashes first parts) end = refl
 begun_is_handed (Closes is_inner hashes first parts) end = refl
 begun_is_handed (Fronting sign parts) end = refl
+begun_is_handed (FrontingWord sign parts u) end = refl
 
 end_is_handed : (f : Files) (end : At) → handed_as (end_handed f) end.token ≡ record { handed = end_handed f; token = end.token } ∷ []
 end_is_handed (Alone parts) end = refl

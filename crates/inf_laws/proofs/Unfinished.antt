@@ -1,5 +1,5 @@
 -- Conditional directives that are not whole.
-use Rattle.std.proofs.Common.{◌≡◌, ℕ, zero, suc, ◌+◌, ◌≤◌, List, [], ◌∷◌, ◌++◌, length, cond, ◌&&◌, Bool, true, false, Option, Some, None, unwrap_or, refl, sym, ap, subst, ◌∙◌, append_assoc, arith}
+use Rattle.std.proofs.Common.{◌≡◌, ℕ, zero, suc, ◌+◌, ◌≤◌, List, [], ◌∷◌, ◌++◌, drop, length, cond, ◌&&◌, Bool, true, false, Option, Some, None, unwrap_or, refl, sym, ap, subst, ◌∙◌, append_assoc, arith}
 use Rattle.std.proofs.Math.Bool.{and-false}
 use Rattle.std.proofs.lemmas.List.{append-nil}
 use Rattle.inf_output.specs.Output.{Out}
@@ -27,9 +27,9 @@ use Rattle.inf_conditionals.specs.Words.{word_of}
 use Rattle.inf_conditionals.specs.declared.open.LeftOut.{LeftOut}
 use Rattle.inf_conditionals.proofs.Misfits.{end_fits_nothing}
 use Rattle.inf_laws.specs.KeptSides.{Answers, AreParts, Around, At, First, Follows, IsFirst, IsSignedPlain, NoneInside, Parts, all_behind, all_handed_on, all_kept, all_tokens, all_told, are_kept, asking, begins, behind_name, behind_parts, closed, declared_behind, declared_first, declared_tokens, ended_behind, first_tokens, judged_at, kept_sides, missing_in, opening, placed_word, signed_tokens, told_parts, turned}
-use Rattle.inf_laws.specs.Unfinished.{Asked, AreBegun, AreCutBy, AreHashes, Closes, Fronting, GoOn, HashesBefore, IsBegun, IsCutBy, Named, Turns, Unfinished, Unnamed, all_begun_tokens, behind_all_begun, behind_begun, begun_tokens, condition_so, told_all_begun, told_begun}
+use Rattle.inf_laws.specs.Unfinished.{Asked, AreBegun, AreCutBy, AreHashes, Closes, Fronting, FrontingWord, GoOn, HasWord, HashesBefore, IsBegun, IsCutBy, Named, Turns, Unfinished, Unnamed, all_begun_tokens, behind_all_begun, behind_begun, begun_tokens, condition_so, told_all_begun, told_begun}
 use Rattle.inf_laws.proofs.AskingWords.{asking_fits}
-use Rattle.inf_laws.proofs.KeptSides.{AllStay, CalmLeft, Hands, Holds, InnerLeft, Last, Led, LeftLed, OuterLeft, Reader, Reads, Stands, StandsAt, TakesAll, among_of, at, awaits_it, begins_kept, begun_asking, begun_opening, behind_both, both_kept, calm_at, calm_open, closes_left, conditionals, declared_behind_first, declared_both, directive, end_is_no_hash, end_word, ended_stands, ended_told, fewer, goes_by, hands_both, inner_not_kept, inner_of, last_at, last_behind, led, left_at, left_of, length_both, levels_of, mid, name_kept, none_open, not_kept, nothing_handed, outer_front, passes, read_condition, read_on, reading, reads_none, relaxed, same_first, sign_inner, sign_kept, sign_left, some_open, stack_of, stands_at, state, takes_none, tells_both, turns_left, with_condition, within, within_led}
+use Rattle.inf_laws.proofs.KeptSides.{AllStay, CalmLeft, Hands, Holds, InnerLeft, Last, Led, LeftLed, OuterLeft, Reader, Reads, Stands, StandsAt, TakesAll, among_of, at, awaits_it, begins_kept, begun_asking, begun_opening, behind_both, both_kept, calm_at, calm_open, closes_left, conditionals, declared_behind_first, declared_both, directive, end_is_no_hash, end_word, ended_stands, ended_told, fewer, front_led, goes_by, hands_both, inner_not_kept, inner_of, kept_at, last_at, last_behind, led, left_at, left_of, length_both, levels_of, mid, name_kept, none_open, not_kept, nothing_handed, outer_front, passes, read_condition, read_on, reading, reads_none, relaxed, same_first, sign_inner, sign_kept, sign_left, some_open, stack_of, stands_at, state, takes_none, tells_both, turns_left, with_condition, within, within_led}
 
 -- what the innermost one waits for
 abbrev IsAwaited : Unfinished → Awaits → Type 0
@@ -39,15 +39,18 @@ IsAwaited (Asked is_inner wanted first parts) a = a ≡ awaits.Condition wanted
 IsAwaited (Turns is_inner hashes first parts) a = (e : Effect) × (a ≡ awaits.End e)
 IsAwaited (Closes is_inner hashes first parts) a = (e : Effect) × (a ≡ awaits.End e)
 IsAwaited (Fronting sign parts) a = a ≡ awaits.Word
+IsAwaited (FrontingWord sign parts u) a = IsAwaited u a
 
 -- no other one stands around that with which it begins
 abbrev pub IsAlone : Unfinished → Pending → List Pending → Type 0
 IsAlone (Fronting sign parts) p others = (p ≡ directive false sign.token.place awaits.Word) × (others ≡ [])
+IsAlone (FrontingWord sign parts u) p others = HasWord u
 IsAlone u p others = Unit {0}
 
 -- and its condition
 abbrev HasCondition : Answers → Around → Unfinished → List Condition → Type 0
 HasCondition d s (Asked is_inner wanted first parts) ks = (others : List Condition) × (ks ≡ condition_so first (kept_sides d s parts) ∷ others)
+HasCondition d s (FrontingWord sign parts u) ks = HasCondition d (behind_parts d s parts) u ks
 HasCondition d s u ks = Unit {0}
 
 abbrev begun_last : Answers → Unfinished → Around → ℕ → ℕ → List (List Conditional) → Last
@@ -308,6 +311,42 @@ ending_behind w act eff begins_so left_word d parts r is_inner (t ∷ hashes) fi
       waits_for = is.waits_for;
     }
 
+-- a `#` that begins a directive
+front_begun : (d : Answers) (sign : At) (parts : Parts) (s : Around) (declared n : ℕ) (v : List (List Conditional)) (c : Conditions) → StandsAt Hands (last_at s declared n v) c → IsBegun d false s declared (Fronting sign parts)
+    → n + length (sign ∷ all_tokens parts) ≤ most_levels
+    → Begun d (Fronting sign parts) s (last_behind d parts s (declared_behind sign declared) n v) (sign ∷ all_tokens parts) (told_parts d s parts) c
+front_begun d sign parts s declared n v c e are few =
+    let k = kept_so Hands (last_at s declared n v) c e are.1.1.0 in
+    let base = k.base in
+    let inner = conditionals s.inside in
+    let among = conditionals s.between in
+    let place = sign.token.place in
+    let now = declared_behind sign declared in
+    let p = directive false place awaits.Word in
+    let q = Reads p base.pending base.conditions in
+    let tokens = kept_sides d s parts in
+    let none_kept = are.1.1.1.1 in
+    let toks = sign ∷ all_tokens parts in
+    let l = last_behind d parts s now n v in
+    let here = at base inner among None declared in
+    let start = reading false place awaits.Word base inner among now in
+    let places = told_parts d s parts in
+    record {
+      p = p;
+      others = base.pending;
+      ks = base.conditions;
+      led = subst (λ (x : Conditions). Led q toks x [] places l) (sym k.is)
+          (goes_by q sign (all_tokens parts) here (reading false place awaits.Word base inner among declared) start [] places l
+          (sign_kept sign base inner among declared (outer_front sign base k.holds are.0.0) are.0.1.is)
+          (mid false sign (awaits_it false place awaits.Word base) None inner among None declared tt (λ _. (ap conditionals are.1.0, refl)))
+          (parts_read d parts p base.pending base.conditions base.conditions s now n v start
+          (record { base = awaits_it false place awaits.Word base; stand = AllStay s.inside s.between k.inside_kept k.between_kept; holds = (refl, refl); waits = k.waits; is = refl; stack = refl; few = omega arith })
+          are.1.1.1.0 (takes_none tokens q none_kept) (reads_none tokens q none_kept) (omega (arith, few))));
+      waits_for = refl;
+      condition = tt;
+      alone = (refl, k.holds);
+    }
+
 -- Any of them
 
 begun_led : (d : Answers) (u : Unfinished) (r : Reader) (s : Around) (declared n : ℕ) (v : List (List Conditional)) (c : Conditions) → StandsAt r (last_at s declared n v) c → IsBegun d (within r) s declared u
@@ -417,36 +456,66 @@ begun_led d (Closes is_inner hashes first parts) r s declared n v c e are few =
 
 begun_led d (Fronting sign parts) (Reads p others ks) s declared n v c e are few = absurd are.0
 begun_led d (Fronting sign parts) Hands s declared n v c e are few =
-    let k = kept_so Hands (last_at s declared n v) c e are.1.1.0 in
-    let base = k.base in
-    let inner = conditionals s.inside in
-    let among = conditionals s.between in
-    let place = sign.token.place in
-    let now = declared_behind sign declared in
-    let p = directive false place awaits.Word in
-    let q = Reads p base.pending base.conditions in
-    let tokens = kept_sides d s parts in
-    let none_kept = are.1.1.1.1 in
+    let is = front_begun d sign parts s declared n v c e are few in
+    let l = last_behind d parts s (declared_behind sign declared) n v in
     let toks = sign ∷ all_tokens parts in
-    let l = last_behind d parts s now n v in
-    let here = at base inner among None declared in
-    let start = reading false place awaits.Word base inner among now in
-    let places = told_parts d s parts in
     record {
-      p = p;
-      others = base.pending;
-      ks = base.conditions;
-      led = subst (λ (x : Conditions). Led q toks x [] places (last_at l.around (declared_tokens toks declared) (n + length toks) v)) (sym k.is)
-          (relaxed q toks here [] places l.around l.declared (declared_tokens toks declared) l.levels (n + length toks) v refl (omega arith)
-          (goes_by q sign (all_tokens parts) here (reading false place awaits.Word base inner among declared) start [] places l
-          (sign_kept sign base inner among declared (outer_front sign base k.holds are.0.0) are.0.1.is)
-          (mid false sign (awaits_it false place awaits.Word base) None inner among None declared tt (λ _. (ap conditionals are.1.0, refl)))
-          (parts_read d parts p base.pending base.conditions base.conditions s now n v start
-          (record { base = awaits_it false place awaits.Word base; stand = AllStay s.inside s.between k.inside_kept k.between_kept; holds = (refl, refl); waits = k.waits; is = refl; stack = refl; few = omega arith })
-          are.1.1.1.0 (takes_none tokens q none_kept) (reads_none tokens q none_kept) (omega (arith, few)))));
-      waits_for = refl;
+      p = is.p;
+      others = is.others;
+      ks = is.ks;
+      led = relaxed (Reads is.p is.others is.ks) toks c [] (told_parts d s parts) l.around l.declared (declared_tokens toks declared) l.levels (n + length toks) v refl (omega arith) is.led;
+      waits_for = is.waits_for;
       condition = tt;
-      alone = (refl, k.holds);
+      alone = is.alone;
+    }
+begun_led d (FrontingWord sign parts u) (Reads p others ks) s declared n v c e are few = absurd are.0
+begun_led d (FrontingWord sign parts u) Hands s declared n v c e are few =
+    let toks = sign ∷ all_tokens parts in
+    let rest = drop 1 (begun_tokens u) in
+    let is_rest = are.1.1.1.1.0.0 in
+    let goes = are.1.1.1.1.0.1 in
+    let adds = are.1.1.1.0.1 in
+    let sum = length_both (all_tokens parts) rest in
+    let sum_u = ap (λ ts. length ts) is_rest in
+    let first = front_begun d sign parts s declared n v c e (are.0, (are.1.0, (are.1.1.0, (are.1.1.1.0.0, adds.1)))) (omega (arith, few, sum)) in
+    let l = last_behind d parts s (declared_behind sign declared) n v in
+    let there = all_behind toks c in
+    let k = kept_at first.p first.others first.ks l there first.led.ends (adds.0 ∙ are.1.1.0) in
+    let inner = conditionals l.around.inside in
+    let among = conditionals l.around.between in
+    let place = sign.token.place in
+    let base = record k.base { pending = []; conditions = first.ks } in
+    let p = directive false place awaits.Word in
+    let is_there : there ≡ reading false place awaits.Word base inner among l.declared =
+    k.is
+    ∙ ap (λ ps. at (record k.base { pending = ps; conditions = first.ks }) inner among None l.declared)
+    (ap (λ x. x ∷ first.others) first.alone.0 ∙ ap (λ others. p ∷ others) first.alone.1) in
+    let second =
+    begun_led d u Hands l.around l.declared l.levels v (at base inner among None l.declared)
+    (record { base = base; stand = AllStay l.around.inside l.around.between k.inside_kept k.between_kept; holds = refl; waits = k.waits; is = refl; stack = refl; few = omega arith })
+    are.1.1.1.1.1.1 (omega (arith, few, sum, sum_u)) in
+    let q = Reads second.p second.others second.ks in
+    let l2 = begun_last d u l.around l.declared l.levels v in
+    let places = told_begun d l.around u in
+    let more : Led q rest there [] places l2 =
+    subst (λ (x : Conditions). Led q rest x [] places l2) (sym is_there)
+    (front_led q sign rest base inner among l.declared [] places l2 refl are.0.0 are.0.1.is goes
+    (subst (λ ts. Led q ts (at base inner among None l.declared) [] places l2) is_rest second.led)) in
+    let both : Led q (toks ++ rest) c [] (told_parts d s parts ++ places) l2 = record {
+      hands = hands_both toks rest c ∙ ap (λ hs. hs ++ all_handed_on rest there) first.led.hands ∙ more.hands;
+      tells = tells_both toks rest c ∙ ap (λ ps. ps ++ all_told rest there) first.led.tells ∙ ap (λ ps. told_parts d s parts ++ ps) more.tells;
+      ends = subst (λ (y : Conditions). StandsAt q l2 y) (sym (behind_both toks rest c)) more.ends;
+    } in
+    let declared_so : l2.declared ≡ declared_tokens (toks ++ rest) declared =
+    ap (λ ts. declared_tokens ts l.declared) is_rest ∙ ap (λ e. declared_tokens rest (unwrap_or e l.declared)) goes ∙ sym (declared_both toks rest declared) in
+    record {
+      p = second.p;
+      others = second.others;
+      ks = second.ks;
+      led = relaxed q (toks ++ rest) c [] (told_parts d s parts ++ places) l2.around l2.declared (declared_tokens (toks ++ rest) declared) l2.levels (n + length (toks ++ rest)) v declared_so (omega (arith, sum, sum_u)) both;
+      waits_for = second.waits_for;
+      condition = second.condition;
+      alone = are.1.1.1.1.1.0;
     }
 
 -- One in the other
@@ -567,6 +636,8 @@ cut_one d s (Turns is_inner hashes first parts) p others ks base inner among dec
 cut_one d s (Closes is_inner hashes first parts) p others ks base inner among declared front t waits condition no_hash cut =
     subst (λ (a : Awaits). IsUnfit (directive p.is_inner p.place a) others ks base inner among declared front t) (sym waits.1) (cut_end waits.0 p.is_inner p.place others ks base inner among declared front t no_hash cut)
 cut_one d s (Fronting sign parts) p others ks base inner among declared front t waits condition no_hash cut = absurd cut
+cut_one d s (FrontingWord sign parts u) p others ks base inner among declared front t waits condition no_hash cut =
+    cut_one d (behind_parts d s parts) u p others ks base inner among declared front t waits condition no_hash cut
 
 cut_by : (d : Answers) (s : Around) (outer : List Unfinished) (u : Unfinished) (p : Pending) (others : List Pending) (ks : List Condition) (base : Conditions) (inner among : List Conditional) (declared : ℕ) (front : Bool) (t : At)
     → IsAwaited u p.awaits → HasAllCondition d s outer u ks → is_mark mark.Hash t.token.kind ≡ false → AreCutBy d s outer u t → IsUnfit p others ks base inner among declared front t
@@ -604,12 +675,9 @@ is_the_end (kind.Word x) e = cc
 is_the_end (kind.Mark x) e = cc
 is_the_end (kind.Bad x) e = cc
 
-abbrev pub EndCuts : Unfinished → Type 0
-EndCuts (Fronting sign parts) = ⊥
-EndCuts u = Unit {0}
-
-end_cuts_one : (d : Answers) (s : Around) (u : Unfinished) (t : At) → EndCuts u → is_end t.token.kind ≡ true → IsCutBy d s u t
+end_cuts_one : (d : Answers) (s : Around) (u : Unfinished) (t : At) → HasWord u → is_end t.token.kind ≡ true → IsCutBy d s u t
 end_cuts_one d s (Fronting sign parts) t so is = so
+end_cuts_one d s (FrontingWord sign parts u) t so is = end_cuts_one d (behind_parts d s parts) u t so is
 end_cuts_one d s (Unnamed is_inner if_declared first before) t so is = λ name. let never : true ≡ false = sym is ∙ ap is_end name in cc
 end_cuts_one d s (Named is_inner if_declared first before name behind) t so is = ap (is_mark mark.Semicolon) (is_the_end t.token.kind is)
 end_cuts_one d s (Asked is_inner wanted first parts) t so is =
@@ -618,12 +686,12 @@ end_cuts_one d s (Asked is_inner wanted first parts) t so is =
 end_cuts_one d s (Turns is_inner hashes first parts) t so is = ap (is_mark mark.Semicolon) (is_the_end t.token.kind is)
 end_cuts_one d s (Closes is_inner hashes first parts) t so is = ap (is_mark mark.Semicolon) (is_the_end t.token.kind is)
 
-pub end_cuts : (d : Answers) (s : Around) (outer : List Unfinished) (u : Unfinished) (t : At) → EndCuts u → is_end t.token.kind ≡ true → AreCutBy d s outer u t
+pub end_cuts : (d : Answers) (s : Around) (outer : List Unfinished) (u : Unfinished) (t : At) → HasWord u → is_end t.token.kind ≡ true → AreCutBy d s outer u t
 end_cuts d s [] u t so is = end_cuts_one d s u t so is
 end_cuts d s (x ∷ outer) u t so is = end_cuts d (behind_begun d s x) outer u t so is
 
 -- whatever side is left out
-pub unfit_end : (d : Answers) (s : Around) (outer : List Unfinished) (u : Unfinished) (last : Last) (toks : List At) (places : List Place) (c : Conditions) (b : AllBegun d outer u s last toks places c) (t : At) → EndCuts u → is_end t.token.kind ≡ true
+pub unfit_end : (d : Answers) (s : Around) (outer : List Unfinished) (u : Unfinished) (last : Last) (toks : List At) (places : List Place) (c : Conditions) (b : AllBegun d outer u s last toks places c) (t : At) → HasWord u → is_end t.token.kind ≡ true
     → (let st = b.led.ends.stand in judged_at t (all_behind toks c) ≡ unfit_so (at (given_up_at b.led.ends.base) (inner_of st) (among_of st) None last.declared))
 unfit_end d s outer u last toks places c b t so is = ap (judged_at t) b.led.ends.is ∙ go (left_of b.led.ends.stand)
   where

@@ -1,5 +1,5 @@
 -- Conditional directives that are not whole: a token that does not fit cuts one, with those around it that are read, or the end of the file does.
-use Rattle.std.specs.Prelude.{◌≡◌, ◌≤◌, ◌+◌, ℕ, List, [], ◌∷◌, ◌++◌, length, Bool, true, false, Option, Some, None}
+use Rattle.std.specs.Prelude.{◌≡◌, ◌≤◌, ◌+◌, ℕ, List, [], ◌∷◌, ◌++◌, drop, length, Bool, true, false, Option, Some, None}
 use Rattle.inf_scanner.specs.declared.tokens.Mark.TheVariants as mark
 use Rattle.inf_scanner.specs.declared.tokens.Place.{Place}
 use Rattle.inf_scanner.specs.declared.tokens.TokenKind.TheVariants as kind
@@ -19,7 +19,8 @@ use Rattle.inf_laws.specs.KeptSides.{AddsNone, Answers, AreParts, Around, At, Be
 -- What is there of one
 
 -- A directive with a name up to where that must come, or up to its semicolon; one with a condition up to a further token of it; and an `Ifnot` and an
--- `Endif` up to the semicolon. And a `#` that begins a directive, of which no more is known.
+-- `Endif` up to the semicolon. And a `#` that begins a directive, of which no more is known, or
+-- with parts before the word of a conditional one, which is given with the same `#`.
 pub data Unfinished : Type 0 where
   Unnamed : (is_inner if_declared : Bool) (first : First) (before : Parts) → Unfinished
   Named : (is_inner if_declared : Bool) (first : First) (before : Parts) (name : At) (behind : Parts) → Unfinished
@@ -27,6 +28,7 @@ pub data Unfinished : Type 0 where
   Turns : (is_inner : Bool) (hashes : List At) (first : First) (within : Parts) → Unfinished
   Closes : (is_inner : Bool) (hashes : List At) (first : First) (within : Parts) → Unfinished
   Fronting : (sign : At) (within : Parts) → Unfinished
+  FrontingWord : (sign : At) (within : Parts) (u : Unfinished) → Unfinished
 
 abbrev pub begun_tokens : Unfinished → List At
 begun_tokens (Unnamed is_inner if_declared first before) = first_tokens first (all_tokens before)
@@ -35,6 +37,7 @@ begun_tokens (Asked is_inner wanted first within) = first_tokens first (all_toke
 begun_tokens (Turns is_inner hashes first within) = hashes ++ first_tokens first (all_tokens within)
 begun_tokens (Closes is_inner hashes first within) = hashes ++ first_tokens first (all_tokens within)
 begun_tokens (Fronting sign within) = sign ∷ all_tokens within
+begun_tokens (FrontingWord sign within u) = sign ∷ (all_tokens within ++ drop 1 (begun_tokens u))
 
 -- It has not acted, but for one whose word ended a side that was left out.
 abbrev pub behind_begun : Answers → Around → Unfinished → Around
@@ -44,6 +47,7 @@ behind_begun answers s (Asked is_inner wanted first within) = behind_parts answe
 behind_begun answers s (Turns is_inner hashes first within) = behind_parts answers (before_parts turned s) within
 behind_begun answers s (Closes is_inner hashes first within) = behind_parts answers (before_parts closed s) within
 behind_begun answers s (Fronting sign within) = behind_parts answers s within
+behind_begun answers s (FrontingWord sign within u) = behind_begun answers (behind_parts answers s within) u
 
 -- what is told of its parts
 abbrev pub told_begun : Answers → Around → Unfinished → List Place
@@ -54,6 +58,7 @@ told_begun answers s (Asked is_inner wanted first within) = told_parts answers s
 told_begun answers s (Turns is_inner hashes first within) = told_parts answers (before_parts turned s) within
 told_begun answers s (Closes is_inner hashes first within) = told_parts answers (before_parts closed s) within
 told_begun answers s (Fronting sign within) = told_parts answers s within
+told_begun answers s (FrontingWord sign within u) = told_parts answers s within ++ told_begun answers (behind_parts answers s within) u
 
 -- the kept tokens of a condition so far, of which the grammar takes each, and none is the last
 abbrev pub GoOn : List Spelled → Condition → Type 0
@@ -71,6 +76,12 @@ AreHashes is_inner (sign ∷ signs) = IsSign is_inner sign × AreHashes is_inner
 abbrev pub HashesBefore : Bool → Around → List At → First → Type 0
 HashesBefore is_inner s [] first = Unit {0}
 HashesBefore is_inner s hashes first = (all_kept s ≡ false) × (AreHashes is_inner hashes × Follows false is_inner first.sign)
+
+-- whether its word has come
+abbrev pub HasWord : Unfinished → Type 0
+HasWord (Fronting sign within) = ⊥
+HasWord (FrontingWord sign within u) = HasWord u
+HasWord u = Unit {0}
 
 -- It is read, and so it is kept; an `Ifnot` or `Endif` may begin in a side that its word ends. Behind the last of its parts a side may be left out.
 abbrev pub IsBegun : Answers → Bool → Around → ℕ → Unfinished → Type 0
@@ -103,6 +114,15 @@ IsBegun answers is_within s declared (Closes is_inner hashes first within) =
 IsBegun answers is_within s declared (Fronting sign within) =
     Begins true false is_within (Some sign) sign
     × (NoneInside false s × ((all_kept s ≡ true) × (AreParts answers true s (declared_behind sign declared) within × (kept_sides answers s within ≡ []))))
+IsBegun answers is_within s declared (FrontingWord sign within u) =
+    let x = behind_parts answers s within in
+    let now = declared_behind sign declared in
+    Begins true false is_within (Some sign) sign
+    × (NoneInside false s
+    × ((all_kept s ≡ true)
+    × ((AreParts answers true s now within × AddsNone answers s within)
+    × (((begun_tokens u ≡ sign ∷ drop 1 (begun_tokens u)) × (sign.ended ≡ None))
+    × (HasWord u × IsBegun answers is_within x (declared_tokens (all_tokens within) now) u)))))
 
 -- The end of the file cuts a conditional directive. Behind a `#` that begins another one it is kept, and so is that.
 abbrev pub begun_sign : Unfinished → Option Sign
@@ -176,6 +196,7 @@ IsCutBy answers s (Turns is_inner hashes first within) t = is_mark mark.Semicolo
 IsCutBy answers s (Closes is_inner hashes first within) t = is_mark mark.Semicolon t.token.kind ≡ false
 
 IsCutBy answers s (Fronting sign within) t = ⊥
+IsCutBy answers s (FrontingWord sign within u) t = IsCutBy answers (behind_parts answers s within) u t
 
 abbrev pub AreCutBy : Answers → Around → List Unfinished → Unfinished → At → Type 0
 AreCutBy answers s [] u t = IsCutBy answers s u t
