@@ -1,5 +1,5 @@
 -- Of each conditional one side is kept.
-use Rattle.std.proofs.Common.{◌≡◌, ℕ, suc, ◌+◌, ◌≤◌, ◌==◌, max, List, [], ◌∷◌, ◌++◌, drop, length, map, reverse, cond, not, ◌&&◌, ◌||◌, Bool, true, false, Option, Some, None, unwrap_or, refl, sym, ap, subst, ◌∙◌, append_assoc, arith}
+use Rattle.std.proofs.Common.{◌≡◌, ℕ, suc, ◌+◌, ◌≤◌, ◌==◌, max, List, [], ◌∷◌, ◌++◌, drop, length, map, reverse, cond, not, ◌&&◌, ◌||◌, Bool, true, false, Option, Some, None, is_none, unwrap_or, refl, sym, ap, subst, ◌∙◌, append_assoc, arith}
 use Rattle.std.proofs.lemmas.List.{append-nil, map-append, reverse-append}
 use Rattle.std.proofs.Math.Bool.{and-false}
 use Rattle.std.proofs.Math.Dec.{eqb-suc-zero}
@@ -35,7 +35,7 @@ use Rattle.inf_conditionals.specs.Judging.{Behind, at_front, asking as asking_on
 use Rattle.inf_conditionals.specs.Open.{Conditions, ended_by, is_second, latest_among, levels_behind, most_levels, silent, turned_first}
 use Rattle.inf_conditionals.specs.Words.{word_of}
 use Rattle.inf_reader.specs.Handing.{hash}
-use Rattle.inf_laws.specs.KeptSides.{AddsNone, Answers, AreParts, AreTaken, Around, Asking, At, Before, Begins, Closing, First, Follows, Fronted, FrontedWord, GoesOn, Handing, IsAsked, IsCondition, IsFirst, IsName, IsPart, IsPlain, IsSemicolon, IsSign, IsSignedPlain, NoneInside, NoneInsideBehind, NoParts, OneSideIsKept, Open, Opening, Part, Parts, Passed, Plain, Signed, StayAs, Then, Turning, acted, acting, all_behind, all_handed_on, all_kept, all_told, all_tokens, among, are_kept, as_kept, asking, asking_parts, before_parts, begins, begins_at, behind_name, behind_part, behind_parts, closed, condition_behind, declared_behind, declared_first, declared_sign, declared_tokens, ended_behind, ended_in, ended_places, first_side, first_sign, first_tokens, going_on, handed_on, judged_at, kept_of, kept_sides, lone_at, lone_places, missing_in, none_around, opened_more, opening, opening_parts, other_side, part_tokens, passed_by as word_passed, placed_word, places, seconds, signed_tokens, told_of, told_parts, turned, unended, whole_condition}
+use Rattle.inf_laws.specs.KeptSides.{AddsNone, Answers, AreParts, AreTaken, Around, Asking, At, Before, Begins, Closing, First, Follows, Fronted, FrontedWord, GoesOn, Handing, IsAsked, IsCondition, IsFirst, IsName, IsPart, IsPlain, IsSemicolon, IsSign, IsSignedPlain, NoneInside, NoneInsideBehind, NoneInsideFirst, NoParts, OneSideIsKept, Open, Opening, Part, Parts, Passed, Plain, Signed, StayAs, Then, Turning, acted, acting, all_behind, all_handed_on, all_kept, all_told, all_tokens, among, are_kept, as_kept, asking, asking_parts, before_parts, begins, begins_at, behind_name, behind_part, behind_parts, closed, condition_behind, declared_behind, declared_first, declared_sign, declared_tokens, ended_behind, ended_in, ended_places, first_ends, first_side, first_sign, first_tokens, going_on, handed_on, judged_at, kept_of, kept_sides, lone_at, lone_places, missing_in, none_around, opened_more, opening, opening_parts, other_side, part_tokens, passed_by as word_passed, placed_word, places, seconds, sign_ends, signed_tokens, told_of, told_parts, turned, unended, whole_condition}
 use Rattle.inf_laws.specs.LoneEnds.{is_lone}
 use Rattle.inf_laws.specs.MissingEnds.{with_all_at}
 use Rattle.inf_laws.specs.Sides.{ends_side, level_behind}
@@ -786,36 +786,47 @@ inner_front (Reads p others ks) sign c holds inside = ap (λ ps. sign.site.is_be
 pub outer_front : (sign : At) (c : Conditions) → c.pending ≡ [] → sign.site.is_between ≡ true → is_front sign c ≡ true
 outer_front sign c none between = ap (λ ps. sign.site.is_between && is_none_pending ps) none ∙ ap (λ b. b && true) between
 
+-- No directive ends among them, or then none is open inside one.
+abbrev pub SignGoes : Bool → Option At → Type 0
+SignGoes b None = Unit {0}
+SignGoes b (Some sign) = GoesOn b sign
+
+pub record Mids (sign : Option At) (t : At) (inner : List Conditional) : Type 0 where
+  pub b : Bool
+  pub word : GoesOn b t
+  pub sign_goes : SignGoes b sign
+  pub calm : Calm b inner None
+
 pub begins_kept : (r q : Reader) (is_inner : Bool) (w : ConditionalWord) (a : Awaits) (sign : Option At) (t : At) (all : List At) (c after : Conditions) (inner among : List Conditional) (declared : ℕ) (places : List Place) (last : Last)
-    → Holds r c → Begins true is_inner (within r) sign t → word_of t.token ≡ Some w → GoesOn is_inner t
-    → ((m : ℕ) → begun w t.token (begins_at sign t) is_inner (at c inner among None m) ≡ passed (reading is_inner (begins_at sign t) a after inner among m)) → Calm is_inner inner None
+    → Holds r c → Begins true is_inner (within r) sign t → word_of t.token ≡ Some w → Mids sign t inner
+    → ((m : ℕ) → begun w t.token (begins_at sign t) is_inner (at c inner among None m) ≡ passed (reading is_inner (begins_at sign t) a after inner among m))
     → Led q all (reading is_inner (begins_at sign t) a after inner among (declared_behind t (declared_sign sign declared))) [] places last
     → Led q (signed_tokens sign (t ∷ all)) (at c inner among None declared) [] places last
-begins_kept Hands q false w a None t all c after inner among declared places last holds between is goes waits calm rest =
+begins_kept Hands q false w a None t all c after inner among declared places last holds between is m waits rest =
     let place = t.token.place in
     goes_by q t all (at c inner among None declared) (reading false place a after inner among declared) (reading false place a after inner among (declared_behind t declared)) [] places last
     (word_kept w t c inner among declared holds between is ∙ waits declared)
-    (mid false t (awaits_it false place a after) None inner among None declared goes calm) rest
-begins_kept Hands q false w a (Some sign) t all c after inner among declared places last holds between is goes waits calm rest =
+    (mid m.b t (awaits_it false place a after) None inner among None declared m.word m.calm) rest
+begins_kept Hands q false w a (Some sign) t all c after inner among declared places last holds between is m waits rest =
     let place = sign.token.place in
     let now = declared_behind sign declared in
     goes_by q sign (t ∷ all) (at c inner among None declared) (reading false place awaits.Word c inner among declared) (reading false place awaits.Word c inner among now) [] places last
     (sign_kept sign c inner among declared (outer_front sign c holds between.0) between.1.is)
-    (mid false sign (awaits_it false place awaits.Word c) None inner among None declared tt calm)
+    (mid m.b sign (awaits_it false place awaits.Word c) None inner among None declared m.sign_goes m.calm)
     (goes_by q t all (reading false place awaits.Word c inner among now) (reading false place a after inner among now) (reading false place a after inner among (declared_behind t now)) [] places last
     (signed_kept w place t c inner among now is ∙ waits now)
-    (mid false t (awaits_it false place a after) None inner among None now goes calm) rest)
-begins_kept (Reads p others ks) q false w a sign t all c after inner among declared places last holds between is goes waits calm rest = absurd between
-begins_kept r q true w a None t all c after inner among declared places last holds between is goes waits calm rest = absurd between
-begins_kept r q true w a (Some sign) t all c after inner among declared places last holds between is goes waits calm rest =
+    (mid m.b t (awaits_it false place a after) None inner among None now m.word m.calm) rest)
+begins_kept (Reads p others ks) q false w a sign t all c after inner among declared places last holds between is m waits rest = absurd between
+begins_kept r q true w a None t all c after inner among declared places last holds between is m waits rest = absurd between
+begins_kept r q true w a (Some sign) t all c after inner among declared places last holds between is m waits rest =
     let place = sign.token.place in
     let now = declared_behind sign declared in
     goes_by q sign (t ∷ all) (at c inner among None declared) (state c (Some place) inner among None declared) (state c (Some place) inner among None now) [] places last
     (sign_inner sign c inner among declared (inner_front r sign c holds between.0) between.1.is)
-    (mid true sign c (Some place) inner among None declared between.1.goes_on calm)
+    (mid m.b sign c (Some place) inner among None declared m.sign_goes m.calm)
     (goes_by q t all (state c (Some place) inner among None now) (reading true place a after inner among now) (reading true place a after inner among (declared_behind t now)) [] places last
     (signed_inner w place t c inner among now is ∙ waits now)
-    (mid true t (awaits_it true place a after) None inner among None now goes calm) rest)
+    (mid m.b t (awaits_it true place a after) None inner among None now m.word m.calm) rest)
 
 -- where a side is left out, one that ends none
 begins_left : (r : Reader) (is_inner is_within : Bool) (w : ConditionalWord) (m : ℕ) (sign : Option At) (t : At) (all : List At) (c : Conditions) (inner among : List Conditional) (b : Bool) (n declared : ℕ) (places : List Place) (last : Last)
@@ -1923,8 +1934,37 @@ last_declared : (first : First) (tokens : List At) (end : At) (declared : ℕ) �
 last_declared first tokens end declared =
     sym (declared_both tokens (end ∷ []) (declared_first first declared)) ∙ declared_behind_first first (tokens ++ end ∷ []) declared
 
-pub calm_open : (is_inner : Bool) (inside between : List Open) → NoneInside is_inner (record { inside = inside; between = between }) → Calm is_inner (conditionals inside) None
-calm_open is_inner inside between none e = (ap conditionals (none_open is_inner (record { inside = inside; between = between }) none e), refl)
+none_ended : (e : Option ℕ) → not (is_none e) ≡ false → e ≡ None
+none_ended None so = refl
+none_ended (Some now) so = cc
+
+no_true : false ≡ true → ⊥
+no_true e = cc
+
+pub mids_of : (is_inner is_within : Bool) (w : ConditionalWord) (first : First) (s : Around) → IsFirst true is_inner is_within w first → NoneInsideFirst true is_inner first s → Mids first.sign first.word (conditionals s.inside)
+mids_of true is_within w first s is none = record { b = true; word = is.goes_on; sign_goes = go first.sign is.begins; calm = λ e. absurd (no_false e) }
+  where
+    go : (sign : Option At) → Begins true true is_within sign first.word → SignGoes true sign
+    go None begins = tt
+    go (Some sign) begins = begins.1.goes_on
+mids_of false is_within w first s is none = go (first_ends first) refl
+  where
+    any : (sign : Option At) → SignGoes false sign
+    any None = tt
+    any (Some sign) = tt
+
+    goes : (sign : Option At) (e : Option ℕ) → sign_ends sign || not (is_none e) ≡ false → SignGoes true sign × (e ≡ None)
+    goes None e so = (tt, none_ended e so)
+    goes (Some sign) e so = both (not (is_none sign.ended)) refl so
+      where
+        both : (b : Bool) → not (is_none sign.ended) ≡ b → b || not (is_none e) ≡ false → (sign.ended ≡ None) × (e ≡ None)
+        both true is so = absurd (no_false so)
+        both false is so = (none_ended sign.ended is, none_ended e so)
+
+    go : (b : Bool) → first_ends first ≡ b → Mids first.sign first.word (conditionals s.inside)
+    go true ends = record { b = false; word = tt; sign_goes = any first.sign; calm = λ _. (ap conditionals (none ends), refl) }
+    go false ends =
+        let both = goes first.sign first.word.ended ends in record { b = true; word = both.1; sign_goes = both.0; calm = λ e. absurd (no_false e) }
 
 -- with the parts that are read
 among_kept : (d : Answers) (is_within : Bool) (s : Around) (declared : ℕ) (parts : Parts) → all_kept s ≡ true → AreParts d (among is_within s) s declared parts → AreParts d true s declared parts
@@ -1938,7 +1978,7 @@ among_left d is_within s declared parts e are = subst (λ b. AreParts d (b || is
 abbrev EndingIs : ConditionalWord → (Around → Around) → Answers → Bool → Bool → First → Parts → At → ℕ → Around → Bool → Type 0
 EndingIs w act d is_within is_inner first parts end declared s k =
     IsFirst k is_inner is_within w first
-    × (NoneInside is_inner s × ((AreParts d (among is_within (cond k s (act s))) (cond k s (act s)) (declared_first first declared) parts × AddsNone d (cond k s (act s)) parts) × IsSemicolon end))
+    × (NoneInsideFirst k is_inner first s × ((AreParts d (among is_within (cond k s (act s))) (cond k s (act s)) (declared_first first declared) parts × AddsNone d (cond k s (act s)) parts) × IsSemicolon end))
 
 abbrev ending_places : ConditionalWord → (Around → Around) → Answers → First → Parts → At → Around → Bool → List Place
 ending_places w act d first parts end s k =
@@ -1984,8 +2024,8 @@ ending_kept w act e begins_so last_led d is_inner first parts end leads r declar
     (λ base bw bi bb. last_led r is_inner first end l.around.inside l.around.between l.declared m v (record base { pending = c.pending; conditions = c.conditions }) (holds_on r c base holds) bw bi bb are.1.1.1) in
     relaxed r (directive_tokens first tokens end) (at c inner among_now None declared) [] places (ended_in end.ended (act l.around)) (declared_behind end l.declared) (declared_tokens (directive_tokens first tokens end) declared) m m v
     (last_declared first tokens end declared) (omega arith)
-    (begins_kept r r is_inner w a first.sign first.word (tokens ++ end ∷ []) c c inner among_now declared places last holds are.0.begins are.0.is are.0.goes_on
-    (λ x. begins_so first.word.token place is_inner (at c inner among_now None x)) (calm_open is_inner inside between are.1.0) rest)
+    (begins_kept r r is_inner w a first.sign first.word (tokens ++ end ∷ []) c c inner among_now declared places last holds are.0.begins are.0.is (mids_of is_inner (within r) w first s are.0 are.1.0)
+    (λ x. begins_so first.word.token place is_inner (at c inner among_now None x)) rest)
 
 ending_left : (w : ConditionalWord) (act : Around → Around) → LeftLed w act
     → (d : Answers) (is_inner : Bool) (first : First) (parts : Parts) (end : At) → Leads d parts → (r : Reader) (st : Stands) (declared n : ℕ) (v : List (List Conditional)) (c : Conditions) → Holds r c → c.waiting ≡ v → levels_of st ≤ n
@@ -2071,7 +2111,7 @@ AskingIs d is_within is_inner wanted first parts end declared s k =
     let x = cond k s (opened_more is_inner (asked_open d wanted first parts end s) s) in
     let now = declared_first first declared in
     IsFirst k is_inner is_within (asking wanted) first
-    × (NoneInside is_inner s
+    × (NoneInsideFirst k is_inner first s
     × ((AreParts d (among is_within x) x now parts × StayAs d x parts)
     × (IsPlain k true end × (IsAsked k d first (kept_sides d x parts) end (declared_tokens (all_tokens parts) now) × NoneInsideBehind k is_inner end (behind_parts d x parts)))))
 
@@ -2133,8 +2173,8 @@ asking_kept d is_inner wanted first parts end leads r declared n v c holds waits
     (opened_told is_inner stays place end l.around.inside l.around.between l.declared after bi bb)) in
     relaxed r (directive_tokens first tokens end) (at c inner among_now None declared) [] places last.around (declared_behind end l.declared) (declared_tokens (directive_tokens first tokens end) declared) m m v
     (last_declared first tokens end declared) (omega arith)
-    (begins_kept r r is_inner (asking wanted) a first.sign first.word (tokens ++ end ∷ []) c (with_condition begun_so c) inner among_now declared places last holds are.0.begins are.0.is are.0.goes_on
-    (λ x. begun_asking is_inner wanted first.word.token place c inner among_now x (asking_fits wanted first.word.token place are.0.is)) (calm_open is_inner inside between are.1.0) rest)
+    (begins_kept r r is_inner (asking wanted) a first.sign first.word (tokens ++ end ∷ []) c (with_condition begun_so c) inner among_now declared places last holds are.0.begins are.0.is (mids_of is_inner (within r) (asking wanted) first s are.0 are.1.0)
+    (λ x. begun_asking is_inner wanted first.word.token place c inner among_now x (asking_fits wanted first.word.token place are.0.is)) rest)
 
 asking_left : (d : Answers) (is_inner wanted : Bool) (first : First) (parts : Parts) (end : At) → Leads d parts → (r : Reader) (st : Stands) (declared n : ℕ) (v : List (List Conditional)) (c : Conditions) → Holds r c → c.waiting ≡ v → levels_of st ≤ n
     → n + length (directive_tokens first (all_tokens parts) end) ≤ most_levels → all_kept (stack_of st) ≡ false → AskingLed d is_inner wanted first parts end r st declared n v c false
@@ -2181,7 +2221,7 @@ OpeningIs d is_within is_inner if_declared first before name behind end declared
     let now = declared_first first declared in
     let later = declared_tokens (all_tokens before) now in
     IsFirst k is_inner is_within (opening if_declared) first
-    × (NoneInside is_inner s
+    × (NoneInsideFirst k is_inner first s
     × ((AreParts d (among is_within x) x now before × AddsNone d x before)
     × ((IsName k name × ((declared_before name.token.bytes later name.out.names ≡ d.is_declared name) × (all_kept y ≡ all_kept x)))
     × ((AreParts d (among is_within y) y (declared_behind name later) behind × AddsNone d y behind) × (IsSemicolon end × NoneInsideBehind k is_inner end (behind_parts d y behind))))))
@@ -2275,8 +2315,8 @@ opening_kept d is_inner if_declared first before name behind end leads_before le
     (takes_none (kept_sides d s before) (Reads p_name c.pending c.conditions) adds.1) (reads_none (kept_sides d s before) (Reads p_name c.pending c.conditions) adds.1) (omega (arith, few, less, sum)) further in
     relaxed r toks (at c inner among_now None declared) [] places last.around (declared_behind end l2.declared) (declared_tokens toks declared) m m v
     (opening_declared first before name behind end declared) (omega arith)
-    (begins_kept r r is_inner (opening if_declared) waits_name first.sign first.word (all_tokens before ++ name ∷ rest_behind) c c inner among_now declared places last holds are.0.begins are.0.is are.0.goes_on
-    (λ x. begun_opening is_inner if_declared first.word.token place (at c inner among_now None x)) (calm_open is_inner inside between are.1.0) rest)
+    (begins_kept r r is_inner (opening if_declared) waits_name first.sign first.word (all_tokens before ++ name ∷ rest_behind) c c inner among_now declared places last holds are.0.begins are.0.is (mids_of is_inner (within r) (opening if_declared) first s are.0 are.1.0)
+    (λ x. begun_opening is_inner if_declared first.word.token place (at c inner among_now None x)) rest)
 
 opening_left : (d : Answers) (is_inner if_declared : Bool) (first : First) (before : Parts) (name : At) (behind : Parts) (end : At) → Leads d before → Leads d behind → (r : Reader) (st : Stands) (declared n : ℕ) (v : List (List Conditional)) (c : Conditions)
     → Holds r c → c.waiting ≡ v → levels_of st ≤ n → n + length (opening_tokens first before name behind end) ≤ most_levels → all_kept (stack_of st) ≡ false → OpeningLed d is_inner if_declared first before name behind end r st declared n v c false

@@ -26,10 +26,10 @@ use Rattle.inf_conditionals.specs.Open.{Conditions, most_levels}
 use Rattle.inf_conditionals.specs.Words.{word_of}
 use Rattle.inf_conditionals.specs.declared.open.LeftOut.{LeftOut}
 use Rattle.inf_conditionals.proofs.Misfits.{end_fits_nothing}
-use Rattle.inf_laws.specs.KeptSides.{Answers, AreParts, Around, At, First, Follows, IsFirst, IsSignedPlain, NoneInside, Parts, all_behind, all_handed_on, all_kept, all_tokens, all_told, are_kept, asking, begins, behind_name, behind_parts, closed, declared_behind, declared_first, declared_tokens, ended_behind, first_tokens, judged_at, kept_sides, missing_in, opening, placed_word, signed_tokens, told_parts, turned}
+use Rattle.inf_laws.specs.KeptSides.{Answers, AreParts, Around, At, First, Follows, IsFirst, IsSignedPlain, NoneInside, NoneInsideFirst, Parts, all_behind, all_handed_on, all_kept, all_tokens, all_told, are_kept, asking, begins, behind_name, behind_parts, closed, declared_behind, declared_first, declared_tokens, ended_behind, first_tokens, judged_at, kept_sides, missing_in, opening, placed_word, signed_tokens, told_parts, turned}
 use Rattle.inf_laws.specs.Unfinished.{Asked, AreBegun, AreCutBy, AreHashes, Closes, Fronting, FrontingWord, GoOn, HasWord, HashesBefore, IsBegun, IsCutBy, Named, Turns, Unfinished, Unnamed, all_begun_tokens, behind_all_begun, behind_begun, begun_tokens, condition_so, told_all_begun, told_begun}
 use Rattle.inf_laws.proofs.AskingWords.{asking_fits}
-use Rattle.inf_laws.proofs.KeptSides.{AllStay, CalmLeft, Hands, Holds, InnerLeft, Last, Led, LeftLed, OuterLeft, Reader, Reads, Stands, StandsAt, TakesAll, among_of, at, awaits_it, begins_kept, begun_asking, begun_opening, behind_both, both_kept, calm_at, calm_open, closes_left, conditionals, declared_behind_first, declared_both, directive, end_is_no_hash, end_word, ended_stands, ended_told, fewer, front_led, goes_by, hands_both, inner_not_kept, inner_of, kept_at, last_at, last_behind, led, left_at, left_of, length_both, levels_of, mid, name_kept, none_open, not_kept, nothing_handed, outer_front, passes, read_condition, read_on, reading, reads_none, relaxed, same_first, sign_inner, sign_kept, sign_left, some_open, stack_of, stands_at, state, takes_none, tells_both, turns_left, with_condition, within, within_led}
+use Rattle.inf_laws.proofs.KeptSides.{AllStay, CalmLeft, Hands, Holds, InnerLeft, Last, Led, LeftLed, OuterLeft, Reader, Reads, Stands, StandsAt, TakesAll, among_of, at, awaits_it, begins_kept, begun_asking, begun_opening, behind_both, both_kept, calm_at, closes_left, conditionals, declared_behind_first, declared_both, directive, end_is_no_hash, end_word, ended_stands, ended_told, fewer, front_led, goes_by, hands_both, inner_not_kept, inner_of, kept_at, last_at, last_behind, led, left_at, left_of, length_both, levels_of, mid, mids_of, name_kept, none_open, not_kept, nothing_handed, outer_front, passes, read_condition, read_on, reading, reads_none, relaxed, same_first, sign_inner, sign_kept, sign_left, some_open, stack_of, stands_at, state, takes_none, tells_both, turns_left, with_condition, within, within_led}
 
 -- what the innermost one waits for
 abbrev IsAwaited : Unfinished → Awaits → Type 0
@@ -118,7 +118,7 @@ begun_declared first tokens declared = declared_behind_first first tokens declar
 begun_kept : (d : Answers) (parts : Parts) (r : Reader) (is_inner : Bool) (w : ConditionalWord) (a : Awaits) (first : First) (ks after : List Condition) (s : Around) (declared n : ℕ) (v : List (List Conditional)) (c base : Conditions)
     → let p = directive is_inner (begins first) a in
     Holds r base → base.waiting ≡ v → are_kept s.inside ≡ true → are_kept s.between ≡ true → c ≡ at base (conditionals s.inside) (conditionals s.between) None declared
-    → IsFirst true is_inner (within r) w first → NoneInside is_inner s
+    → IsFirst true is_inner (within r) w first → NoneInsideFirst true is_inner first s
     → ((m : ℕ) → begun w first.word.token (begins first) is_inner (at base (conditionals s.inside) (conditionals s.between) None m)
     ≡ passed (reading is_inner (begins first) a (record base { conditions = ks }) (conditionals s.inside) (conditionals s.between) m))
     → AreParts d true s (declared_first first declared) parts → TakesAll (Reads p base.pending ks) (kept_sides d s parts)
@@ -138,8 +138,7 @@ begun_kept d parts r is_inner w a first ks after s declared n v c base holds wai
     record { base = awaits_it is_inner (begins first) a (record base { conditions = ks }); stand = AllStay s.inside s.between si sb; holds = (refl, refl); waits = waits; is = refl; stack = refl; few = omega arith } in
     subst (λ (x : Conditions). Led q toks x [] (told_parts d s parts) (last_at l.around (declared_tokens toks declared) (n + length toks) v)) (sym is)
     (relaxed q toks (at base inner among None declared) [] (told_parts d s parts) l.around l.declared (declared_tokens toks declared) l.levels (n + length toks) v (begun_declared first (all_tokens parts) declared) (omega (arith, less))
-    (begins_kept r q is_inner w a first.sign first.word (all_tokens parts) base (record base { conditions = ks }) inner among declared (told_parts d s parts) l holds is_first.begins is_first.is is_first.goes_on begins_so
-    (calm_open is_inner s.inside s.between none)
+    (begins_kept r q is_inner w a first.sign first.word (all_tokens parts) base (record base { conditions = ks }) inner among declared (told_parts d s parts) l holds is_first.begins is_first.is (mids_of is_inner (within r) w first s is_first none) begins_so
     (parts_read d parts p base.pending ks after s now n v (reading is_inner (begins first) a (record base { conditions = ks }) inner among now) start are takes read (omega (arith, few, less)))))
 
 -- or its word ends a side that was left out
@@ -183,7 +182,7 @@ record EndingLed (d : Answers) (parts : Parts) (x : Around) (last : Last) (toks 
 
 ending_begun : (w : ConditionalWord) (act : Around → Around) (e : Effect) → ((t : Spelled) (place : Place) (is_inner : Bool) (c : Conditions) → begun w t place is_inner c ≡ passed (awaiting place is_inner (awaits.End e) c)) → LeftLed w act
     → (d : Answers) (parts : Parts) (r : Reader) (is_inner : Bool) (first : First) (s : Around) (declared n : ℕ) (v : List (List Conditional)) (c : Conditions)
-    → StandsAt r (last_at s declared n v) c → (k : Bool) → all_kept s ≡ k → IsFirst k is_inner (within r) w first → NoneInside is_inner s → all_kept (cond k s (act s)) ≡ true
+    → StandsAt r (last_at s declared n v) c → (k : Bool) → all_kept s ≡ k → IsFirst k is_inner (within r) w first → NoneInsideFirst k is_inner first s → all_kept (cond k s (act s)) ≡ true
     → AreParts d true (cond k s (act s)) (declared_first first declared) parts → kept_sides d (cond k s (act s)) parts ≡ [] → n + length (first_tokens first (all_tokens parts)) ≤ most_levels
     → EndingLed d parts (cond k s (act s)) (last_at (behind_parts d (cond k s (act s)) parts) (declared_tokens (first_tokens first (all_tokens parts)) declared) (n + length (first_tokens first (all_tokens parts))) v) (first_tokens first (all_tokens parts)) c
 ending_begun w act eff begins_so left_word d parts r is_inner first s declared n v c e true all is_first none stays are kept_none few =
@@ -266,7 +265,7 @@ first_is is_inner first tokens follows = go first.sign refl follows
 
 ending_behind : (w : ConditionalWord) (act : Around → Around) (e : Effect) → ((t : Spelled) (place : Place) (is_inner : Bool) (c : Conditions) → begun w t place is_inner c ≡ passed (awaiting place is_inner (awaits.End e) c)) → LeftLed w act
     → (d : Answers) (parts : Parts) (r : Reader) (is_inner : Bool) (hashes : List At) (first : First) (s : Around) (declared n : ℕ) (v : List (List Conditional)) (c : Conditions)
-    → StandsAt r (last_at s declared n v) c → HashesBefore is_inner s hashes first → IsFirst (all_kept s) is_inner (within r) w first → NoneInside is_inner s → all_kept (cond (all_kept s) s (act s)) ≡ true
+    → StandsAt r (last_at s declared n v) c → HashesBefore is_inner s hashes first → IsFirst (all_kept s) is_inner (within r) w first → NoneInsideFirst (all_kept s) is_inner first s → all_kept (cond (all_kept s) s (act s)) ≡ true
     → AreParts d true (cond (all_kept s) s (act s)) (declared_first first (declared_tokens hashes declared)) parts → kept_sides d (cond (all_kept s) s (act s)) parts ≡ []
     → n + length (hashes ++ first_tokens first (all_tokens parts)) ≤ most_levels
     → EndingLed d parts (cond (all_kept s) s (act s))
@@ -298,7 +297,7 @@ ending_behind w act eff begins_so left_word d parts r is_inner (t ∷ hashes) fi
     let at_left : (declared : ℕ) → stands_at e.base st declared ≡ at e.base inner among (left_at l.b l.m) declared = λ declared. ap (λ y. at e.base inner among y declared) l.is in
     let on : Led q (signs ++ toks) (at e.base inner among (left_at l.b l.m) declared) [] places last =
     subst (λ ts. Led q (signs ++ ts) (at e.base inner among (left_at l.b l.m) declared) [] places last) (sym next.is)
-    (hashes_before q is_inner signs next.next next.rest e.base inner among l.b l.m declared places last before.1.0 next.hash (l.calm is_inner (subst (NoneInside is_inner) (sym e.stack) none)) (omega (arith, few, sum, few_st, few_m))
+    (hashes_before q is_inner signs next.next next.rest e.base inner among l.b l.m declared places last before.1.0 next.hash (l.calm is_inner (subst (NoneInside is_inner) (sym e.stack) (subst (λ k. NoneInsideFirst k is_inner first s) before.0 none))) (omega (arith, few, sum, few_st, few_m))
     (subst (λ ts. Led q ts (at e.base inner among (left_at l.b l.m) later) [] places last) next.is
     (subst (λ (y : Conditions). Led q toks y [] places last) (at_left later) is.led))) in
     record {
@@ -421,8 +420,8 @@ begun_led d (Named is_inner if_declared first before name behind) r s declared n
       ks = base.conditions;
       led = subst (λ (x : Conditions). Led q toks x [] places (last_at l2.around (declared_tokens toks declared) (n + length toks) v)) (sym k.is)
           (relaxed q toks (at base inner among None declared) [] places l2.around l2.declared (declared_tokens toks declared) l2.levels (n + length toks) v declared_so (omega (arith, less, sum))
-          (begins_kept r q is_inner (opening if_declared) a first.sign first.word (all_tokens before ++ name ∷ all_tokens behind) base base inner among declared places l2 k.holds are.0.begins are.0.is are.0.goes_on
-          (λ m. begun_opening is_inner if_declared first.word.token place (at base inner among None m)) (calm_open is_inner s.inside s.between are.1.0) rest));
+          (begins_kept r q is_inner (opening if_declared) a first.sign first.word (all_tokens before ++ name ∷ all_tokens behind) base base inner among declared places l2 k.holds are.0.begins are.0.is (mids_of is_inner (within r) (opening if_declared) first s are.0 are.1.0)
+          (λ m. begun_opening is_inner if_declared first.word.token place (at base inner among None m)) rest));
       waits_for = (effect.Opens is_so, refl);
       condition = tt;
       alone = tt;

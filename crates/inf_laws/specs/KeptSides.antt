@@ -1,5 +1,5 @@
 -- Which tokens of a file are kept, with conditionals between its directives and inside them: of each conditional one side is.
-use Rattle.std.specs.Prelude.{◌≡◌, ◌≤◌, ◌&&◌, ◌||◌, ℕ, List, [], ◌∷◌, ◌++◌, drop, length, map, reverse, Bool, true, false, not, if◌then◌else◌, Option, Some, None, unwrap_or}
+use Rattle.std.specs.Prelude.{◌≡◌, ◌≤◌, ◌&&◌, ◌||◌, ℕ, List, [], ◌∷◌, ◌++◌, drop, length, map, reverse, Bool, true, false, not, if◌then◌else◌, Option, Some, None, is_none, unwrap_or}
 use Rattle.inf_names.specs.Symbols.{declared_before}
 use Rattle.inf_output.specs.Output.{Out}
 use Rattle.inf_scanner.specs.declared.tokens.Mark.TheVariants as mark
@@ -450,6 +450,19 @@ abbrev pub NoneInside : Bool → Around → Type 0
 NoneInside false s = s.inside ≡ []
 NoneInside true s = Unit {0}
 
+-- Behind a `#` that began a directive some may be, where no directive ends among its first tokens.
+abbrev pub sign_ends : Option At → Bool
+sign_ends None = false
+sign_ends (Some sign) = not (is_none sign.ended)
+
+abbrev pub first_ends : First → Bool
+first_ends first = sign_ends first.sign || not (is_none first.word.ended)
+
+abbrev pub NoneInsideFirst : (is_kept is_inner : Bool) → First → Around → Type 0
+NoneInsideFirst true false first s = first_ends first ≡ true → s.inside ≡ []
+NoneInsideFirst true true first s = Unit {0}
+NoneInsideFirst false is_inner first s = NoneInside is_inner s
+
 abbrev pub NoneInsideBehind : Bool → Bool → At → Around → Type 0
 NoneInsideBehind true false end s = end.ended ≡ None → s.inside ≡ []
 NoneInsideBehind _ _ end s = Unit {0}
@@ -510,7 +523,7 @@ abbrev mutual
       let now = declared_first first declared in
       let later = declared_tokens (all_tokens before) now in
       IsFirst (all_kept s) is_inner is_within (opening if_declared) first
-      × (NoneInside is_inner s
+      × (NoneInsideFirst (all_kept s) is_inner first s
       × ((AreParts answers (among is_within x) x now before × AddsNone answers x before)
       × ((IsName (all_kept s) name × ((declared_before name.token.bytes later name.out.names ≡ answers.is_declared name) × (all_kept y ≡ all_kept x)))
       × ((AreParts answers (among is_within y) y (declared_behind name later) behind × AddsNone answers y behind)
@@ -519,7 +532,7 @@ abbrev mutual
       let x = asking_parts answers is_inner wanted first within end s in
       let now = declared_first first declared in
       IsFirst (all_kept s) is_inner is_within (asking wanted) first
-      × (NoneInside is_inner s
+      × (NoneInsideFirst (all_kept s) is_inner first s
       × ((AreParts answers (among is_within x) x now within × StayAs answers x within)
       × (IsPlain (all_kept s) true end
       × (IsAsked (all_kept s) answers first (kept_sides answers x within) end (declared_tokens (all_tokens within) now)
@@ -527,12 +540,12 @@ abbrev mutual
   IsPart answers is_within s declared (Turning is_inner first within end) =
       let x = before_parts turned s in
       IsFirst (all_kept s) is_inner is_within word.Ifnot first
-      × (NoneInside is_inner s
+      × (NoneInsideFirst (all_kept s) is_inner first s
       × ((AreParts answers (among is_within x) x (declared_first first declared) within × AddsNone answers x within) × IsSemicolon end))
   IsPart answers is_within s declared (Closing is_inner first within end) =
       let x = before_parts closed s in
       IsFirst (all_kept s) is_inner is_within word.Endif first
-      × (NoneInside is_inner s
+      × (NoneInsideFirst (all_kept s) is_inner first s
       × ((AreParts answers (among is_within x) x (declared_first first declared) within × AddsNone answers x within) × IsSemicolon end))
   IsPart answers is_within s declared (Passed is_inner w first) =
       IsFirst false is_inner is_within w first × (NoneInside is_inner s × ((all_kept s ≡ false) × (all_kept (passed_by is_inner first w s) ≡ false)))

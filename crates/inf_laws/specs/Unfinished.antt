@@ -14,7 +14,7 @@ use Rattle.inf_conditionals.specs.declared.judged.Sign.{Sign}
 use Rattle.inf_conditionals.specs.declared.words.ConditionalWord.TheVariants as word
 use Rattle.inf_conditionals.specs.Open.{most_levels}
 use Rattle.inf_reader.specs.Handing.{hash}
-use Rattle.inf_laws.specs.KeptSides.{AddsNone, Answers, AreParts, Around, At, Begins, First, Follows, Handing, IsFirst, IsSign, IsSignedPlain, NoneInside, Parts, all_kept, all_tokens, as_kept, asking, before_parts, behind_name, behind_parts, closed, condition_behind, declared_behind, declared_first, declared_tokens, ended_in, first_tokens, kept_sides, missing_in, opening, placed_word, told_parts, turned}
+use Rattle.inf_laws.specs.KeptSides.{AddsNone, Answers, AreParts, Around, At, Begins, First, Follows, Handing, IsFirst, IsSign, IsSignedPlain, NoneInside, NoneInsideFirst, Parts, all_kept, all_tokens, as_kept, asking, before_parts, behind_name, behind_parts, closed, condition_behind, declared_behind, declared_first, declared_tokens, ended_in, first_tokens, kept_sides, missing_in, opening, placed_word, told_parts, turned}
 
 -- What is there of one
 
@@ -87,29 +87,29 @@ HasWord u = Unit {0}
 abbrev pub IsBegun : Answers → Bool → Around → ℕ → Unfinished → Type 0
 IsBegun answers is_within s declared (Unnamed is_inner if_declared first before) =
     IsFirst true is_inner is_within (opening if_declared) first
-    × (NoneInside is_inner s × ((all_kept s ≡ true) × (AreParts answers true s (declared_first first declared) before × (kept_sides answers s before ≡ []))))
+    × (NoneInsideFirst true is_inner first s × ((all_kept s ≡ true) × (AreParts answers true s (declared_first first declared) before × (kept_sides answers s before ≡ []))))
 IsBegun answers is_within s declared (Named is_inner if_declared first before name behind) =
     let y = behind_name answers before name s in
     let now = declared_first first declared in
     IsFirst true is_inner is_within (opening if_declared) first
-    × (NoneInside is_inner s
+    × (NoneInsideFirst true is_inner first s
     × ((all_kept s ≡ true)
     × ((AreParts answers true s now before × AddsNone answers s before)
     × ((name.token.kind ≡ kind.Name)
     × (AreParts answers true y (declared_behind name (declared_tokens (all_tokens before) now)) behind × (kept_sides answers y behind ≡ []))))))
 IsBegun answers is_within s declared (Asked is_inner wanted first within) =
     IsFirst true is_inner is_within (asking wanted) first
-    × (NoneInside is_inner s
+    × (NoneInsideFirst true is_inner first s
     × ((all_kept s ≡ true)
     × (AreParts answers true s (declared_first first declared) within × GoOn (kept_sides answers s within) (condition_took (placed_word first) condition_begun))))
 IsBegun answers is_within s declared (Turns is_inner hashes first within) =
     let x = before_parts turned s in
     (HashesBefore is_inner s hashes first × IsFirst (all_kept s) is_inner is_within word.Ifnot first)
-    × (NoneInside is_inner s × ((all_kept x ≡ true) × (AreParts answers true x (declared_first first (declared_tokens hashes declared)) within × (kept_sides answers x within ≡ []))))
+    × (NoneInsideFirst (all_kept s) is_inner first s × ((all_kept x ≡ true) × (AreParts answers true x (declared_first first (declared_tokens hashes declared)) within × (kept_sides answers x within ≡ []))))
 IsBegun answers is_within s declared (Closes is_inner hashes first within) =
     let x = before_parts closed s in
     (HashesBefore is_inner s hashes first × IsFirst (all_kept s) is_inner is_within word.Endif first)
-    × (NoneInside is_inner s × ((all_kept x ≡ true) × (AreParts answers true x (declared_first first (declared_tokens hashes declared)) within × (kept_sides answers x within ≡ []))))
+    × (NoneInsideFirst (all_kept s) is_inner first s × ((all_kept x ≡ true) × (AreParts answers true x (declared_first first (declared_tokens hashes declared)) within × (kept_sides answers x within ≡ []))))
 
 IsBegun answers is_within s declared (Fronting sign within) =
     Begins true false is_within (Some sign) sign
