@@ -26,7 +26,7 @@ use Rattle.inf_reader.specs.Handing.{hash, said_told, site_of}
 use Rattle.inf_reader.specs.Reading.{is_mode_ended}
 use Rattle.inf_session.specs.Choices.{Choices}
 use Rattle.inf_session.specs.Session.{State, answered, asked_nothing, heeded, included_by, left, left_by, file_closed, none_included, stand_of, stepped, token_of, turn}
-use Rattle.inf_laws.specs.IncludedFiles.{Alone, AreFiles, AreOfAFile, Breaking, Cut, CutHashLast, CutHashThen, CutHashesLeft, Enters, Files, FilesKeepSides, FilesTellUnended, HashLast, HashThen, HashesLeft, Including, Leaves, Stays, Step, TurnsKeepFiles, all_unended, around_behind, around_broken, around_included, asked_passage, behind_files, end_handed, end_sign, first_step, handed_by, handed_end, handed_files, opens, passage, passed_files, released, sign_as, staying, step_at, step_behind, steps, steps_at, steps_behind, told_at, told_behind, told_by, told_files}
+use Rattle.inf_laws.specs.IncludedFiles.{Alone, AreFiles, AreOfAFile, Breaking, Cut, CutHashLast, CutHashThen, CutHashesLeft, Enters, Files, FilesKeepSides, FilesTellUnended, HashLast, HashThen, HashesLeft, Including, Leaves, Stays, Step, TurnsKeepFiles, all_unended, around_behind, around_broken, around_included, asked_passage, behind_files, end_handed, end_sign, first_step, handed_by, handed_end, handed_files, opens, passage, passed_files, released, sign_as, standing, staying, step_at, step_behind, steps, steps_at, steps_behind, told_at, told_behind, told_by, told_files}
 use Rattle.inf_laws.specs.KeptSides.{Answers, Around, At, Follows, Handing, IsClear, IsPlain, IsSign, NoneInside, Parts, all_behind, all_handed_on, all_kept, all_tokens, all_told, are_kept, as_kept, behind_parts, declared_behind, declared_tokens, ended_behind, ended_in, ended_places, going_on, handed_as, handed_on, handed_sign, handed_token, judged_at, kept_sides, lone_places, missing_in, none_around, places, told_parts, unended}
 use Rattle.inf_laws.specs.Unfinished.{AreHashes, Asked as HasAsked, Bare, Closes, Fronting, FrontingWord, HasWord, Hashed, HaveBegun, IsMisfit, Misfit, Named, Turns, Unfinished, Unnamed, all_begun_tokens, as_unfit, begun_handed, begun_sign, behind_all_begun, behind_misfit, handed_misfit, misfit_tokens, told_all_begun, told_misfit}
 use Rattle.inf_laws.specs.KeptTurns.{given_by, given_in, turned}
@@ -421,6 +421,17 @@ led_on h place (x ∷ more) held free given told frees follows rest =
       behind = ap (steps_behind more) same;
     }
 
+-- where reading stands makes no difference to it
+standing_led : (is_between : Bool) (more : List Step) (c : Conditions) (place : Place) (inner among : List Conditional) (declared : ℕ) (given : List Handing) (told : List Place)
+    → StepsLed more (state c (Some place) inner among None declared) given told → StepsLed (standing is_between more) (state c (Some place) inner among None declared) given told
+standing_led is_between [] c place inner among declared given told is = is
+standing_led is_between (x ∷ more) c place inner among declared given told is = record { hands = is.hands; tells = is.tells }
+
+standing_same : (is_between : Bool) (more : List Step) (c : Conditions) (place : Place) (inner among : List Conditional) (declared : ℕ)
+    → steps_behind (standing is_between more) (state c (Some place) inner among None declared) ≡ steps_behind more (state c (Some place) inner among None declared)
+standing_same is_between [] c place inner among declared = refl
+standing_same is_between (x ∷ more) c place inner among declared = refl
+
 -- inside a directive, and inside a conditional one
 frees_kept : (place : Place) (c : Conditions) (inner among : List Conditional) (declared : ℕ) → c.pending ≡ [] → (next : At) → is_mark mark.Hash next.token.kind ≡ true → next.site.is_between ≡ false
     → (judged_at next (state c (Some place) inner among None declared) ≡ with_sign handed.Kept place (judged_at next (at (given_up_at c) inner among None declared)))
@@ -590,7 +601,7 @@ end_is_handed (HashThen parts sign more) end = end_is_handed more end
 end_is_handed (HashesLeft parts is_inner signs) end = refl
 end_is_handed (CutHashesLeft parts outer u is_inner signs) end = begun_is_handed u end
 end_is_handed (CutHashLast parts outer u sign) end = refl
-end_is_handed (CutHashThen parts outer u sign more) end = end_is_handed more end
+end_is_handed (CutHashThen parts outer u sign is_between more) end = end_is_handed more end
 end_is_handed (Breaking parts outer u misfit more) end = end_is_handed more end
 end_is_handed (Including parts t f leaving more) end = end_is_handed more end
 
@@ -824,7 +835,7 @@ files_led d (CutHashLast parts outer u sign) s w c b are =
           ∙ ap (steps_behind (staying sign ∷ [])) to_there
           ∙ k.held.next)) ends;
     }
-files_led d (CutHashThen parts outer u sign more) s w c b are =
+files_led d (CutHashThen parts outer u sign is_between more) s w c b are =
     let first = stretch d s w c parts b are.0 in
     let broken = broken_led d s w c parts outer u first are.1.0 in
     let tokens = all_tokens parts in
@@ -851,22 +862,25 @@ files_led d (CutHashThen parts outer u sign more) s w c b are =
     let on =
     led_on handed.Unfit place (steps more) then free given others (frees_unfit place k.base k.p k.others inner among k.declared k.read) are.1.1.0.follows
     (subst (λ (x : Conditions). StepsLed (steps more) x given others) frees rest.led) in
+    let coming = standing is_between (steps more) in
     let to_here = behind_staying tokens c in
     let to_there = behind_staying toks c_here in
-    let second : StepsLed (map staying toks ++ staying sign ∷ steps more) c_here (as_unfit (hash place) ∷ given) (alone ++ others) =
-    joined (map staying toks) (staying sign ∷ steps more) c_here [] (as_unfit (hash place) ∷ given) alone others broken.led
-    (subst (λ (x : Conditions). StepsLed (staying sign ∷ steps more) x (as_unfit (hash place) ∷ given) others) (sym to_there)
-    (held_led sign (steps more) there then (as_unfit (hash place) ∷ given) others k.held on.led)) in
+    let second : StepsLed (map staying toks ++ staying sign ∷ coming) c_here (as_unfit (hash place) ∷ given) (alone ++ others) =
+    joined (map staying toks) (staying sign ∷ coming) c_here [] (as_unfit (hash place) ∷ given) alone others broken.led
+    (subst (λ (x : Conditions). StepsLed (staying sign ∷ coming) x (as_unfit (hash place) ∷ given) others) (sym to_there)
+    (held_led sign coming there then (as_unfit (hash place) ∷ given) others k.held
+    (standing_led is_between (steps more) k.base place inner among k.declared (as_unfit (hash place) ∷ given) others on.led))) in
     record {
-      led = joined (map staying tokens) (map staying toks ++ staying sign ∷ steps more) c (map as_kept (kept_sides d s parts)) (as_unfit (hash place) ∷ given) (told_parts d s parts) (alone ++ others) first.led
-          (subst (λ (x : Conditions). StepsLed (map staying toks ++ staying sign ∷ steps more) x (as_unfit (hash place) ∷ given) (alone ++ others)) (sym to_here) second);
+      led = joined (map staying tokens) (map staying toks ++ staying sign ∷ coming) c (map as_kept (kept_sides d s parts)) (as_unfit (hash place) ∷ given) (told_parts d s parts) (alone ++ others) first.led
+          (subst (λ (x : Conditions). StepsLed (map staying toks ++ staying sign ∷ coming) x (as_unfit (hash place) ∷ given) (alone ++ others)) (sym to_here) second);
       ends = subst (λ (x : Conditions). EndsAs (end_sign more) (end_handed more) (behind_files d here more) w x)
           (sym
-          (behind_both (map staying tokens) (map staying toks ++ staying sign ∷ steps more) c
-          ∙ ap (steps_behind (map staying toks ++ staying sign ∷ steps more)) to_here
-          ∙ behind_both (map staying toks) (staying sign ∷ steps more) c_here
-          ∙ ap (steps_behind (staying sign ∷ steps more)) to_there
-          ∙ ap (steps_behind (steps more)) k.held.next
+          (behind_both (map staying tokens) (map staying toks ++ staying sign ∷ coming) c
+          ∙ ap (steps_behind (map staying toks ++ staying sign ∷ coming)) to_here
+          ∙ behind_both (map staying toks) (staying sign ∷ coming) c_here
+          ∙ ap (steps_behind (staying sign ∷ coming)) to_there
+          ∙ ap (steps_behind coming) k.held.next
+          ∙ standing_same is_between (steps more) k.base place inner among k.declared
           ∙ on.behind
           ∙ ap (steps_behind (steps more)) (sym frees))) rest.ends;
     }

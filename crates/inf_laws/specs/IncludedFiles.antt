@@ -81,9 +81,14 @@ pub data Files : Type 0 where
   Cut : (parts : Parts) (outer : List Unfinished) (u : Unfinished) → Files
   CutHashesLeft : (parts : Parts) (outer : List Unfinished) (u : Unfinished) (is_inner : Bool) (signs : List At) → Files
   CutHashLast : (parts : Parts) (outer : List Unfinished) (u : Unfinished) (sign : At) → Files
-  CutHashThen : (parts : Parts) (outer : List Unfinished) (u : Unfinished) (sign : At) (behind : Files) → Files
+  CutHashThen : (parts : Parts) (outer : List Unfinished) (u : Unfinished) (sign : At) (is_between : Bool) (behind : Files) → Files
   Breaking : (parts : Parts) (outer : List Unfinished) (u : Unfinished) (misfit : Misfit) (behind : Files) → Files
   Including : (parts : Parts) (entering : At) (included : Files) (leaving : At) (behind : Files) → Files
+
+-- Where the first one stands behind a `#` that cuts a directive, it is taken as inside another one, whether that was between the others or not.
+abbrev pub standing : Bool → List Step → List Step
+standing is_between [] = []
+standing is_between (x ∷ steps) = record x { at = record x.at { site = record x.at.site { is_between = is_between } } } ∷ steps
 
 abbrev pub steps : Files → List Step
 steps (Alone parts) = map staying (all_tokens parts)
@@ -93,7 +98,8 @@ steps (HashThen parts sign behind) = map staying (all_tokens parts) ++ staying s
 steps (HashesLeft parts is_inner signs) = map staying (all_tokens parts) ++ map staying signs
 steps (CutHashesLeft parts outer u is_inner signs) = map staying (all_tokens parts) ++ (map staying (all_begun_tokens outer u) ++ map staying signs)
 steps (CutHashLast parts outer u sign) = map staying (all_tokens parts) ++ (map staying (all_begun_tokens outer u) ++ staying sign ∷ [])
-steps (CutHashThen parts outer u sign behind) = map staying (all_tokens parts) ++ (map staying (all_begun_tokens outer u) ++ staying sign ∷ steps behind)
+steps (CutHashThen parts outer u sign is_between behind) =
+    map staying (all_tokens parts) ++ (map staying (all_begun_tokens outer u) ++ staying sign ∷ standing is_between (steps behind))
 steps (Breaking parts outer u misfit behind) =
     map staying (all_tokens parts) ++ (map staying (all_begun_tokens outer u) ++ (map staying (misfit_tokens misfit) ++ steps behind))
 steps (Including parts entering included leaving behind) =
@@ -119,7 +125,7 @@ behind_files answers s (HashThen parts sign behind) = behind_files answers (behi
 behind_files answers s (HashesLeft parts is_inner signs) = behind_parts answers s parts
 behind_files answers s (CutHashesLeft parts outer u is_inner signs) = behind_all_begun answers (behind_parts answers s parts) outer u
 behind_files answers s (CutHashLast parts outer u sign) = behind_all_begun answers (behind_parts answers s parts) outer u
-behind_files answers s (CutHashThen parts outer u sign behind) = behind_files answers (behind_all_begun answers (behind_parts answers s parts) outer u) behind
+behind_files answers s (CutHashThen parts outer u sign is_between behind) = behind_files answers (behind_all_begun answers (behind_parts answers s parts) outer u) behind
 behind_files answers s (Breaking parts outer u misfit behind) = behind_files answers (around_broken answers s parts outer u misfit) behind
 behind_files answers s (Including parts entering included leaving behind) = behind_files answers (around_behind (behind_parts answers s parts)) behind
 
@@ -136,7 +142,7 @@ end_sign (Cut parts outer u) = begun_sign u
 end_sign (HashesLeft parts is_inner signs) = None
 end_sign (CutHashesLeft parts outer u is_inner signs) = begun_sign u
 end_sign (CutHashLast parts outer u sign) = Some (sign_as handed.Unfit sign)
-end_sign (CutHashThen parts outer u sign behind) = end_sign behind
+end_sign (CutHashThen parts outer u sign is_between behind) = end_sign behind
 end_sign (Breaking parts outer u misfit behind) = end_sign behind
 end_sign (Including parts entering included leaving behind) = end_sign behind
 
@@ -149,7 +155,7 @@ end_handed (Cut parts outer u) = begun_handed u
 end_handed (HashesLeft parts is_inner signs) = handed.Kept
 end_handed (CutHashesLeft parts outer u is_inner signs) = begun_handed u
 end_handed (CutHashLast parts outer u sign) = handed.Kept
-end_handed (CutHashThen parts outer u sign behind) = end_handed behind
+end_handed (CutHashThen parts outer u sign is_between behind) = end_handed behind
 end_handed (Breaking parts outer u misfit behind) = end_handed behind
 end_handed (Including parts entering included leaving behind) = end_handed behind
 
@@ -166,7 +172,7 @@ handed_files answers s (HashThen parts sign behind) =
 handed_files answers s (HashesLeft parts is_inner signs) = map as_kept (kept_sides answers s parts)
 handed_files answers s (CutHashesLeft parts outer u is_inner signs) = map as_kept (kept_sides answers s parts)
 handed_files answers s (CutHashLast parts outer u sign) = map as_kept (kept_sides answers s parts)
-handed_files answers s (CutHashThen parts outer u sign behind) =
+handed_files answers s (CutHashThen parts outer u sign is_between behind) =
     map as_kept (kept_sides answers s parts)
     ++ as_unfit (hash sign.token.place) ∷ handed_files answers (behind_all_begun answers (behind_parts answers s parts) outer u) behind
 handed_files answers s (Breaking parts outer u misfit behind) =
@@ -190,7 +196,7 @@ told_files answers s (HashesLeft parts is_inner signs) = told_parts answers s pa
 told_files answers s (CutHashesLeft parts outer u is_inner signs) =
     told_parts answers s parts ++ told_all_begun answers (behind_parts answers s parts) outer u
 told_files answers s (CutHashLast parts outer u sign) = told_parts answers s parts ++ told_all_begun answers (behind_parts answers s parts) outer u
-told_files answers s (CutHashThen parts outer u sign behind) =
+told_files answers s (CutHashThen parts outer u sign is_between behind) =
     told_parts answers s parts
     ++ (told_all_begun answers (behind_parts answers s parts) outer u
     ++ told_files answers (behind_all_begun answers (behind_parts answers s parts) outer u) behind)
@@ -263,7 +269,7 @@ AreFiles answers s c (CutHashLast parts outer u sign) =
     AreOfAFile answers s c.declared parts
     × (HaveBegun answers (behind_parts answers s parts) (declared_tokens (all_tokens parts) c.declared) (length (all_tokens parts)) outer u
     × ((all_kept (behind_all_begun answers (behind_parts answers s parts) outer u) ≡ true) × IsSign true sign))
-AreFiles answers s c (CutHashThen parts outer u sign behind) =
+AreFiles answers s c (CutHashThen parts outer u sign is_between behind) =
     AreOfAFile answers s c.declared parts
     × (HaveBegun answers (behind_parts answers s parts) (declared_tokens (all_tokens parts) c.declared) (length (all_tokens parts)) outer u
     × (IsThen (behind_all_begun answers (behind_parts answers s parts) outer u) sign behind
