@@ -1076,6 +1076,12 @@ turns_keep_files d sources o n s f are_these clear are =
     let last = stepped behind in
     record {
       handed_on = steps_hand_on sources o n s ∙ ap (λ xs. handed_by xs s.conditions) are_these ∙ all.handed_on;
+      end_on = λ is_last.
+          let t = token_of behind.nesting.cursor in
+          let b = judged (site_of behind.reading) behind.work.output t behind.conditions in
+          all_shown behind.nesting.names b.judged t (said_told b.now.said behind.nesting.names (stand_of behind))
+          ∙ ap (λ (c : Conditions). handed_on (judged_at end c).judged t) (steps_turned sources o n s ∙ ap (λ xs. steps_behind xs s.conditions) are_these)
+          ∙ all.end_on end is_last;
       at_last = λ is_last.
           files_tell_unended last.nesting.names (judged_at end behind.conditions).now last.work.report
           ∙ ap (λ ps. with_all_at last.nesting.names ps last.work.report)
