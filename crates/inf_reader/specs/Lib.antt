@@ -1,9 +1,6 @@
-pub mod Cursors
 pub mod Tests
 pub mod Reading
 pub mod Pieces
 pub mod Standing
-pub mod ReadingLaws
-pub mod Constants
 pub mod Handing
 pub mod Limits

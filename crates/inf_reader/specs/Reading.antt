@@ -2,13 +2,10 @@
 -- A token that fits is taken, and the actions on the way to it act. One that does not is the bad token of its piece; it is told,
 -- and tokens are passed over to where the piece ends. The unit that it cuts gives nothing.
 -- Designer's Manual, fourth edition, sections 1.3, 1.4 and 1.7.
-use Rattle.std.specs.Prelude.{ℕ, List, [], ◌∷◌, length, Bool, true, false, ◌||◌, if◌then◌else◌, zero, suc}
+use Rattle.std.specs.Prelude.{ℕ, List, [], ◌∷◌, Bool, true, false, ◌||◌, if◌then◌else◌}
 use Rattle.inf_characters.specs.declared.characters.CharSet.{CharSet}
 use Rattle.inf_scanner.specs.declared.tokens.Mark.TheVariants as mark
 use Rattle.inf_scanner.specs.declared.tokens.TokenKind.{TokenKind}
-use Rattle.inf_scanner.specs.declared.tokens.TokenKind.TheVariants as kind
-use Rattle.inf_settings.specs.Settings.{number_of as setting_number}
-use Rattle.inf_settings.specs.declared.setting.Setting.TheVariants.{QuotedText}
 use Rattle.inf_settings.specs.declared.settings.Settings.{Settings}
 use Rattle.inf_report.specs.Messages.{Location, Message, kind_of}
 use Rattle.inf_report.specs.declared.messages.Kind.{Kind}
@@ -23,8 +20,6 @@ use Rattle.inf_grammar.specs.Routines.{is_in_routine}
 use Rattle.inf_grammar.specs.Language.{grammar, known}
 use Rattle.inf_work.specs.Actions.{Work, cut, is_class, no_work, piece_begun as work_begun, took as work_took}
 use Rattle.inf_work.specs.Acting.{all_acted}
-use Rattle.inf_sources.specs.Cursors.{Cursor, front}
-use Rattle.inf_reader.specs.Cursors.{next_token}
 use Rattle.inf_conditionals.specs.Atoms.{atom_as}
 use Rattle.inf_reader.specs.Tests.{complaint_of}
 use Rattle.inf_reader.specs.declared.mode.Mode.{Mode}
@@ -39,12 +34,6 @@ pub record Reading : Type 0 where
 abbrev pub between : Mode → Reading
 between m = record { mode = m; stack = [] }
 
--- What is still to come of the source, what is read of it, and what was compiled.
-pub record State : Type 0 where
-  pub cursor : Cursor
-  pub reading : Reading
-  pub work : Work
-
 -- what was read, and what was compiled
 pub record Stand : Type 0 where
   pub reading : Reading
@@ -54,14 +43,6 @@ pub record Stand : Type 0 where
 abbrev pub begun_stand : CharSet → Settings → Stand
 begun_stand set settings = record { reading = between mode.Reads; work = no_work set settings }
 
--- before the first turn all of the source is still to come; the settings say how many bytes a text or quote may have
-abbrev pub start : CharSet → Settings → List ℕ → State
-start set settings source = record {
-  cursor = front set (setting_number QuotedText settings) 0 source;
-  reading = between mode.Reads;
-  work = no_work set settings;
-}
-
 abbrev pub is_mode_ended : Mode → Bool
 is_mode_ended mode.Ended = true
 is_mode_ended _ = false
@@ -69,9 +50,6 @@ is_mode_ended _ = false
 -- nothing is read after the end of the source or a fatal message
 abbrev pub has_ended_at : Stand → Bool
 has_ended_at s = s.work.report.counts.is_over || is_mode_ended s.reading.mode
-
-abbrev pub has_ended : State → Bool
-has_ended s = s.work.report.counts.is_over || is_mode_ended s.reading.mode
 
 -- Bad pieces
 
@@ -141,26 +119,3 @@ step_in skip files t r w = record { reading = record r { mode = passed skip t.ki
 -- what a token does
 abbrev pub step : FileNames → Spelled → Reading → Work → Stand
 step files t r w = step_in r.mode files t r w
-
-abbrev pub stand : State → Stand → State
-stand s n = record s { reading = n.reading; work = n.work }
-
-abbrev pub taken_at : FileNames → Spelled → State → State
-taken_at files t s = stand s (step files t s.reading s.work)
-
--- one turn of reading takes the next token
-abbrev pub turn : FileNames → State → State
-turn files s = let t = next_token s.cursor in taken_at files t.0 (record s { cursor = t.1 })
-
--- at most n turns
-abbrev pub run : FileNames → ℕ → State → State
-run files zero s = s
-run files (suc n) s = if has_ended s then s else run files n (turn files s)
-
--- Each turn takes a token or finds the end, so this many turns read the whole source.
-abbrev pub turns_of : List ℕ → ℕ
-turns_of source = suc (length source)
-
--- what is compiled of a source
-abbrev pub compiled : CharSet → Settings → FileNames → List ℕ → State
-compiled set settings files source = run files (turns_of source) (start set settings source)

@@ -7,4 +7,4 @@ pub mod progress;
 pub mod reader;
 mod tokens;
 
-pub use laws::{constants_have_these_numbers, limits_stay, pieces_are_read, sources_are_read};
+pub use laws::{limits_stay, pieces_begin};
