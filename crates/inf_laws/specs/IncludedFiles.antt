@@ -327,7 +327,8 @@ abbrev pub steps_at : Sources → Choices → ℕ → State → List Step
 steps_at sources o zero s = []
 steps_at sources o (suc n) s = step_at sources o s ∷ steps_at sources o n (turn sources o s)
 
--- Turns whose steps are those of files keep what these keep, and the next one hands on the end of the file. That tells what is told behind its step, in this order, after all else.
+-- Turns whose steps are those of files keep what these keep, and the next one hands on the end of the file. That tells what is told behind its step,
+-- in this order, after all else.
 pub record TurnsKeep (answers : Answers) (sources : Sources) (o : Choices) (n : ℕ) (s : State) (files : Files) : Type 0 where
   pub handed_on : map shown (given_in sources o n s) ≡ handed_files answers none_around files
   pub end_on : let t = token_of (turned sources o n s).nesting.cursor in is_end t.kind ≡ true → map shown (given_by (turned sources o n s)) ≡ handed_end files t

@@ -119,11 +119,12 @@ signed_tokens (Some sign) tokens = sign ∷ tokens
 abbrev pub first_tokens : First → List At → List At
 first_tokens first tokens = signed_tokens first.sign (first.word ∷ tokens)
 
--- A token that belongs to no conditional directive, alone or behind a `#`; a `#` before another one, with which a part begins; a `#` that
--- begins a directive, with parts before the next token of that, or before the word of a conditional one, which is given with the same `#`; a directive with a name, which opens a conditional, where the name is
--- to be declared or not, and one with a condition, which is to be true or not; and an `Ifnot` and an `Endif`, each with its semicolon. A directive
--- stands inside another one or between the others, and parts stand between the tokens of a conditional one: before and behind its name, among
--- those of its condition, and before its semicolon. In a side that is left out the word of a directive may stand alone, whatever comes behind it.
+-- A token that belongs to no conditional directive, alone or behind a `#`; a `#` before another one, with which a part begins; a `#` that begins a
+-- directive, with parts before the next token of that, or before the word of a conditional one, which is given with the same `#`; a directive with
+-- a name, which opens a conditional, where the name is to be declared or not, and one with a condition, which is to be true or not; and an `Ifnot`
+-- and an `Endif`, each with its semicolon. A directive stands inside another one or between the others, and parts stand between the tokens of a
+-- conditional one: before and behind its name, among those of its condition, and before its semicolon. In a side that is left out the word of a
+-- directive may stand alone, whatever comes behind it.
 mutual
   pub data Part : Type 0 where
     Plain : (token : At) → Part
