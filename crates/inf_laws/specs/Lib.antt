@@ -4,16 +4,8 @@ pub mod NameEvents
 pub mod Skipping
 pub mod BadTokens
 pub mod Told
-pub mod Sides
 pub mod Counts
-pub mod MissingEnds
 pub mod KeptTokens
 pub mod KeptTurns
-pub mod LoneEnds
-pub mod InnerSides
-pub mod KeptSides
-pub mod Unfinished
-pub mod SideTurns
-pub mod IncludedFiles
 pub mod Hashes
 pub mod Parts

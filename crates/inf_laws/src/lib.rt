@@ -6,7 +6,6 @@ mod laws;
 
 pub use laws::{
     bad_pieces_are_skipped, bad_tokens_are_told, first_declarations_count, first_errors_are_told,
-    included_files_keep_sides, inner_sides_are_cut, kept_tokens_are_read, limits_count_the_story,
-    lone_ends_are_told, missing_ends_are_told, one_side_is_kept, parts_are_pieces, sides_are_cut,
-    undeclared_names_are_told_once, unused_locals_are_warned,
+    kept_tokens_are_read, limits_count_the_story, parts_are_pieces, undeclared_names_are_told_once,
+    unused_locals_are_warned,
 };

@@ -1,0 +1,84 @@
+-- The tokens that the turns of a whole reading hand on, with the conditionals of its file.
+use Rattle.std.specs.Prelude.{◌≡◌, ◌≤◌, ◌+◌, ℕ, zero, suc, List, [], ◌∷◌, ◌++◌, map, Bool, true, false, if◌then◌else◌, Option, Some, None}
+use Rattle.inf_token.specs.Files.{Sources}
+use Rattle.inf_unit.specs.Directives.{Asked, End, Include, Nothing}
+use Rattle.inf_unit.specs.Tokens.{is_end}
+use Rattle.inf_conditionals.specs.declared.judged.Handed.TheVariants as handed
+use Rattle.inf_conditionals.specs.declared.open.LeftOut.{LeftOut}
+use Rattle.inf_conditionals.specs.Open.{is_second, latest, most_levels}
+use Rattle.inf_reader.specs.Handing.{site_of}
+use Rattle.inf_reader.specs.Reading.{is_mode_ended}
+use Rattle.inf_session.specs.Choices.{Choices}
+use Rattle.inf_session.specs.Session.{State, file_closed, has_ended, heeded, is_resting, start, stepped, token_of, turn}
+use Rattle.inf_conditional_laws.specs.KeptSides.{Answers, At, Handing, IsClear, IsFile, Parts, all_handed_on, all_tokens, as_kept, behind_parts, kept_sides, none_around, unended}
+use Rattle.inf_laws.specs.KeptTokens.{Given, Kept, Unfit}
+use Rattle.inf_laws.specs.KeptTurns.{given_in, turned}
+use Rattle.inf_conditional_laws.specs.MissingEnds.{with_all_at}
+use Rattle.inf_conditional_laws.specs.Sides.{Event, StayIn, Token}
+
+-- where a directive is taken to end, how many names are declared
+abbrev pub ends_there : State → Option ℕ
+ends_there s = if has_ended s then None else if is_resting s then Some s.work.output.names.declared else None
+
+-- what comes to the conditionals by a turn, and by so many
+abbrev pub at_turn : Sources → Choices → State → At
+at_turn sources o s =
+    record { site = site_of s.reading; out = s.work.output; token = token_of s.nesting.cursor; ended = ends_there (heeded sources o (stepped s)) }
+
+abbrev pub at_turns : Sources → Choices → ℕ → State → List At
+at_turns sources o zero s = []
+at_turns sources o (suc n) s = at_turn sources o s ∷ at_turns sources o n (turn sources o s)
+
+-- in these turns no file ends, and none is asked for
+abbrev pub is_inclusion : Asked → Bool
+is_inclusion (Include text unit) = true
+is_inclusion End = false
+is_inclusion Nothing = false
+
+abbrev pub StayInOne : Sources → Choices → ℕ → State → Type 0
+StayInOne sources o zero s = Unit {0}
+StayInOne sources o (suc n) s =
+    (is_mode_ended (stepped s).reading.mode ≡ false) × ((is_inclusion (stepped s).work.asked ≡ false) × StayInOne sources o n (turn sources o s))
+
+-- what is handed on, without whether a name is that of a class
+abbrev pub shown : Given → Handing
+shown (Kept t) = record { handed = handed.Kept; token = t.token }
+shown (Unfit t) = record { handed = handed.Unfit; token = t }
+
+-- Turns hand on what conditionals do.
+abbrev pub TurnsHandOn : Type 0
+TurnsHandOn = (sources : Sources) (o : Choices) (n : ℕ) (s : State) → StayInOne sources o n s → map shown (given_in sources o n s) ≡ all_handed_on (at_turns sources o n s) s.conditions
+
+-- Where the tokens of so many turns are those of a file with such conditionals, just the tokens are handed on that its sides keep.
+abbrev pub TurnsKeepSides : Type 0
+TurnsKeepSides = (answers : Answers) (sources : Sources) (o : Choices) (n : ℕ) (s : State) (parts : Parts) → StayInOne sources o n s → at_turns sources o n s ≡ all_tokens parts
+    → IsClear s.conditions → IsFile answers s.conditions.declared parts
+    → map shown (given_in sources o n s) ≡ map as_kept (kept_sides answers none_around parts)
+
+-- Where the file ends with the next turn, just those conditionals are told that are open, in order, but for what was opened in a side that is left out.
+abbrev pub TurnsTellMissingEnds : Type 0
+TurnsTellMissingEnds = (answers : Answers) (sources : Sources) (o : Choices) (n : ℕ) (s : State) (parts : Parts) → StayInOne sources o n s → at_turns sources o n s ≡ all_tokens parts
+    → IsClear s.conditions → IsFile answers s.conditions.declared parts
+    → is_end (token_of (turned sources o n s).nesting.cursor).kind ≡ true
+    → let last = stepped (turned sources o n s) in let around = behind_parts answers none_around parts in
+    (file_closed last).work.report ≡ with_all_at last.nesting.names (unended around.inside ++ unended around.between) last.work.report
+
+-- So it is from the first token of a main source on.
+abbrev pub ReadingsStartClear : Type 0
+ReadingsStartClear = (sources : Sources) (o : Choices) (name : List ℕ) → IsClear (start sources o name).conditions
+
+-- Sides inside a directive
+
+abbrev pub as_event : At → Event
+as_event t = Token t.site t.out t.token
+
+-- While a side is left out inside a directive, turns hand on nothing, and how the directive is read stays as it was.
+pub record StandsStill (sources : Sources) (o : Choices) (n : ℕ) (s : State) : Type 0 where
+  pub none_given : given_in sources o n s ≡ []
+  pub reading : (turned sources o n s).reading ≡ s.reading
+
+abbrev pub TurnsCutInnerSides : Type 0
+TurnsCutInnerSides = (sources : Sources) (o : Choices) (n : ℕ) (s : State) (side : LeftOut) → s.conditions.left_out ≡ Some side → (site_of s.reading).is_between ≡ false
+    → is_mode_ended s.reading.mode ≡ false → s.work.asked ≡ Nothing → side.levels + n ≤ most_levels
+    → StayIn (is_second (latest s.conditions)) side.levels (map as_event (at_turns sources o n s))
+    → StandsStill sources o n s

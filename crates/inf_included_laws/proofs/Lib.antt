@@ -1,0 +1,2 @@
+pub mod IncludedFiles
+pub mod Unfinished

@@ -1,0 +1,343 @@
+-- Which tokens are kept of files that include one another: of each file those that its own conditionals keep.
+use Rattle.std.specs.Prelude.{◌≡◌, ◌≤◌, ◌+◌, ℕ, zero, suc, List, [], ◌∷◌, ◌++◌, map, reverse, length, Bool, true, false, if◌then◌else◌, Option, Some, None}
+use Rattle.inf_token.specs.Files.{Sources}
+use Rattle.inf_scanner.specs.declared.tokens.Mark.TheVariants as mark
+use Rattle.inf_scanner.specs.declared.tokens.Place.{Place}
+use Rattle.inf_sources.specs.Inclusions.{Inclusion, Opens, OpensNone, inclusion}
+use Rattle.inf_unit.specs.Directives.{Asked, End, Include, Nothing}
+use Rattle.inf_unit.specs.Messages.{FileNames, Reported}
+use Rattle.inf_unit.specs.Tokens.{Spelled, is_end}
+use Rattle.inf_conditionals.specs.declared.judged.Handed.{Handed}
+use Rattle.inf_conditionals.specs.declared.judged.Handed.TheVariants as handed
+use Rattle.inf_conditionals.specs.declared.judged.Sign.{Sign}
+use Rattle.inf_conditionals.specs.Ends.{file_entered, file_left, file_told}
+use Rattle.inf_conditionals.specs.Open.{Conditions, most_levels, silent}
+use Rattle.inf_reader.specs.Handing.{hash}
+use Rattle.inf_reader.specs.Reading.{is_mode_ended}
+use Rattle.inf_session.specs.Choices.{Choices}
+use Rattle.inf_session.specs.Session.{State, file_closed, stepped, token_of, turn}
+use Rattle.inf_conditional_laws.specs.KeptSides.{Answers, AreParts, Around, At, Follows, Handing, IsClear, IsPlain, IsSign, NoneInside, Parts, all_behind, all_kept, all_tokens, as_kept, behind_parts, declared_tokens, ended_behind, ended_in, ended_places, going_on, handed_on, handed_sign, judged_at, kept_sides, lone_places, missing_in, none_around, places, told_parts, unended}
+use Rattle.inf_included_laws.specs.Unfinished.{AreHashes, HaveBegun, IsMisfit, Misfit, Unfinished, all_begun_tokens, as_unfit, begun_handed, begun_sign, behind_all_begun, behind_misfit, handed_misfit, misfit_tokens, told_all_begun, told_misfit}
+use Rattle.inf_laws.specs.KeptTurns.{given_by, given_in, turned}
+use Rattle.inf_conditional_laws.specs.MissingEnds.{with_all_at}
+use Rattle.inf_conditional_laws.specs.SideTurns.{at_turn, shown}
+
+-- Steps
+
+-- Behind a token reading stays in its file, enters one that is included, or leaves the one that has ended.
+pub data Passage : Type 0 where
+  Stays : Passage
+  Enters : Passage
+  Leaves : Passage
+
+pub record Step : Type 0 where
+  pub at : At
+  pub passage : Passage
+
+abbrev pub staying : At → Step
+staying t = record { at = t; passage = Stays }
+
+abbrev pub passed_files : Passage → Conditions → Conditions
+passed_files Stays c = c
+passed_files Enters c = file_entered c
+passed_files Leaves c = file_left c
+
+-- the conditionals behind a step
+abbrev pub step_behind : Step → Conditions → Conditions
+step_behind x c = ended_behind x.at.ended (passed_files x.passage (silent (judged_at x.at c).now))
+
+abbrev pub steps_behind : List Step → Conditions → Conditions
+steps_behind [] c = c
+steps_behind (x ∷ steps) c = steps_behind steps (step_behind x c)
+
+-- what is handed on
+abbrev pub handed_by : List Step → Conditions → List Handing
+handed_by [] c = []
+handed_by (x ∷ steps) c = handed_on (judged_at x.at c).judged x.at.token ++ handed_by steps (step_behind x c)
+
+-- and what is told: at the end of a file those conditionals that are open in it
+abbrev pub told_behind : Passage → Conditions → List Place
+told_behind Leaves c = places (reverse c.inner) ++ places (reverse c.among)
+told_behind _ c = []
+
+abbrev pub told_at : Step → Conditions → List Place
+told_at x c = let b = judged_at x.at c in lone_places b.judged.lone ++ (told_behind x.passage b.now ++ ended_places x.at.ended (passed_files x.passage b.now).inner)
+
+abbrev pub told_by : List Step → Conditions → List Place
+told_by [] c = []
+told_by (x ∷ steps) c = told_at x c ++ told_by steps (step_behind x c)
+
+-- Files
+
+-- What is still to come of a file: no more than parts; or parts and a conditional directive that the end of the file cuts; or parts, one that a
+-- token cuts, this token, and what comes behind it; or parts, the token with which an included file is entered, what that has, the token at its
+-- end, and what comes behind. A `#` may stand last, or before another one, with which the rest of the file begins, behind parts or where it cuts a
+-- directive; and some may stand last in a side that is left out.
+pub data Files : Type 0 where
+  Alone : (parts : Parts) → Files
+  HashLast : (parts : Parts) (sign : At) → Files
+  HashThen : (parts : Parts) (sign : At) (behind : Files) → Files
+  HashesLeft : (parts : Parts) (is_inner : Bool) (signs : List At) → Files
+  Cut : (parts : Parts) (outer : List Unfinished) (u : Unfinished) → Files
+  CutHashesLeft : (parts : Parts) (outer : List Unfinished) (u : Unfinished) (is_inner : Bool) (signs : List At) → Files
+  CutHashLast : (parts : Parts) (outer : List Unfinished) (u : Unfinished) (sign : At) → Files
+  CutHashThen : (parts : Parts) (outer : List Unfinished) (u : Unfinished) (sign : At) (is_between : Bool) (behind : Files) → Files
+  Breaking : (parts : Parts) (outer : List Unfinished) (u : Unfinished) (misfit : Misfit) (behind : Files) → Files
+  Including : (parts : Parts) (entering : At) (included : Files) (leaving : At) (behind : Files) → Files
+
+-- Where the first one stands behind a `#` that cuts a directive, it is taken as inside another one, whether that was between the others or not.
+abbrev pub standing : Bool → List Step → List Step
+standing is_between [] = []
+standing is_between (x ∷ steps) = record x { at = record x.at { site = record x.at.site { is_between = is_between } } } ∷ steps
+
+abbrev pub steps : Files → List Step
+steps (Alone parts) = map staying (all_tokens parts)
+steps (Cut parts outer u) = map staying (all_tokens parts) ++ map staying (all_begun_tokens outer u)
+steps (HashLast parts sign) = map staying (all_tokens parts) ++ staying sign ∷ []
+steps (HashThen parts sign behind) = map staying (all_tokens parts) ++ staying sign ∷ steps behind
+steps (HashesLeft parts is_inner signs) = map staying (all_tokens parts) ++ map staying signs
+steps (CutHashesLeft parts outer u is_inner signs) = map staying (all_tokens parts) ++ (map staying (all_begun_tokens outer u) ++ map staying signs)
+steps (CutHashLast parts outer u sign) = map staying (all_tokens parts) ++ (map staying (all_begun_tokens outer u) ++ staying sign ∷ [])
+steps (CutHashThen parts outer u sign is_between behind) =
+    map staying (all_tokens parts) ++ (map staying (all_begun_tokens outer u) ++ staying sign ∷ standing is_between (steps behind))
+steps (Breaking parts outer u misfit behind) =
+    map staying (all_tokens parts) ++ (map staying (all_begun_tokens outer u) ++ (map staying (misfit_tokens misfit) ++ steps behind))
+steps (Including parts entering included leaving behind) =
+    map staying (all_tokens parts) ++ record { at = entering; passage = Enters } ∷ (steps included ++ record { at = leaving; passage = Leaves } ∷ steps behind)
+
+-- where an included file begins none is open between its directives, and behind it those are that were before
+abbrev pub around_included : At → Around → Around
+around_included entering s = ended_in entering.ended (record s { between = [] })
+
+abbrev pub around_behind : Around → Around
+around_behind s = record s { inside = [] }
+
+-- what is open behind a token that cuts a directive: that has not acted
+abbrev pub around_broken : Answers → Around → Parts → List Unfinished → Unfinished → Misfit → Around
+around_broken answers s parts outer u misfit = behind_misfit misfit (behind_all_begun answers (behind_parts answers s parts) outer u)
+
+-- what is open at the end of a file
+abbrev pub behind_files : Answers → Around → Files → Around
+behind_files answers s (Alone parts) = behind_parts answers s parts
+behind_files answers s (Cut parts outer u) = behind_all_begun answers (behind_parts answers s parts) outer u
+behind_files answers s (HashLast parts sign) = behind_parts answers s parts
+behind_files answers s (HashThen parts sign behind) = behind_files answers (behind_parts answers s parts) behind
+behind_files answers s (HashesLeft parts is_inner signs) = behind_parts answers s parts
+behind_files answers s (CutHashesLeft parts outer u is_inner signs) = behind_all_begun answers (behind_parts answers s parts) outer u
+behind_files answers s (CutHashLast parts outer u sign) = behind_all_begun answers (behind_parts answers s parts) outer u
+behind_files answers s (CutHashThen parts outer u sign is_between behind) = behind_files answers (behind_all_begun answers (behind_parts answers s parts) outer u) behind
+behind_files answers s (Breaking parts outer u misfit behind) = behind_files answers (around_broken answers s parts outer u misfit) behind
+behind_files answers s (Including parts entering included leaving behind) = behind_files answers (around_behind (behind_parts answers s parts)) behind
+
+-- a `#` that is handed on there, as one that is kept or as one that does not fit
+abbrev pub sign_as : Handed → At → Sign
+sign_as h sign = record { place = sign.token.place; handed = h }
+
+-- before the end of a file it is handed on with that
+abbrev pub end_sign : Files → Option Sign
+end_sign (Alone parts) = None
+end_sign (HashLast parts sign) = Some (sign_as handed.Kept sign)
+end_sign (HashThen parts sign behind) = end_sign behind
+end_sign (Cut parts outer u) = begun_sign u
+end_sign (HashesLeft parts is_inner signs) = None
+end_sign (CutHashesLeft parts outer u is_inner signs) = begun_sign u
+end_sign (CutHashLast parts outer u sign) = Some (sign_as handed.Unfit sign)
+end_sign (CutHashThen parts outer u sign is_between behind) = end_sign behind
+end_sign (Breaking parts outer u misfit behind) = end_sign behind
+end_sign (Including parts entering included leaving behind) = end_sign behind
+
+-- the end of a file is kept, but where it cuts a conditional directive it does not fit
+abbrev pub end_handed : Files → Handed
+end_handed (Alone parts) = handed.Kept
+end_handed (HashLast parts sign) = handed.Kept
+end_handed (HashThen parts sign behind) = end_handed behind
+end_handed (Cut parts outer u) = begun_handed u
+end_handed (HashesLeft parts is_inner signs) = handed.Kept
+end_handed (CutHashesLeft parts outer u is_inner signs) = begun_handed u
+end_handed (CutHashLast parts outer u sign) = handed.Kept
+end_handed (CutHashThen parts outer u sign is_between behind) = end_handed behind
+end_handed (Breaking parts outer u misfit behind) = end_handed behind
+end_handed (Including parts entering included leaving behind) = end_handed behind
+
+abbrev pub handed_end : Files → Spelled → List Handing
+handed_end files end = handed_sign (end_sign files) ++ record { handed = end_handed files; token = end } ∷ []
+
+-- the tokens that are handed on: of each file those that its own conditionals keep, and those that cut a directive, with the end of each included one
+abbrev pub handed_files : Answers → Around → Files → List Handing
+handed_files answers s (Alone parts) = map as_kept (kept_sides answers s parts)
+handed_files answers s (Cut parts outer u) = map as_kept (kept_sides answers s parts)
+handed_files answers s (HashLast parts sign) = map as_kept (kept_sides answers s parts)
+handed_files answers s (HashThen parts sign behind) =
+    map as_kept (kept_sides answers s parts) ++ as_kept (hash sign.token.place) ∷ handed_files answers (behind_parts answers s parts) behind
+handed_files answers s (HashesLeft parts is_inner signs) = map as_kept (kept_sides answers s parts)
+handed_files answers s (CutHashesLeft parts outer u is_inner signs) = map as_kept (kept_sides answers s parts)
+handed_files answers s (CutHashLast parts outer u sign) = map as_kept (kept_sides answers s parts)
+handed_files answers s (CutHashThen parts outer u sign is_between behind) =
+    map as_kept (kept_sides answers s parts)
+    ++ as_unfit (hash sign.token.place) ∷ handed_files answers (behind_all_begun answers (behind_parts answers s parts) outer u) behind
+handed_files answers s (Breaking parts outer u misfit behind) =
+    map as_kept (kept_sides answers s parts) ++ (handed_misfit misfit ++ handed_files answers (around_broken answers s parts outer u misfit) behind)
+handed_files answers s (Including parts entering included leaving behind) =
+    map as_kept (kept_sides answers s parts)
+    ++ as_kept entering.token
+    ∷ (handed_files answers (around_included entering (behind_parts answers s parts)) included
+    ++ (handed_end included leaving.token ++ handed_files answers (around_behind (behind_parts answers s parts)) behind))
+
+-- what is told: of each file by its own conditionals, and at the end of each included one what is open in it
+abbrev pub all_unended : Around → List Place
+all_unended s = unended s.inside ++ unended s.between
+
+abbrev pub told_files : Answers → Around → Files → List Place
+told_files answers s (Alone parts) = told_parts answers s parts
+told_files answers s (Cut parts outer u) = told_parts answers s parts ++ told_all_begun answers (behind_parts answers s parts) outer u
+told_files answers s (HashLast parts sign) = told_parts answers s parts
+told_files answers s (HashThen parts sign behind) = told_parts answers s parts ++ told_files answers (behind_parts answers s parts) behind
+told_files answers s (HashesLeft parts is_inner signs) = told_parts answers s parts
+told_files answers s (CutHashesLeft parts outer u is_inner signs) =
+    told_parts answers s parts ++ told_all_begun answers (behind_parts answers s parts) outer u
+told_files answers s (CutHashLast parts outer u sign) = told_parts answers s parts ++ told_all_begun answers (behind_parts answers s parts) outer u
+told_files answers s (CutHashThen parts outer u sign is_between behind) =
+    told_parts answers s parts
+    ++ (told_all_begun answers (behind_parts answers s parts) outer u
+    ++ told_files answers (behind_all_begun answers (behind_parts answers s parts) outer u) behind)
+told_files answers s (Breaking parts outer u misfit behind) =
+    told_parts answers s parts
+    ++ (told_all_begun answers (behind_parts answers s parts) outer u
+    ++ (told_misfit misfit (behind_all_begun answers (behind_parts answers s parts) outer u) ++ told_files answers (around_broken answers s parts outer u misfit) behind))
+told_files answers s (Including parts entering included leaving behind) =
+    let here = behind_parts answers s parts in
+    let inside = around_included entering here in
+    told_parts answers s parts
+    ++ (missing_in entering.ended here
+    ++ (told_files answers inside included ++ (all_unended (behind_files answers inside included) ++ told_files answers (around_behind here) behind)))
+
+-- The law
+
+-- parts of a file, by what is told of their names and conditions
+pub record AreOfAFile (answers : Answers) (s : Around) (declared : ℕ) (parts : Parts) : Type 0 where
+  pub are_parts : AreParts answers false s declared parts
+  pub few : length (all_tokens parts) ≤ most_levels
+
+-- a file is entered at a plain token that is kept, and left at its end
+pub record IsIncluded (s : Around) (entering leaving : At) : Type 0 where
+  pub is_kept : all_kept s ≡ true
+  pub plain : IsPlain true false entering
+  pub is_last : is_end leaving.token.kind ≡ true
+
+-- the first token of steps
+abbrev pub first_step : List Step → Option At
+first_step [] = None
+first_step (x ∷ steps) = Some x.at
+
+-- where a `#` that was held back is handed on, and what was read is given up
+abbrev pub released : Conditions → Conditions
+released c = record c { pending = []; conditions = []; sign = None }
+
+-- A `#` that another one follows, with which these begin, stands inside a directive, and so does the other one.
+pub record IsThen (s : Around) (sign : At) (behind : Files) : Type 0 where
+  pub is_kept : all_kept s ≡ true
+  pub is_sign : IsSign true sign
+  pub follows : Follows true true (first_step (steps behind))
+
+-- where a side is left out, behind so many tokens of the file
+pub record AreLeft (s : Around) (before : ℕ) (is_inner : Bool) (signs : List At) : Type 0 where
+  pub is_left : all_kept s ≡ false
+  pub none_inside : NoneInside is_inner s
+  pub are : AreHashes is_inner signs
+  pub few : before + length signs ≤ most_levels
+
+abbrev pub AreFiles : Answers → Around → Conditions → Files → Type 0
+AreFiles answers s c (Alone parts) = AreOfAFile answers s c.declared parts
+AreFiles answers s c (Cut parts outer u) =
+    AreOfAFile answers s c.declared parts
+    × HaveBegun answers (behind_parts answers s parts) (declared_tokens (all_tokens parts) c.declared) (length (all_tokens parts)) outer u
+AreFiles answers s c (HashLast parts sign) =
+    AreOfAFile answers s c.declared parts
+    × ((all_kept (behind_parts answers s parts) ≡ true) × ((sign.site.is_between ≡ false) × IsSign true sign))
+AreFiles answers s c (HashThen parts sign behind) =
+    AreOfAFile answers s c.declared parts
+    × (IsThen (behind_parts answers s parts) sign behind
+    × ((sign.site.is_between ≡ false)
+    × AreFiles answers (behind_parts answers s parts) (released (going_on sign (all_behind (all_tokens parts) c))) behind))
+AreFiles answers s c (HashesLeft parts is_inner signs) =
+    AreOfAFile answers s c.declared parts × AreLeft (behind_parts answers s parts) (length (all_tokens parts)) is_inner signs
+AreFiles answers s c (CutHashesLeft parts outer u is_inner signs) =
+    AreOfAFile answers s c.declared parts
+    × (HaveBegun answers (behind_parts answers s parts) (declared_tokens (all_tokens parts) c.declared) (length (all_tokens parts)) outer u
+    × AreLeft (behind_all_begun answers (behind_parts answers s parts) outer u) (length (all_tokens parts) + length (all_begun_tokens outer u)) is_inner signs)
+AreFiles answers s c (CutHashLast parts outer u sign) =
+    AreOfAFile answers s c.declared parts
+    × (HaveBegun answers (behind_parts answers s parts) (declared_tokens (all_tokens parts) c.declared) (length (all_tokens parts)) outer u
+    × ((all_kept (behind_all_begun answers (behind_parts answers s parts) outer u) ≡ true) × IsSign true sign))
+AreFiles answers s c (CutHashThen parts outer u sign is_between behind) =
+    AreOfAFile answers s c.declared parts
+    × (HaveBegun answers (behind_parts answers s parts) (declared_tokens (all_tokens parts) c.declared) (length (all_tokens parts)) outer u
+    × (IsThen (behind_all_begun answers (behind_parts answers s parts) outer u) sign behind
+    × AreFiles answers (behind_all_begun answers (behind_parts answers s parts) outer u)
+    (released (going_on sign (all_behind (all_begun_tokens outer u) (all_behind (all_tokens parts) c)))) behind))
+AreFiles answers s c (Breaking parts outer u misfit behind) =
+    AreOfAFile answers s c.declared parts
+    × (HaveBegun answers (behind_parts answers s parts) (declared_tokens (all_tokens parts) c.declared) (length (all_tokens parts)) outer u
+    × (IsMisfit answers (behind_parts answers s parts) outer u misfit
+    × AreFiles answers (around_broken answers s parts outer u misfit) (all_behind (misfit_tokens misfit) (all_behind (all_begun_tokens outer u) (all_behind (all_tokens parts) c))) behind))
+AreFiles answers s c (Including parts entering included leaving behind) =
+    AreOfAFile answers s c.declared parts
+    × (IsIncluded (behind_parts answers s parts) entering leaving
+    × (AreFiles answers (around_included entering (behind_parts answers s parts)) (step_behind (record { at = entering; passage = Enters }) (all_behind (all_tokens parts) c)) included
+    × AreFiles answers (around_behind (behind_parts answers s parts))
+    (step_behind (record { at = leaving; passage = Leaves }) (steps_behind (steps included) (step_behind (record { at = entering; passage = Enters }) (all_behind (all_tokens parts) c)))) behind))
+
+-- what is handed on of a token
+abbrev pub handed_at : At → Conditions → List Handing
+handed_at t c = handed_on (judged_at t c).judged t.token
+
+-- Just these tokens are handed on, each as one that is kept or as one that does not fit, and just these places are told, in this order; at the end of the
+-- outermost file those of what is open in it. The end is handed on too, perhaps behind a `#`.
+pub record KeepsFiles (answers : Answers) (files : Files) (c : Conditions) : Type 0 where
+  pub handed_on : handed_by (steps files) c ≡ handed_files answers none_around files
+  pub told : told_by (steps files) c ≡ told_files answers none_around files
+  pub end_on : (end : At) → is_end end.token.kind ≡ true → handed_at end (steps_behind (steps files) c) ≡ handed_end files end.token
+  pub at_last : (end : At) → is_end end.token.kind ≡ true
+      → told_behind Leaves (judged_at end (steps_behind (steps files) c)).now ≡ all_unended (behind_files answers none_around files)
+
+abbrev pub FilesKeepSides : Type 0
+FilesKeepSides = (answers : Answers) (files : Files) (c : Conditions) → IsClear c → AreFiles answers none_around c files → KeepsFiles answers files c
+
+-- Turns
+
+-- whether an inclusion opens a file
+abbrev pub opens : Inclusion → Passage
+opens (Opens name) = Enters
+opens (OpensNone why) = Stays
+
+abbrev pub asked_passage : Asked → Sources → Choices → State → Passage
+asked_passage (Include text unit) sources o s = opens (inclusion sources o.directories text s.nesting)
+asked_passage End sources o s = Stays
+asked_passage Nothing sources o s = Stays
+
+-- where reading goes behind a token
+abbrev pub passage : Sources → Choices → State → Passage
+passage sources o s =
+    if s.work.report.counts.is_over then Stays else if is_mode_ended s.reading.mode then Leaves else asked_passage s.work.asked sources o s
+
+abbrev pub step_at : Sources → Choices → State → Step
+step_at sources o s = record { at = at_turn sources o s; passage = passage sources o (stepped s) }
+
+abbrev pub steps_at : Sources → Choices → ℕ → State → List Step
+steps_at sources o zero s = []
+steps_at sources o (suc n) s = step_at sources o s ∷ steps_at sources o n (turn sources o s)
+
+-- Turns whose steps are those of files keep what these keep, and the next one hands on the end of the file. That tells what is told behind its step,
+-- in this order, after all else.
+pub record TurnsKeep (answers : Answers) (sources : Sources) (o : Choices) (n : ℕ) (s : State) (files : Files) : Type 0 where
+  pub handed_on : map shown (given_in sources o n s) ≡ handed_files answers none_around files
+  pub end_on : let t = token_of (turned sources o n s).nesting.cursor in is_end t.kind ≡ true → map shown (given_by (turned sources o n s)) ≡ handed_end files t
+  pub at_last : let last = stepped (turned sources o n s) in is_end (token_of (turned sources o n s).nesting.cursor).kind ≡ true
+      → (file_closed last).work.report ≡ with_all_at last.nesting.names (all_unended (behind_files answers none_around files)) last.work.report
+
+abbrev pub TurnsKeepFiles : Type 0
+TurnsKeepFiles = (answers : Answers) (sources : Sources) (o : Choices) (n : ℕ) (s : State) (files : Files) → steps_at sources o n s ≡ steps files
+    → IsClear s.conditions → AreFiles answers none_around s.conditions files → TurnsKeep answers sources o n s files
+
+abbrev pub FilesTellUnended : Type 0
+FilesTellUnended = (files : FileNames) (c : Conditions) (r : Reported) → file_told files c r ≡ with_all_at files (told_behind Leaves c) r

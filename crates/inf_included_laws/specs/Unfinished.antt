@@ -1,0 +1,207 @@
+-- Conditional directives that are not whole: a token that does not fit cuts one, with those around it that are read, or the end of the file does.
+use Rattle.std.specs.Prelude.{◌≡◌, ◌≤◌, ◌+◌, ℕ, List, [], ◌∷◌, ◌++◌, drop, length, Bool, true, false, Option, Some, None}
+use Rattle.inf_scanner.specs.declared.tokens.Mark.TheVariants as mark
+use Rattle.inf_scanner.specs.declared.tokens.Place.{Place}
+use Rattle.inf_scanner.specs.declared.tokens.TokenKind.TheVariants as kind
+use Rattle.inf_machine.specs.Machine.{fits}
+use Rattle.inf_grammar.specs.Language.{grammar, known}
+use Rattle.inf_unit.specs.Tokens.{Spelled, is_mark}
+use Rattle.inf_conditionals.specs.Atoms.{atom_of}
+use Rattle.inf_conditionals.specs.Condition.{Condition, condition_begun, condition_took, is_whole}
+use Rattle.inf_conditionals.specs.declared.judged.Handed.{Handed}
+use Rattle.inf_conditionals.specs.declared.judged.Handed.TheVariants as handed
+use Rattle.inf_conditionals.specs.declared.judged.Sign.{Sign}
+use Rattle.inf_conditionals.specs.declared.words.ConditionalWord.TheVariants as word
+use Rattle.inf_conditionals.specs.Open.{most_levels}
+use Rattle.inf_reader.specs.Handing.{hash}
+use Rattle.inf_conditional_laws.specs.KeptSides.{AddsNone, Answers, AreParts, Around, At, Begins, First, Follows, Handing, IsFirst, IsSign, IsSignedPlain, NoneInside, NoneInsideFirst, Parts, all_kept, all_tokens, as_kept, asking, before_parts, behind_name, behind_parts, closed, condition_behind, declared_behind, declared_first, declared_tokens, ended_in, first_tokens, kept_sides, missing_in, opening, placed_word, told_parts, turned}
+
+-- What is there of one
+
+-- A directive with a name up to where that must come, or up to its semicolon; one with a condition up to a further token of it; and an `Ifnot` and an
+-- `Endif` up to the semicolon. And a `#` that begins a directive, of which no more is known, or
+-- with parts before the word of a conditional one, which is given with the same `#`.
+pub data Unfinished : Type 0 where
+  Unnamed : (is_inner if_declared : Bool) (first : First) (before : Parts) → Unfinished
+  Named : (is_inner if_declared : Bool) (first : First) (before : Parts) (name : At) (behind : Parts) → Unfinished
+  Asked : (is_inner wanted : Bool) (first : First) (within : Parts) → Unfinished
+  Turns : (is_inner : Bool) (hashes : List At) (first : First) (within : Parts) → Unfinished
+  Closes : (is_inner : Bool) (hashes : List At) (first : First) (within : Parts) → Unfinished
+  Fronting : (sign : At) (within : Parts) → Unfinished
+  FrontingWord : (sign : At) (within : Parts) (u : Unfinished) → Unfinished
+
+abbrev pub begun_tokens : Unfinished → List At
+begun_tokens (Unnamed is_inner if_declared first before) = first_tokens first (all_tokens before)
+begun_tokens (Named is_inner if_declared first before name behind) = first_tokens first (all_tokens before ++ name ∷ all_tokens behind)
+begun_tokens (Asked is_inner wanted first within) = first_tokens first (all_tokens within)
+begun_tokens (Turns is_inner hashes first within) = hashes ++ first_tokens first (all_tokens within)
+begun_tokens (Closes is_inner hashes first within) = hashes ++ first_tokens first (all_tokens within)
+begun_tokens (Fronting sign within) = sign ∷ all_tokens within
+begun_tokens (FrontingWord sign within u) = sign ∷ (all_tokens within ++ drop 1 (begun_tokens u))
+
+-- It has not acted, but for one whose word ended a side that was left out.
+abbrev pub behind_begun : Answers → Around → Unfinished → Around
+behind_begun answers s (Unnamed is_inner if_declared first before) = behind_parts answers s before
+behind_begun answers s (Named is_inner if_declared first before name behind) = behind_parts answers (behind_name answers before name s) behind
+behind_begun answers s (Asked is_inner wanted first within) = behind_parts answers s within
+behind_begun answers s (Turns is_inner hashes first within) = behind_parts answers (before_parts turned s) within
+behind_begun answers s (Closes is_inner hashes first within) = behind_parts answers (before_parts closed s) within
+behind_begun answers s (Fronting sign within) = behind_parts answers s within
+behind_begun answers s (FrontingWord sign within u) = behind_begun answers (behind_parts answers s within) u
+
+-- what is told of its parts
+abbrev pub told_begun : Answers → Around → Unfinished → List Place
+told_begun answers s (Unnamed is_inner if_declared first before) = told_parts answers s before
+told_begun answers s (Named is_inner if_declared first before name behind) =
+    told_parts answers s before ++ (missing_in name.ended (behind_parts answers s before) ++ told_parts answers (behind_name answers before name s) behind)
+told_begun answers s (Asked is_inner wanted first within) = told_parts answers s within
+told_begun answers s (Turns is_inner hashes first within) = told_parts answers (before_parts turned s) within
+told_begun answers s (Closes is_inner hashes first within) = told_parts answers (before_parts closed s) within
+told_begun answers s (Fronting sign within) = told_parts answers s within
+told_begun answers s (FrontingWord sign within u) = told_parts answers s within ++ told_begun answers (behind_parts answers s within) u
+
+-- the kept tokens of a condition so far, of which the grammar takes each, and none is the last
+abbrev pub GoOn : List Spelled → Condition → Type 0
+GoOn [] k = Unit {0}
+GoOn (t ∷ tokens) k = (fits grammar known (atom_of t) k.stack ≡ true) × ((is_whole (condition_took t k) ≡ false) × GoOn tokens (condition_took t k))
+
+abbrev pub condition_so : First → List Spelled → Condition
+condition_so first tokens = condition_behind tokens (condition_took (placed_word first) condition_begun)
+
+-- Some may stand before the `#` of a word that ends a side that is left out.
+abbrev pub AreHashes : Bool → List At → Type 0
+AreHashes is_inner [] = Unit {0}
+AreHashes is_inner (sign ∷ signs) = IsSign is_inner sign × AreHashes is_inner signs
+
+abbrev pub HashesBefore : Bool → Around → List At → First → Type 0
+HashesBefore is_inner s [] first = Unit {0}
+HashesBefore is_inner s hashes first = (all_kept s ≡ false) × (AreHashes is_inner hashes × Follows false is_inner first.sign)
+
+-- whether its word has come
+abbrev pub HasWord : Unfinished → Type 0
+HasWord (Fronting sign within) = ⊥
+HasWord (FrontingWord sign within u) = HasWord u
+HasWord u = Unit {0}
+
+-- It is read, and so it is kept; an `Ifnot` or `Endif` may begin in a side that its word ends. Behind the last of its parts a side may be left out.
+abbrev pub IsBegun : Answers → Bool → Around → ℕ → Unfinished → Type 0
+IsBegun answers is_within s declared (Unnamed is_inner if_declared first before) =
+    IsFirst true is_inner is_within (opening if_declared) first
+    × (NoneInsideFirst true is_inner first s × ((all_kept s ≡ true) × (AreParts answers true s (declared_first first declared) before × (kept_sides answers s before ≡ []))))
+IsBegun answers is_within s declared (Named is_inner if_declared first before name behind) =
+    let y = behind_name answers before name s in
+    let now = declared_first first declared in
+    IsFirst true is_inner is_within (opening if_declared) first
+    × (NoneInsideFirst true is_inner first s
+    × ((all_kept s ≡ true)
+    × ((AreParts answers true s now before × AddsNone answers s before)
+    × ((name.token.kind ≡ kind.Name)
+    × (AreParts answers true y (declared_behind name (declared_tokens (all_tokens before) now)) behind × (kept_sides answers y behind ≡ []))))))
+IsBegun answers is_within s declared (Asked is_inner wanted first within) =
+    IsFirst true is_inner is_within (asking wanted) first
+    × (NoneInsideFirst true is_inner first s
+    × ((all_kept s ≡ true)
+    × (AreParts answers true s (declared_first first declared) within × GoOn (kept_sides answers s within) (condition_took (placed_word first) condition_begun))))
+IsBegun answers is_within s declared (Turns is_inner hashes first within) =
+    let x = before_parts turned s in
+    (HashesBefore is_inner s hashes first × IsFirst (all_kept s) is_inner is_within word.Ifnot first)
+    × (NoneInsideFirst (all_kept s) is_inner first s × ((all_kept x ≡ true) × (AreParts answers true x (declared_first first (declared_tokens hashes declared)) within × (kept_sides answers x within ≡ []))))
+IsBegun answers is_within s declared (Closes is_inner hashes first within) =
+    let x = before_parts closed s in
+    (HashesBefore is_inner s hashes first × IsFirst (all_kept s) is_inner is_within word.Endif first)
+    × (NoneInsideFirst (all_kept s) is_inner first s × ((all_kept x ≡ true) × (AreParts answers true x (declared_first first (declared_tokens hashes declared)) within × (kept_sides answers x within ≡ []))))
+IsBegun answers is_within s declared (Fronting sign within) =
+    Begins true false is_within (Some sign) sign
+    × (NoneInside false s × ((all_kept s ≡ true) × (AreParts answers true s (declared_behind sign declared) within × (kept_sides answers s within ≡ []))))
+IsBegun answers is_within s declared (FrontingWord sign within u) =
+    let x = behind_parts answers s within in
+    let now = declared_behind sign declared in
+    Begins true false is_within (Some sign) sign
+    × (NoneInside false s
+    × ((all_kept s ≡ true)
+    × ((AreParts answers true s now within × AddsNone answers s within)
+    × (((begun_tokens u ≡ sign ∷ drop 1 (begun_tokens u)) × (sign.ended ≡ None))
+    × (HasWord u × IsBegun answers is_within x (declared_tokens (all_tokens within) now) u)))))
+
+-- The end of the file cuts a conditional directive. Behind a `#` that begins another one it is kept, and so is that.
+abbrev pub begun_sign : Unfinished → Option Sign
+begun_sign (Fronting sign within) = Some (record { place = sign.token.place; handed = handed.Kept })
+begun_sign u = None
+
+abbrev pub begun_handed : Unfinished → Handed
+begun_handed (Fronting sign within) = handed.Kept
+begun_handed u = handed.Unfit
+
+-- One in the other
+
+-- those around it, from the outermost one on
+abbrev pub all_begun_tokens : List Unfinished → Unfinished → List At
+all_begun_tokens [] u = begun_tokens u
+all_begun_tokens (x ∷ outer) u = begun_tokens x ++ all_begun_tokens outer u
+
+abbrev pub behind_all_begun : Answers → Around → List Unfinished → Unfinished → Around
+behind_all_begun answers s [] u = behind_begun answers s u
+behind_all_begun answers s (x ∷ outer) u = behind_all_begun answers (behind_begun answers s x) outer u
+
+abbrev pub told_all_begun : Answers → Around → List Unfinished → Unfinished → List Place
+told_all_begun answers s [] u = told_begun answers s u
+told_all_begun answers s (x ∷ outer) u = told_begun answers s x ++ told_all_begun answers (behind_begun answers s x) outer u
+
+abbrev pub AreBegun : Answers → Bool → Around → ℕ → List Unfinished → Unfinished → Type 0
+AreBegun answers is_within s declared [] u = IsBegun answers is_within s declared u
+AreBegun answers is_within s declared (x ∷ outer) u =
+    IsBegun answers is_within s declared x × AreBegun answers true (behind_begun answers s x) (declared_tokens (begun_tokens x) declared) outer u
+
+-- behind so many tokens of its file
+pub record HaveBegun (answers : Answers) (s : Around) (declared before : ℕ) (outer : List Unfinished) (u : Unfinished) : Type 0 where
+  pub are : AreBegun answers false s declared outer u
+  pub few : before + length (all_begun_tokens outer u) ≤ most_levels
+
+-- The token that does not fit
+
+-- alone, or with the `#` before it, which then is the one
+pub data Misfit : Type 0 where
+  Bare : (token : At) → Misfit
+  Hashed : (sign token : At) → Misfit
+
+abbrev pub misfit_tokens : Misfit → List At
+misfit_tokens (Bare t) = t ∷ []
+misfit_tokens (Hashed sign t) = sign ∷ t ∷ []
+
+-- It is handed on as one that does not fit, and what is behind it as one that is kept.
+abbrev pub as_unfit : Spelled → Handing
+as_unfit t = record { handed = handed.Unfit; token = t }
+
+abbrev pub handed_misfit : Misfit → List Handing
+handed_misfit (Bare t) = as_unfit t.token ∷ []
+handed_misfit (Hashed sign t) = as_unfit (hash sign.token.place) ∷ as_kept t.token ∷ []
+
+abbrev pub behind_misfit : Misfit → Around → Around
+behind_misfit (Bare t) s = ended_in t.ended s
+behind_misfit (Hashed sign t) s = ended_in t.ended s
+
+-- what is told behind it
+abbrev pub told_misfit : Misfit → Around → List Place
+told_misfit (Bare t) s = missing_in t.ended s
+told_misfit (Hashed sign t) s = missing_in t.ended s
+
+-- no name, no semicolon, or not what the grammar takes
+abbrev pub IsCutBy : Answers → Around → Unfinished → At → Type 0
+IsCutBy answers s (Unnamed is_inner if_declared first before) t = t.token.kind ≡ kind.Name → ⊥
+IsCutBy answers s (Named is_inner if_declared first before name behind) t = is_mark mark.Semicolon t.token.kind ≡ false
+IsCutBy answers s (Asked is_inner wanted first within) t =
+    fits grammar known (atom_of t.token) (condition_so first (kept_sides answers s within)).stack ≡ false
+IsCutBy answers s (Turns is_inner hashes first within) t = is_mark mark.Semicolon t.token.kind ≡ false
+IsCutBy answers s (Closes is_inner hashes first within) t = is_mark mark.Semicolon t.token.kind ≡ false
+IsCutBy answers s (Fronting sign within) t = ⊥
+IsCutBy answers s (FrontingWord sign within u) t = IsCutBy answers (behind_parts answers s within) u t
+
+abbrev pub AreCutBy : Answers → Around → List Unfinished → Unfinished → At → Type 0
+AreCutBy answers s [] u t = IsCutBy answers s u t
+AreCutBy answers s (x ∷ outer) u t = AreCutBy answers (behind_begun answers s x) outer u t
+
+-- it stands where it is kept
+abbrev pub IsMisfit : Answers → Around → List Unfinished → Unfinished → Misfit → Type 0
+IsMisfit answers s outer u (Bare t) =
+    (all_kept (behind_all_begun answers s outer u) ≡ true) × ((is_mark mark.Hash t.token.kind ≡ false) × AreCutBy answers s outer u t)
+IsMisfit answers s outer u (Hashed sign t) = (all_kept (behind_all_begun answers s outer u) ≡ true) × (IsSign true sign × IsSignedPlain t)
