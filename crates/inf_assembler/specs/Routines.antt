@@ -12,8 +12,8 @@ use Rattle.inf_opcode.specs.declared.instructions.Label.{Label}
 use Rattle.inf_assembler.specs.declared.routines.Limits.{Limits}
 use Rattle.inf_assembler.specs.declared.routines.RoutineKind.{RoutineKind}
 use Rattle.inf_assembler.specs.declared.routines.RoutineKind.TheVariants.{Plain as Own, Embedded}
-use Rattle.inf_assembler.specs.declared.routines.Setting.{Setting}
-use Rattle.inf_assembler.specs.declared.routines.Setting.TheVariants.{Labels, Code, Refs}
+use Rattle.inf_assembler.specs.declared.routines.Limit.{Limit}
+use Rattle.inf_assembler.specs.declared.routines.Limit.TheVariants.{Labels, Code, Refs}
 use Rattle.inf_opcode.specs.Cells.{Cell, long_bytes, label_count, fixup_count, kept_from, cells_of}
 use Rattle.inf_assembler.specs.Places.{Places, long_place, place_from, closed_bytes, closed_fixups, missing, twice_behind}
 
@@ -68,18 +68,18 @@ abbrev pub with_cells : List Cell → Bool → Contents → Contents
 with_cells cells is_final contents = record contents { cells = contents.cells ++ cells; is_final = is_final }
 
 -- the first setting that so many more labels, bytes and references would pass
-abbrev pub full_by : ℕ → ℕ → ℕ → State → ℕ → Fixups → Option Setting
+abbrev pub full_by : ℕ → ℕ → ℕ → State → ℕ → Fixups → Option Limit
 full_by labels bytes fixups state len refs =
     if nat_lt state.limits.labels (state.labels + labels) then Some Labels else
     if nat_lt state.limits.code (len + bytes) then Some Code else
     if nat_lt refs.limit (length refs.list + state.fixups + fixups) then Some Refs else None
 
 -- the first setting that more cells would pass
-abbrev pub full_with : List Cell → State → List ℕ → Fixups → Option Setting
+abbrev pub full_with : List Cell → State → List ℕ → Fixups → Option Limit
 full_with cells state bytes refs = full_by (label_count cells) (length (long_bytes cells)) (fixup_count cells) state (length bytes) refs
 
 -- why they are not taken: the setting, or else want of memory
-abbrev pub refusal : Option Setting → GrowFault
+abbrev pub refusal : Option Limit → GrowFault
 refusal None = grow_fault.Memory
 refusal (Some setting) = grow_fault.Full setting
 

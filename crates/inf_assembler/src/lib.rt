@@ -14,4 +14,4 @@
 mod closing;
 mod routines;
 
-pub use routines::{CloseFault, Closed, GrowFault, Limits, Mark, Routine, RoutineKind, Setting};
+pub use routines::{CloseFault, Closed, GrowFault, Limit, Limits, Mark, Routine, RoutineKind};

@@ -46,7 +46,7 @@ pub struct Limits {
 
 /// A limit that an addition would pass.
 #[derive(Clone, Copy, Debug, PartialEq, Eq)]
-pub enum Setting {
+pub enum Limit {
     /// That of the labels, branches and jumps of a routine.
     Labels,
     /// That of the bytes of the area.
@@ -59,7 +59,7 @@ pub enum Setting {
 #[derive(Clone, Copy, Debug, PartialEq, Eq)]
 pub enum GrowFault {
     /// It would pass a limit.
-    Full(Setting),
+    Full(Limit),
     /// No memory was left.
     Memory,
 }
@@ -96,7 +96,7 @@ pub enum CloseFault {
     /// The offset of a branch or jump does not fit.
     TooFar,
     /// The routine would pass a limit.
-    Full(Setting),
+    Full(Limit),
     /// No memory was left.
     Memory,
 }
@@ -169,8 +169,8 @@ fn exceeds(limit: usize, held: usize, more: usize) -> bool
 impl Routine {
     ghost use Rattle.inf_opcode.specs.Opcodes.{row_of};
     ghost use Rattle.inf_opcode.specs.declared.cells.Special.TheVariants.{Marks};
-    ghost use Rattle.inf_assembler.specs.declared.routines.Setting.{Setting};
-    ghost use Rattle.inf_assembler.specs.declared.routines.Setting.TheVariants.{Labels, Code};
+    ghost use Rattle.inf_assembler.specs.declared.routines.Limit.{Limit};
+    ghost use Rattle.inf_assembler.specs.declared.routines.Limit.TheVariants.{Labels, Code};
     ghost use Rattle.inf_assembler.specs.declared.routines.CloseFault.TheVariants as close_fault;
     ghost use Rattle.inf_assembler.specs.Closing.{found, kept_fixups};
     ghost use Rattle.inf_assembler.specs.Routines.{State, Contents, Stands, IsOpen, Holds, Moment, Were, contents_of, with_cells, full_with, full_by, refusal, moment_of, fault_of, Closes, Finished, closing_bytes, is_full, end_fault, fresh};
@@ -194,7 +194,7 @@ impl Routine {
     {
         let start = area.len();
         if limits.code <= start {
-            return Err(GrowFault::Full(Setting::Code));
+            return Err(GrowFault::Full(Limit::Code));
         }
         area.push(locals)?;
         Ok(Routine {
@@ -253,7 +253,7 @@ impl Routine {
             MatchResult result (λ _. full ≡ None) (λ fault. fault ≡ refusal full) }
     {
         if self.limits.labels <= self.labels {
-            return Err(GrowFault::Full(Setting::Labels));
+            return Err(GrowFault::Full(Limit::Labels));
         }
         let kept = Kept {
             place: area.len(),
@@ -266,21 +266,21 @@ impl Routine {
     }
 
     // The first limit that so much more would pass, where the area has so many bytes.
-    fn full(&self, len: usize, refs: &Refs, more: Counts, text: usize) -> Option<Setting>
+    fn full(&self, len: usize, refs: &Refs, more: Counts, text: usize) -> Option<Limit>
         ensures value { result ≡ full_by more.labels (more.bytes + text) more.fixups self.now len refs.now }
         ensures labels { MatchOption result (self.now.labels + more.labels < 2 ^ 64) (λ _. Unit {0}) }
         ensures fixups { MatchOption result (self.now.fixups + more.fixups < 2 ^ 64) (λ _. Unit {0}) }
     {
         if exceeds(self.limits.labels, self.labels, more.labels) {
-            return Some(Setting::Labels);
+            return Some(Limit::Labels);
         }
         let code = self.limits.code;
         if exceeds(code, len, more.bytes) || code - len - more.bytes < text {
-            return Some(Setting::Code);
+            return Some(Limit::Code);
         }
         let (listed, limit) = (refs.len(), refs.limit());
         if exceeds(limit, listed, self.fixups) || limit - listed - self.fixups < more.fixups {
-            return Some(Setting::Refs);
+            return Some(Limit::Refs);
         }
         None
     }
@@ -423,7 +423,7 @@ impl Routine {
         self.write_closing(area, kind)?;
         match list_fixups(refs, self.kept.as_slice(), long) {
             Ok(()) => Ok(()),
-            Err(AddFault::Full) => Err(CloseFault::Full(Setting::Refs)),
+            Err(AddFault::Full) => Err(CloseFault::Full(Limit::Refs)),
             Err(AddFault::Memory) => Err(CloseFault::Memory),
         }
     }
@@ -439,7 +439,7 @@ impl Routine {
             return Ok(());
         }
         if self.limits.code <= area.len() {
-            return Err(CloseFault::Full(Setting::Code));
+            return Err(CloseFault::Full(Limit::Code));
         }
         area.push(kind.closing_byte())?;
         Ok(())

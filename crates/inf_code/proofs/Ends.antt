@@ -6,7 +6,7 @@ use Rattle.inf_cells.specs.declared.cells.Cell.{Cell as CodeCell}
 use Rattle.inf_assembler.specs.declared.routines.CloseFault.{CloseFault}
 use Rattle.inf_assembler.specs.declared.routines.CloseFault.TheVariants as close_fault
 use Rattle.inf_assembler.specs.declared.routines.RoutineKind.{RoutineKind}
-use Rattle.inf_assembler.specs.declared.routines.Setting.TheVariants as setting
+use Rattle.inf_assembler.specs.declared.routines.Limit.TheVariants as setting
 use Rattle.inf_assembler.specs.Routines.{State, contents_of, fault_of}
 use Rattle.inf_code.specs.Code.{IsCode, IsSpare, fault_behind, first_fault, references_before, place_behind, source_cells, zeros_fault}
 use Rattle.inf_code.specs.declared.code.CodeLimits.{CodeLimits}

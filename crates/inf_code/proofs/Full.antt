@@ -13,8 +13,8 @@ use Rattle.inf_assembler.specs.declared.routines.CloseFault.{CloseFault}
 use Rattle.inf_assembler.specs.declared.routines.CloseFault.TheVariants as close_fault
 use Rattle.inf_assembler.specs.declared.routines.Limits.{Limits}
 use Rattle.inf_assembler.specs.declared.routines.RoutineKind.{RoutineKind}
-use Rattle.inf_assembler.specs.declared.routines.Setting.{Setting}
-use Rattle.inf_assembler.specs.declared.routines.Setting.TheVariants as setting
+use Rattle.inf_assembler.specs.declared.routines.Limit.{Limit}
+use Rattle.inf_assembler.specs.declared.routines.Limit.TheVariants as setting
 use Rattle.inf_assembler.specs.Routines.{State, Contents, body_bytes, body_fault, contents_of, fault_of, full_with, is_full, long_places, missing_fault, twice_fault}
 use Rattle.inf_code.specs.declared.code.CodeLimits.{CodeLimits}
 use Rattle.inf_code.specs.Code.{IsCode, IsSpare, StandsFor, bytes_with, references_before, references_with, full_cells, fault_behind, first_fault, most_references, place_behind, routine_bounds, unlimited, source_bytes, source_cells}
@@ -25,12 +25,12 @@ pub later_stands_for : (place : ℕ) (fixups : List Fixup) (bytes : List ℕ) (c
 later_stands_for place fixups bytes cells stands = sym (length-fixups_of name.Code place cells) ∙ ap length stands.fixups_are
 
 -- where no limit would be passed, that of bytes is not
-pub code_is_free : (full : Bool) (rest : Option Setting) → cond full (Some setting.Code) rest ≡ None → cond full (Some setting.Code) None ≡ None
+pub code_is_free : (full : Bool) (rest : Option Limit) → cond full (Some setting.Code) rest ≡ None → cond full (Some setting.Code) None ≡ None
 code_is_free true rest e = cc
 code_is_free false rest e = refl
 
 -- the first of three limits, of which some are passed
-abbrev of_three : Bool → Bool → Bool → Option Setting
+abbrev of_three : Bool → Bool → Bool → Option Limit
 of_three labels code refs = cond labels (Some setting.Labels) (cond code (Some setting.Code) (cond refs (Some setting.Refs) None))
 
 -- where the references of a routine are listed that is lost or not: so many there are, and so many there may be

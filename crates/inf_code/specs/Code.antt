@@ -18,8 +18,8 @@ use Rattle.inf_assembler.specs.declared.routines.CloseFault.{CloseFault}
 use Rattle.inf_assembler.specs.declared.routines.CloseFault.TheVariants as close_fault
 use Rattle.inf_assembler.specs.declared.routines.Limits.{Limits}
 use Rattle.inf_assembler.specs.declared.routines.RoutineKind.{RoutineKind}
-use Rattle.inf_assembler.specs.declared.routines.Setting.{Setting}
-use Rattle.inf_assembler.specs.declared.routines.Setting.TheVariants as setting
+use Rattle.inf_assembler.specs.declared.routines.Limit.{Limit}
+use Rattle.inf_assembler.specs.declared.routines.Limit.TheVariants as setting
 use Rattle.inf_assembler.specs.Places.{missing, twice_behind}
 use Rattle.inf_assembler.specs.Routines.{State, Contents, IsOpen, contents_of, fresh, with_cells, body_bytes, closing, routine_fixups, is_full, long_places, missing_fault, twice_fault, body_fault}
 use Rattle.inf_code.specs.declared.code.CodeLimits.{CodeLimits}
@@ -161,20 +161,20 @@ abbrev pub most_references : ℕ
 most_references = 18446744073709551610
 
 -- the first limit that the beginning of code would pass
-abbrev pub full_first : CodeLimits → Option Setting
+abbrev pub full_first : CodeLimits → Option Limit
 full_first limits =
     if nat_lt limits.code 8 then Some setting.Code else
     if nat_lt limits.refs 5 then Some setting.Refs else None
 
 -- nothing, where it has begun
-abbrev pub full_unless : Bool → CodeLimits → Option Setting
+abbrev pub full_unless : Bool → CodeLimits → Option Limit
 full_unless has_begun limits = if has_begun then None else full_first limits
 
-abbrev pub full_begun : Routines → Option Setting
+abbrev pub full_begun : Routines → Option Limit
 full_begun routines = full_unless routines.has_begun routines.limits
 
 -- code begins, unless that would pass a limit
-abbrev pub begun_unless : Option Setting → Routines → Routines
+abbrev pub begun_unless : Option Limit → Routines → Routines
 begun_unless None routines = record routines { has_begun = true }
 begun_unless (Some s) routines = routines
 
@@ -189,17 +189,17 @@ abbrev pub reference_count : Routines → ℕ
 reference_count routines = (if routines.has_begun then 5 else 4) + later_count routines.finished
 
 -- the first limit that code would pass that begins with another routine, which begins with the number of its locals, unless it is lost
-abbrev pub full_with_locals : Bool → CodeLimits → Option Setting
+abbrev pub full_with_locals : Bool → CodeLimits → Option Limit
 full_with_locals is_lost limits = if not is_lost && nat_lt limits.code 9 then Some setting.Code else full_first limits
 
-abbrev pub full_before : Bool → Bool → CodeLimits → Option Setting
+abbrev pub full_before : Bool → Bool → CodeLimits → Option Limit
 full_before is_lost has_begun limits = if has_begun then None else full_with_locals is_lost limits
 
 -- the first limit that another routine would pass at a place
-abbrev pub full_behind_bytes : CodeLimits → Bool → Bool → ℕ → Option Setting
+abbrev pub full_behind_bytes : CodeLimits → Bool → Bool → ℕ → Option Limit
 full_behind_bytes limits is_lost has_begun place = if nat_lt unlimited (place + 1) then Some setting.Code else full_before is_lost has_begun limits
 
-abbrev pub full_opened : Bool → Routines → Option Setting
+abbrev pub full_opened : Bool → Routines → Option Limit
 full_opened is_lost routines = full_behind_bytes routines.limits is_lost routines.has_begun (place_behind routines.finished)
 
 -- another routine of so many locals is open, which is lost or not
@@ -207,25 +207,25 @@ abbrev pub with_opened : ℕ → Bool → Routines → Routines
 with_opened locals is_lost routines = record routines { has_begun = true; opened = Some (record { contents = fresh locals; is_lost = is_lost }) }
 
 -- The first bound that more cells in the open routine would pass: that of its labels, branches and jumps, of all bytes, and of all references.
-abbrev pub full_cells : Bool → List CodeCell → List Cell → Contents → Option Setting
+abbrev pub full_cells : Bool → List CodeCell → List Cell → Contents → Option Limit
 full_cells is_lost finished cells contents =
     if nat_lt unlimited (label_count contents.cells + label_count cells) then Some setting.Labels else
     if nat_lt unlimited (bytes_with finished contents + length (long_bytes cells)) then Some setting.Code else
     if nat_lt most_references (references_with is_lost finished contents + fixup_count cells) then Some setting.Refs else None
 
-abbrev pub full_behind : List CodeCell → List Cell → Option Opened → Option Setting
+abbrev pub full_behind : List CodeCell → List Cell → Option Opened → Option Limit
 full_behind finished cells None = None
 full_behind finished cells (Some o) = full_cells o.is_lost finished cells o.contents
 
-abbrev pub full_with : Parts → Routines → Option Setting
+abbrev pub full_with : Parts → Routines → Option Limit
 full_with parts routines = full_behind routines.finished (instruction_cells parts) routines.opened
 
 -- the bound that one more label would pass
-abbrev pub full_marked : Option Opened → Option Setting
+abbrev pub full_marked : Option Opened → Option Limit
 full_marked None = None
 full_marked (Some o) = if nat_lt unlimited (label_count o.contents.cells + 1) then Some setting.Labels else None
 
-abbrev pub full_label : Routines → Option Setting
+abbrev pub full_label : Routines → Option Limit
 full_label routines = full_marked routines.opened
 
 -- How many labels, branches and jumps the open routine has.

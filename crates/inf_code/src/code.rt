@@ -4,14 +4,14 @@ ghost use Rattle.inf_area.specs.Fixups.{with_fixups};
 ghost use Rattle.inf_cells.specs.Cells.{bytes_of, fixups_of};
 ghost use Rattle.inf_opcode.specs.Instructions.{IsProper};
 ghost use Rattle.inf_opcode.specs.PartsOf.{parts_of};
-ghost use Rattle.inf_assembler.specs.declared.routines.Setting.{Setting};
-ghost use Rattle.inf_assembler.specs.declared.routines.Setting.TheVariants as code_setting;
+ghost use Rattle.inf_assembler.specs.declared.routines.Limit.{Limit};
+ghost use Rattle.inf_assembler.specs.declared.routines.Limit.TheVariants as code_setting;
 ghost use Rattle.inf_assembler.specs.declared.routines.CloseFault.TheVariants as close_fault;
 ghost use Rattle.inf_assembler.specs.Routines.{IsOpen, contents_of, refusal};
 ghost use Rattle.inf_code.specs.Code.{IsSpare, begun, bytes_of_code, code_cells, code_count, code_left, fault_behind, fault_closed, reference_count, references_left, references_open, full_begun, full_behind_bytes, full_first, full_label, full_opened, full_with, labels, labels_left, place_behind, routine_bounds, with_closed, with_item, with_label, with_none_open, with_opened, zeros_behind};
 
 use inf_area::{AddFault, Area, AreaName, Fixup, PagedArea, Refs, Target};
-use inf_assembler::{CloseFault, GrowFault, Limits, Routine, RoutineKind, Setting};
+use inf_assembler::{CloseFault, GrowFault, Limit, Limits, Routine, RoutineKind};
 use inf_cells::Scale;
 use inf_opcode::{Instruction, Label};
 use std::alloc::{AllocError, Global};
@@ -56,30 +56,30 @@ pub struct CodeLimits {
 
 impl CodeLimits {
     /// The first limit that the beginning of code would pass.
-    fn full_first(self) -> Option<Setting>
+    fn full_first(self) -> Option<Limit>
         ensures { result ≡ full_first self }
     {
         if self.code < FIRST_ROUTINE_BYTES {
-            Some(Setting::Code)
+            Some(Limit::Code)
         } else if self.refs < FIRST_REFERENCES {
-            Some(Setting::Refs)
+            Some(Limit::Refs)
         } else {
             None
         }
     }
 
     /// The first limit that another routine, which is lost or not, would pass at a place.
-    fn full_opened(self, is_lost: bool, has_begun: bool, place: usize) -> Option<Setting>
+    fn full_opened(self, is_lost: bool, has_begun: bool, place: usize) -> Option<Limit>
         ensures { result ≡ full_behind_bytes self is_lost has_begun place }
     {
         if place == usize::MAX {
-            return Some(Setting::Code);
+            return Some(Limit::Code);
         }
         if has_begun {
             return None;
         }
         if !is_lost && self.code <= FIRST_ROUTINE_BYTES {
-            return Some(Setting::Code);
+            return Some(Limit::Code);
         }
         self.full_first()
     }
@@ -236,7 +236,7 @@ impl Code {
 
     /// Begins code with its first routine, unless it has begun. Answers the limit that this would pass, of two that of bytes; then
     /// it does not begin.
-    pub fn begin(&mut self) -> Option<Setting>
+    pub fn begin(&mut self) -> Option<Limit>
         ensures full { result ≡ full_begun self.old }
         ensures begun { self.new ≡ begun self.old }
     {
@@ -407,7 +407,7 @@ fn fill_up(area: &mut PagedArea, len: usize, scale: Scale, limit: usize) -> Resu
     let behind = &zeros[..scale.gap(len)];
     let end = area.len();
     if limit < end || limit - end < behind.len() {
-        return Err(CloseFault::Full(Setting::Code));
+        return Err(CloseFault::Full(Limit::Code));
     }
     if area.append(behind).is_err() {
         return Err(CloseFault::Memory);

@@ -4,11 +4,11 @@ use Rattle.std.proofs.Common.{◌≡◌, ◌==◌, inl, inr, ℕ, Bool, true, fa
 use Rattle.std.proofs.Math.Dec.{eqb-suc-zero}
 use Rattle.inf_characters.specs.declared.characters.CharSet.{CharSet}
 use Rattle.inf_settings.specs.declared.settings.Settings.{Settings}
-use Rattle.inf_token.specs.Files.{Openings, Sources}
+use Rattle.inf_files.specs.Files.{Openings, Sources}
 use Rattle.inf_session.specs.Choices.{Choices}
 use Rattle.inf_outcome.specs.Comes.{Begins, Comes, OpenedBy, OpenedPart}
 use Rattle.inf_session.specs.Leading.{IsFront}
-use Rattle.inf_session.specs.Ending.{Ending, missing}
+use Rattle.inf_session.specs.Ending.{Outcome, missing}
 use Rattle.inf_session.specs.Session.{State}
 use Rattle.inf_session.proofs.Leadings.{front_same}
 use Rattle.inf_outcome.proofs.OutcomeLaws.{outcomes_are_unique}
@@ -20,7 +20,7 @@ use Rattle.inf_session.specs.declared.faults.Fault.TheVariants as fault
 use Rattle.inf_session.specs.Delivered.{EndsClean, TakesFront}
 use Rattle.inf_session.specs.Faults.{Caused, IfRead, IfStory, UnlessStory}
 use Rattle.inf_compile.specs.Compiling.{Compiles, DeliversPart, HasCause, OnlyStory, TakesPart, TakesStory, named_by, no_sources, story_in}
-use Rattle.inf_symbol.specs.Sinks.{Takes}
+use Rattle.inf_sinks.specs.Sinks.{Takes}
 use Rattle.inf_words.specs.FileNames.{source_name}
 
 -- what was compiled was delivered
@@ -54,7 +54,7 @@ begins_whole s o p serial name other old new before after c same named k =
       front = k.ending.messages;
       takes = k.delivers.messages;
       begins = λ e outcome.
-          subst (λ (x : Ending). IsFront k.ending.messages x.messages) (outcomes_are_unique s o serial name k.ending e k.is_outcome outcome)
+          subst (λ (x : Outcome). IsFront k.ending.messages x.messages) (outcomes_are_unique s o serial name k.ending e k.is_outcome outcome)
           (front_same k.ending.messages);
     }))
 
@@ -135,7 +135,7 @@ refused_compiles (b ∷ word) date s o r before after story_old story_new e is t
 pub refused_begins : (word date : List ℕ) (s : Sources) (o : Choices) (before after : Option (List ℕ)) → (length word == 0) ≡ true
     → TakesFront (missing (codes ".inf")).messages before after → Begins (named_by word s) o date (source_name word) before after
 refused_begins [] date s o before after e t =
-    record { front = t.front; takes = t.takes; begins = λ x outcome. subst (λ (y : Ending). IsFront t.front y.messages) (sym outcome) t.begins }
+    record { front = t.front; takes = t.takes; begins = λ x outcome. subst (λ (y : Outcome). IsFront t.front y.messages) (sym outcome) t.begins }
 refused_begins (b ∷ word) date s o before after e t = absurd (no_bytes b word e)
 
 -- nothing is opened

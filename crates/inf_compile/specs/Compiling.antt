@@ -1,11 +1,11 @@
 -- What a compilation leaves in its devices.
 use Rattle.std.specs.Prelude.{◌≡◌, ℕ, ◌<◌, ◌==◌, List, length, take, if◌then◌else◌, Option, Some, None, option_map, string_bytes}
-use Rattle.inf_token.specs.Files.{Sources}
-use Rattle.inf_symbol.specs.Sinks.{Takes}
+use Rattle.inf_files.specs.Files.{Sources}
+use Rattle.inf_sinks.specs.Sinks.{Takes}
 use Rattle.inf_words.specs.Directories.{directories_of}
 use Rattle.inf_words.specs.Words.{Choice}
 use Rattle.inf_session.specs.Choices.{Choices}
-use Rattle.inf_session.specs.Ending.{Ending}
+use Rattle.inf_session.specs.Ending.{Outcome}
 use Rattle.inf_outcome.specs.Outcome.{IsOutcome}
 use Rattle.inf_session.specs.declared.faults.Fault.{Fault}
 use Rattle.inf_session.specs.declared.faults.Fault.TheVariants as fault
@@ -53,7 +53,7 @@ HasCause (fault.Story n) reading writing telling = telling n
 
 -- Status, messages and story are those of the outcome of the main source of a name: both sinks took just these bytes.
 pub record Compiles (sources : Sources) (o : Choices) (serial name : List ℕ) (status : Status) (messages_old messages_new story_old story_new : Option (List ℕ)) : Type 0 where
-  pub ending : Ending
+  pub ending : Outcome
   pub is_outcome : IsOutcome sources o serial name ending
   pub status_is : status ≡ ending.status
   pub messages : Takes messages_old messages_new ending.messages
@@ -61,7 +61,7 @@ pub record Compiles (sources : Sources) (o : Choices) (serial name : List ℕ) (
 
 -- All messages of the outcome were taken, and the first n bytes of its story, which has more.
 pub record DeliversPart (sources : Sources) (o : Choices) (serial name : List ℕ) (n : ℕ) (messages_old messages_new story_old story_new : Option (List ℕ)) : Type 0 where
-  pub ending : Ending
+  pub ending : Outcome
   pub is_outcome : IsOutcome sources o serial name ending
   pub messages : Takes messages_old messages_new ending.messages
   pub story : TakesPart ending.story n story_old story_new

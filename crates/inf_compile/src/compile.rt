@@ -1,6 +1,6 @@
 ghost use Rattle.std.specs.Prelude.{◌≡◌, codes, IsTrue, IfOk, IfErr, MatchResult, Ok, OnOk, OnErr};
-ghost use Rattle.inf_symbol.specs.Sinks.{Takes};
-ghost use Rattle.inf_token.specs.Files.{Rose};
+ghost use Rattle.inf_sinks.specs.Sinks.{Takes};
+ghost use Rattle.inf_files.specs.Files.{Rose};
 ghost use Rattle.inf_words.specs.FileNames.{source_name};
 ghost use Rattle.inf_outcome.specs.Comes.{Begins, Heard, IsUnread, OpenedBy, OpenedPart};
 ghost use Rattle.inf_session.specs.Delivered.{EndsClean, TakesFront};
@@ -8,13 +8,13 @@ ghost use Rattle.inf_session.specs.Ending.{missing};
 ghost use Rattle.inf_session.specs.Faults.{IfRead, IfStory, UnlessStory};
 ghost use Rattle.inf_compile.specs.Compiling.{Compiles, DeliversPart, HasCause, OnlyStory, TakesPart, TakesStory, chosen_by, named_by, story_in};
 
+use inf_files::files::Files;
 use inf_outcome::translation::translate;
 use inf_session::compiled::{Compiled, Status, written};
 use inf_session::ending::no_file;
 use inf_session::faults::Fault;
 use inf_session::setup::Setup;
-use inf_symbol::sinks::{Sink, write_whole};
-use inf_token::files::Files;
+use inf_sinks::sinks::{Sink, write_whole};
 use inf_words::command_line::{Options, source_name};
 use std::alloc::Global;
 

@@ -10,7 +10,7 @@ use Rattle.inf_machine.specs.Machine.{fits}
 use Rattle.inf_syntax.specs.Atoms.{first_word, place_in}
 use Rattle.inf_syntax.specs.Words.{words}
 use Rattle.inf_grammar.specs.Language.{grammar, known}
-use Rattle.inf_unit.specs.Tokens.{Spelled}
+use Rattle.inf_unit.specs.Tokens.{SourceToken}
 use Rattle.inf_conditionals.specs.Atoms.{atom_of}
 use Rattle.inf_conditionals.specs.Condition.{condition_begun}
 use Rattle.inf_conditionals.specs.declared.words.ConditionalWord.{ConditionalWord}
@@ -84,5 +84,5 @@ fits_so wanted (kind.Bad x) bytes place is = cc
 fits_so wanted kind.End bytes place is = cc
 
 -- wherever its directive begins
-pub asking_fits : (wanted : Bool) (t : Spelled) (place : Place) → word_of t ≡ Some (asking wanted) → fits grammar known (atom_of (record t { place = place })) condition_begun.stack ≡ true
+pub asking_fits : (wanted : Bool) (t : SourceToken) (place : Place) → word_of t ≡ Some (asking wanted) → fits grammar known (atom_of (record t { place = place })) condition_begun.stack ≡ true
 asking_fits wanted t place is = fits_so wanted t.kind t.bytes place is

@@ -4,7 +4,7 @@ use Rattle.inf_output.specs.Output.{Out}
 use Rattle.inf_scanner.specs.declared.tokens.Mark.TheVariants as mark
 use Rattle.inf_scanner.specs.declared.tokens.Place.{Place}
 use Rattle.inf_scanner.specs.declared.tokens.TokenKind.TheVariants as kind
-use Rattle.inf_unit.specs.Tokens.{Spelled, is_mark}
+use Rattle.inf_unit.specs.Tokens.{SourceToken, is_mark}
 use Rattle.inf_conditionals.specs.declared.judged.Site.{Site}
 use Rattle.inf_conditionals.specs.declared.open.Conditional.{Conditional}
 use Rattle.inf_conditionals.specs.declared.open.LeftOut.{LeftOut}
@@ -14,7 +14,7 @@ use Rattle.inf_conditionals.specs.declared.pending.Effect.TheVariants as effect
 use Rattle.inf_conditionals.specs.declared.pending.Pending.{Pending}
 use Rattle.inf_conditionals.specs.declared.words.ConditionalWord.{ConditionalWord}
 use Rattle.inf_conditionals.specs.declared.words.ConditionalWord.TheVariants as word
-use Rattle.inf_conditionals.specs.Judging.{Behind, awaiting, begun_by, behind_sign, effected, held, is_kept, is_none_pending, judged, judged_by, lone, none_handed, offered, offered_to, passed, passed_by, unfit}
+use Rattle.inf_conditionals.specs.Judging.{Behind, awaiting, begun_by, behind_sign, effected, held, is_kept, is_none_pending, judged, judged_by, unmatched, none_handed, offered, offered_to, passed, passed_by, unfit}
 use Rattle.inf_conditionals.specs.Open.{Conditions, closed_by, ended_by, is_none_open, is_second, latest, levels_behind, most_levels, turned, turned_by}
 use Rattle.inf_conditionals.specs.Words.{awaits_of, word_of}
 use Rattle.inf_conditional_laws.specs.InnerSides.{InnerFirstSides, InnerSidesAgree, InnerSidesAreCut, NoneEnds, NoneHandedOn, SecondSides, SemicolonsEndThem, WordsEndSides, ending, signed}
@@ -126,7 +126,7 @@ semicolons_end_them site out t place others c all_kept no_sign is_read no_hash l
 abbrev at_sign : Option Place → Conditions → Conditions
 at_sign sign c = record c { left_out = None; sign = sign }
 
-hash_step : (site : Site) (out : Out) (t : Spelled) (c : Conditions) → site.is_between && is_none_pending c.pending ≡ false → is_mark mark.Hash t.kind ≡ true
+hash_step : (site : Site) (out : Out) (t : SourceToken) (c : Conditions) → site.is_between && is_none_pending c.pending ≡ false → is_mark mark.Hash t.kind ≡ true
     → judged site out t (at_sign None c) ≡ passed (at_sign (Some t.place) c)
 hash_step site out t c inside hash =
     let here = at_sign None c in
@@ -134,13 +134,13 @@ hash_step site out t c inside hash =
     ap (λ b. cond b (passed (held front t.place here)) (offered_to c.pending front site.is_quiet out t here)) hash
     ∙ ap (λ b. passed (held b t.place here)) inside
 
-word_step : (flag : Bool) (site : Site) (out : Out) (w : Spelled) (o : ConditionalWord) (sign : Place) (c : Conditions) → word_of w ≡ Some o → awaits_of o ≡ awaits.Name flag
+word_step : (flag : Bool) (site : Site) (out : Out) (w : SourceToken) (o : ConditionalWord) (sign : Place) (c : Conditions) → word_of w ≡ Some o → awaits_of o ≡ awaits.Name flag
     → judged site out w (at_sign (Some sign) c) ≡ passed (awaiting sign true (awaits.Name flag) (at_sign None c))
 word_step flag site out w o sign c is awaits =
     ap (λ (x : Option ConditionalWord). behind_sign x sign site.is_quiet out w (at_sign (Some sign) c)) is
     ∙ ap (λ (a : Awaits). begun_by a (record w { place = sign }) true (at_sign None c)) awaits
 
-end_step : (k : Bool) (site : Site) (out : Out) (t : Spelled) (p : Pending) (c : Conditions) → is_mark mark.Hash t.kind ≡ false → is_mark mark.Semicolon t.kind ≡ true
+end_step : (k : Bool) (site : Site) (out : Out) (t : SourceToken) (p : Pending) (c : Conditions) → is_mark mark.Hash t.kind ≡ false → is_mark mark.Semicolon t.kind ≡ true
     → judged site out t (record (at_sign None c) { pending = record p { awaits = awaits.End (effect.Opens k) } ∷ c.pending })
     ≡ effected (effect.Opens k) site.is_quiet (record p { awaits = awaits.End (effect.Opens k) }) (at_sign None c)
 end_step k site out t p c no_hash is =
@@ -194,7 +194,7 @@ second_sides_turn site out t p c at has_one =
     let told : Option Place = cond site.is_quiet None (Some p.place) in
     let same : judged site out t c ≡ record { now = record (turned read) { left_out = Some left }; judged = record none_handed { ended = told } } =
     ended_is effect.Turns word.Ifnot site out t p c at refl
-    ∙ ap (λ b. let x = cond b (lone site.is_quiet p.place read) (passed (record (turned read) { left_out = Some left })) in record { now = x.now; judged = record x.judged { ended = told } })
+    ∙ ap (λ b. let x = cond b (unmatched site.is_quiet p.place read) (passed (record (turned read) { left_out = Some left })) in record { now = x.now; judged = record x.judged { ended = told } })
     (second_is c.inner c.among ∙ has_one) in
     record {
       is_cut = ap (λ (b : Behind). b.judged) same;

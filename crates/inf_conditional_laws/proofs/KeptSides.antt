@@ -12,15 +12,15 @@ use Rattle.inf_scanner.specs.declared.tokens.TokenKind.TheVariants as kind
 use Rattle.inf_machine.specs.Machine.{fits}
 use Rattle.inf_grammar.specs.Language.{grammar, known}
 use Rattle.inf_unit.specs.Messages.{FileNames, Reported}
-use Rattle.inf_unit.specs.Tokens.{Spelled, is_end, is_mark}
+use Rattle.inf_unit.specs.Tokens.{SourceToken, is_end, is_mark}
 use Rattle.inf_unit.specs.Units.{outer_tokens}
 use Rattle.inf_conditionals.specs.Atoms.{atom_of}
 use Rattle.inf_conditionals.specs.Condition.{Condition, condition_begun, condition_took, is_whole, verdict_of}
 use Rattle.inf_conditionals.specs.Said.{Said, told_by, too_much}
 use Rattle.inf_conditionals.specs.declared.condition.Verdict.{Verdict}
 use Rattle.inf_unit.proofs.Cases.{of_both}
-use Rattle.inf_conditionals.specs.declared.judged.Handed.{Handed}
-use Rattle.inf_conditionals.specs.declared.judged.Handed.TheVariants as handed
+use Rattle.inf_conditionals.specs.declared.judged.Forwarded.{Forwarded}
+use Rattle.inf_conditionals.specs.declared.judged.Forwarded.TheVariants as handed
 use Rattle.inf_conditionals.specs.declared.open.Conditional.{Conditional}
 use Rattle.inf_conditionals.specs.declared.open.LeftOut.{LeftOut}
 use Rattle.inf_conditionals.specs.declared.pending.Awaits.{Awaits}
@@ -31,7 +31,7 @@ use Rattle.inf_conditionals.specs.declared.pending.Pending.{Pending}
 use Rattle.inf_conditionals.specs.declared.words.ConditionalWord.{ConditionalWord}
 use Rattle.inf_conditionals.specs.declared.words.ConditionalWord.TheVariants as word
 use Rattle.inf_conditionals.specs.Ends.{file_told, piece_told, side_kept, with_all_lone, with_lone}
-use Rattle.inf_conditionals.specs.Judging.{Behind, at_front, asking as asking_on, awaiting, begun, behind_front, behind_sign, decided, effected, held, is_kept, is_none_pending, judged_by, kept, lone, named, none_handed, offered, offered_to, passed, passed_by, saying, taken, tokens_counted, unfit, went_on}
+use Rattle.inf_conditionals.specs.Judging.{Behind, at_front, asking as asking_on, awaiting, begun, behind_front, behind_sign, decided, effected, held, is_kept, is_none_pending, judged_by, kept, unmatched, named, none_handed, offered, offered_to, passed, passed_by, saying, taken, tokens_counted, unfit, went_on}
 use Rattle.inf_conditionals.specs.Open.{Conditions, ended_by, is_second, latest_among, levels_behind, most_levels, silent, turned_first}
 use Rattle.inf_conditionals.specs.Words.{word_of}
 use Rattle.inf_reader.specs.Handing.{hash}
@@ -56,7 +56,7 @@ word_is_name (kind.Mark x) bytes place w e = cc
 word_is_name (kind.Bad x) bytes place w e = cc
 word_is_name kind.End bytes place w e = cc
 
-is_name : (t : Spelled) (w : ConditionalWord) → word_of t ≡ Some w → t.kind ≡ kind.Name
+is_name : (t : SourceToken) (w : ConditionalWord) → word_of t ≡ Some w → t.kind ≡ kind.Name
 is_name t w e = word_is_name t.kind t.bytes t.place w e
 
 -- a mark is none, and is not the end
@@ -70,10 +70,10 @@ mark_word (kind.Mark x) bytes place other = refl
 mark_word (kind.Bad x) bytes place other = refl
 mark_word kind.End bytes place other = refl
 
-semicolon_word : (t : Spelled) → is_mark mark.Semicolon t.kind ≡ true → word_of t ≡ None
+semicolon_word : (t : SourceToken) → is_mark mark.Semicolon t.kind ≡ true → word_of t ≡ None
 semicolon_word t e = mark_word t.kind t.bytes t.place (λ name. let never : true ≡ false = sym e ∙ ap (is_mark mark.Semicolon) name in cc)
 
-hash_word : (t : Spelled) → is_mark mark.Hash t.kind ≡ true → word_of t ≡ None
+hash_word : (t : SourceToken) → is_mark mark.Hash t.kind ≡ true → word_of t ≡ None
 hash_word t e = mark_word t.kind t.bytes t.place (λ name. let never : true ≡ false = sym e ∙ ap (is_mark mark.Hash) name in cc)
 
 semicolon_end : (k : TokenKind) → is_mark mark.Semicolon k ≡ true → is_end k ≡ false
@@ -184,7 +184,7 @@ signed_inner : (w : ConditionalWord) (place : Place) (t : At) (c : Conditions) (
     → judged_at t (state c (Some place) inner among None declared) ≡ begun w t.token place true (at c inner among None declared)
 signed_inner w place t c inner among declared is = ap (λ o. behind_sign o place t.site.is_quiet t.out t.token (state c (Some place) inner among None declared)) is
 
-pub begun_opening : (is_inner if_declared : Bool) (t : Spelled) (place : Place) (c : Conditions) → begun (opening if_declared) t place is_inner c ≡ passed (awaiting place is_inner (awaits.Name if_declared) c)
+pub begun_opening : (is_inner if_declared : Bool) (t : SourceToken) (place : Place) (c : Conditions) → begun (opening if_declared) t place is_inner c ≡ passed (awaiting place is_inner (awaits.Name if_declared) c)
 begun_opening is_inner true t place c = refl
 begun_opening is_inner false t place c = refl
 
@@ -218,10 +218,10 @@ end_is_no_hash (kind.Word x) e = cc
 end_is_no_hash (kind.Mark x) e = cc
 end_is_no_hash (kind.Bad x) e = cc
 
-pub end_word : (t : Spelled) → is_end t.kind ≡ true → word_of t ≡ None
+pub end_word : (t : SourceToken) → is_end t.kind ≡ true → word_of t ≡ None
 end_word t e = mark_word t.kind t.bytes t.place (λ name. let never : true ≡ false = sym e ∙ ap is_end name in cc)
 
-pub end_kept_so : (front quiet : Bool) (o : Out) (t : Spelled) (c : Conditions) → is_end t.kind ≡ true → c.pending ≡ [] → offered front quiet o t c ≡ kept c
+pub end_kept_so : (front quiet : Bool) (o : Out) (t : SourceToken) (c : Conditions) → is_end t.kind ≡ true → c.pending ≡ [] → offered front quiet o t c ≡ kept c
 end_kept_so front quiet o t c is none =
     ap (λ (b : Bool). cond b (passed (held front t.place c)) (offered_to c.pending front quiet o t c)) (end_is_no_hash t.kind is)
     ∙ ap (λ ps. offered_to ps front quiet o t c) none
@@ -507,83 +507,83 @@ Holds Hands c = c.pending ≡ []
 Holds (Reads p others ks) c = (c.pending ≡ p ∷ others) × (c.conditions ≡ ks)
 
 -- behind a token, and behind some
-abbrev pub read_one : Spelled → Reader → Reader
+abbrev pub read_one : SourceToken → Reader → Reader
 read_one t Hands = Hands
 read_one t (Reads p others []) = Reads p others []
 read_one t (Reads p others (k ∷ ks)) = Reads p others (condition_took t k ∷ ks)
 
-abbrev pub read_on : List Spelled → Reader → Reader
+abbrev pub read_on : List SourceToken → Reader → Reader
 read_on [] r = r
 read_on (t ∷ tokens) r = read_on tokens (read_one t r)
 
-abbrev handed_one : Reader → Spelled → List Handing
+abbrev handed_one : Reader → SourceToken → List Handing
 handed_one Hands t = as_kept t ∷ []
 handed_one (Reads p others ks) t = []
 
-abbrev pub handed_to : Reader → List Spelled → List Handing
+abbrev pub handed_to : Reader → List SourceToken → List Handing
 handed_to r [] = []
 handed_to r (t ∷ tokens) = handed_one r t ++ handed_to (read_one t r) tokens
 
 -- one that a directive takes and that is not its last
-abbrev TakenBy : Awaits → Spelled → List Condition → Type 0
+abbrev TakenBy : Awaits → SourceToken → List Condition → Type 0
 TakenBy (awaits.Condition wanted) t (k ∷ ks) = (fits grammar known (atom_of t) k.stack ≡ true) × (is_whole (condition_took t k) ≡ false)
 TakenBy a t ks = ⊥
 
-abbrev TakesOne : Reader → Spelled → Type 0
+abbrev TakesOne : Reader → SourceToken → Type 0
 TakesOne Hands t = Unit {0}
 TakesOne (Reads p others ks) t = TakenBy p.awaits t ks
 
-abbrev pub TakesAll : Reader → List Spelled → Type 0
+abbrev pub TakesAll : Reader → List SourceToken → Type 0
 TakesAll r [] = Unit {0}
 TakesAll r (t ∷ tokens) = TakesOne r t × TakesAll (read_one t r) tokens
 
-takes_both : (first second : List Spelled) (r : Reader) → TakesAll r (first ++ second) → TakesAll r first × TakesAll (read_on first r) second
+takes_both : (first second : List SourceToken) (r : Reader) → TakesAll r (first ++ second) → TakesAll r first × TakesAll (read_on first r) second
 takes_both [] second r e = (tt, e)
 takes_both (t ∷ first) second r e = let both = takes_both first second (read_one t r) e.1 in ((e.0, both.0), both.1)
 
-handed_both : (first second : List Spelled) (r : Reader) → handed_to r (first ++ second) ≡ handed_to r first ++ handed_to (read_on first r) second
+handed_both : (first second : List SourceToken) (r : Reader) → handed_to r (first ++ second) ≡ handed_to r first ++ handed_to (read_on first r) second
 handed_both [] second r = refl
 handed_both (t ∷ first) second r =
     ap (λ hs. handed_one r t ++ hs) (handed_both first second (read_one t r))
     ∙ sym (append_assoc (handed_one r t) (handed_to (read_one t r) first) (handed_to (read_on first (read_one t r)) second))
 
-pub nothing_handed : (tokens : List Spelled) (p : Pending) (others : List Pending) (ks : List Condition) → handed_to (Reads p others ks) tokens ≡ []
+pub nothing_handed : (tokens : List SourceToken) (p : Pending) (others : List Pending) (ks : List Condition) → handed_to (Reads p others ks) tokens ≡ []
 nothing_handed [] p others ks = refl
 nothing_handed (t ∷ tokens) p others [] = nothing_handed tokens p others []
 nothing_handed (t ∷ tokens) p others (k ∷ ks) = nothing_handed tokens p others (condition_took t k ∷ ks)
 
-pub all_handed : (tokens : List Spelled) → handed_to Hands tokens ≡ map as_kept tokens
+pub all_handed : (tokens : List SourceToken) → handed_to Hands tokens ≡ map as_kept tokens
 all_handed [] = refl
 all_handed (t ∷ tokens) = ap (λ hs. as_kept t ∷ hs) (all_handed tokens)
 
-pub hands_on : (tokens : List Spelled) → read_on tokens Hands ≡ Hands
+pub hands_on : (tokens : List SourceToken) → read_on tokens Hands ≡ Hands
 hands_on [] = refl
 hands_on (t ∷ tokens) = hands_on tokens
 
-pub all_taken : (tokens : List Spelled) → TakesAll Hands tokens
+pub all_taken : (tokens : List SourceToken) → TakesAll Hands tokens
 all_taken [] = tt
 all_taken (t ∷ tokens) = (tt, all_taken tokens)
 
-within_one : (t : Spelled) (r : Reader) → within (read_one t r) ≡ within r
+within_one : (t : SourceToken) (r : Reader) → within (read_one t r) ≡ within r
 within_one t Hands = refl
 within_one t (Reads p others []) = refl
 within_one t (Reads p others (k ∷ ks)) = refl
 
-within_same : (tokens : List Spelled) (r : Reader) → within (read_on tokens r) ≡ within r
+within_same : (tokens : List SourceToken) (r : Reader) → within (read_on tokens r) ≡ within r
 within_same [] r = refl
 within_same (t ∷ tokens) r = within_same tokens (read_one t r) ∙ within_one t r
 
 -- a condition
-pub read_condition : (tokens : List Spelled) (p : Pending) (others : List Pending) (k : Condition) (ks : List Condition) → read_on tokens (Reads p others (k ∷ ks)) ≡ Reads p others (condition_behind tokens k ∷ ks)
+pub read_condition : (tokens : List SourceToken) (p : Pending) (others : List Pending) (k : Condition) (ks : List Condition) → read_on tokens (Reads p others (k ∷ ks)) ≡ Reads p others (condition_behind tokens k ∷ ks)
 read_condition [] p others k ks = refl
 read_condition (t ∷ tokens) p others k ks = read_condition tokens p others (condition_took t k) ks
 
-takes_condition : (tokens : List Spelled) (end : At) (k : Condition) (is_inner wanted : Bool) (place : Place) (others : List Pending) (ks : List Condition) → AreTaken tokens end k
+takes_condition : (tokens : List SourceToken) (end : At) (k : Condition) (is_inner wanted : Bool) (place : Place) (others : List Pending) (ks : List Condition) → AreTaken tokens end k
     → TakesAll (Reads (directive is_inner place (awaits.Condition wanted)) others (k ∷ ks)) tokens
 takes_condition [] end k is_inner wanted place others ks are = tt
 takes_condition (t ∷ tokens) end k is_inner wanted place others ks are = ((are.0, are.1.0), takes_condition tokens end (condition_took t k) is_inner wanted place others ks are.1.1)
 
-last_taken : (tokens : List Spelled) (end : At) (k : Condition) → AreTaken tokens end k
+last_taken : (tokens : List SourceToken) (end : At) (k : Condition) → AreTaken tokens end k
     → (fits grammar known (atom_of end.token) (condition_behind tokens k).stack ≡ true) × (is_whole (condition_took end.token (condition_behind tokens k)) ≡ true)
 last_taken [] end k are = are
 last_taken (t ∷ tokens) end k are = last_taken tokens end (condition_took t k) are.1.1
@@ -607,7 +607,7 @@ pub record StandsAt (r : Reader) (last : Last) (c : Conditions) : Type 0 where
   pub stack : stack_of stand ≡ last.around
   pub few : levels_of stand ≤ last.levels
 
-pub record Led (r : Reader) (all : List At) (c : Conditions) (tokens : List Spelled) (places : List Place) (last : Last) : Type 0 where
+pub record Led (r : Reader) (all : List At) (c : Conditions) (tokens : List SourceToken) (places : List Place) (last : Last) : Type 0 where
   pub hands : all_handed_on all c ≡ handed_to r tokens
   pub tells : all_told all c ≡ places
   pub ends : StandsAt (read_on tokens r) last (all_behind all c)
@@ -623,7 +623,7 @@ hands_both (t ∷ first) second c =
 pub tells_both : (first second : List At) (c : Conditions) → all_told (first ++ second) c ≡ all_told first c ++ all_told second (all_behind first c)
 tells_both [] second c = refl
 tells_both (t ∷ first) second c =
-    let alone = lone_places (judged_at t c).judged.lone in
+    let alone = lone_places (judged_at t c).judged.unmatched in
     let ended = ended_places t.ended (judged_at t c).now.inner in
     let rest = all_told second (all_behind first (going_on t c)) in
     ap (λ ps. alone ++ (ended ++ ps)) (tells_both first second (going_on t c))
@@ -642,7 +642,7 @@ pub length_both : (first second : List At) → length (first ++ second) ≡ leng
 length_both [] second = omega arith
 length_both (t ∷ first) second = omega (arith, length_both first second)
 
-joined : (r : Reader) (first second : List At) (c : Conditions) (tokens more : List Spelled) (places others : List Place) (between last : Last)
+joined : (r : Reader) (first second : List At) (c : Conditions) (tokens more : List SourceToken) (places others : List Place) (between last : Last)
     → Led r first c tokens places between → Led (read_on tokens r) second (all_behind first c) more others last → Led r (first ++ second) c (tokens ++ more) (places ++ others) last
 joined r first second c tokens more places others between last a b = record {
   hands =
@@ -652,12 +652,12 @@ joined r first second c tokens more places others between last a b = record {
   ends = subst (λ (x : Conditions). StandsAt (read_on (tokens ++ more) r) last x) (sym (behind_both first second c)) (subst (λ (q : Reader). StandsAt q last (all_behind second (all_behind first c))) (sym (read_both tokens more r)) b.ends);
 }
   where
-    read_both : (first second : List Spelled) (r : Reader) → read_on (first ++ second) r ≡ read_on second (read_on first r)
+    read_both : (first second : List SourceToken) (r : Reader) → read_on (first ++ second) r ≡ read_on second (read_on first r)
     read_both [] second r = refl
     read_both (t ∷ first) second r = read_both first second (read_one t r)
 
 -- what is told of more names and levels
-pub relaxed : (r : Reader) (all : List At) (c : Conditions) (tokens : List Spelled) (places : List Place) (s : Around) (declared declared_so n m : ℕ) (w : List (List Conditional)) → declared ≡ declared_so → n ≤ m
+pub relaxed : (r : Reader) (all : List At) (c : Conditions) (tokens : List SourceToken) (places : List Place) (s : Around) (declared declared_so n m : ℕ) (w : List (List Conditional)) → declared ≡ declared_so → n ≤ m
     → Led r all c tokens places (last_at s declared n w) → Led r all c tokens places (last_at s declared_so m w)
 relaxed r all c tokens places s declared declared_so n m w e few is =
     let at_end = is.ends in
@@ -681,19 +681,19 @@ relaxed r all c tokens places s declared declared_so n m w e few is =
 pub rests : (r : Reader) (c : Conditions) (last : Last) → StandsAt r last c → Led r [] c [] [] last
 rests r c last e = record { hands = refl; tells = refl; ends = e }
 
-pub passes : (r : Reader) (t : At) (all : List At) (c now next : Conditions) (tokens : List Spelled) (missing places : List Place) (last : Last) → judged_at t c ≡ passed now → ended_behind t.ended (silent now) ≡ next
+pub passes : (r : Reader) (t : At) (all : List At) (c now next : Conditions) (tokens : List SourceToken) (missing places : List Place) (last : Last) → judged_at t c ≡ passed now → ended_behind t.ended (silent now) ≡ next
     → ended_places t.ended now.inner ≡ missing → Led r all next tokens places last → Led r (t ∷ all) c tokens (missing ++ places) last
 passes r t all c now next tokens missing places last e to told rest = record {
   hands =
       ap (λ (b : Behind). handed_on b.judged t.token ++ all_handed_on all (ended_behind t.ended (silent b.now))) e ∙ ap (all_handed_on all) to ∙ rest.hands;
   tells =
-      ap (λ (b : Behind). lone_places b.judged.lone ++ (ended_places t.ended b.now.inner ++ all_told all (ended_behind t.ended (silent b.now)))) e
+      ap (λ (b : Behind). lone_places b.judged.unmatched ++ (ended_places t.ended b.now.inner ++ all_told all (ended_behind t.ended (silent b.now)))) e
       ∙ ap (λ x. ended_places t.ended now.inner ++ all_told all x) to ∙ ap (λ ps. ps ++ all_told all next) told ∙ ap (λ ps. missing ++ ps) rest.tells;
   ends = subst (λ (x : Conditions). StandsAt (read_on tokens r) last (all_behind all x)) (sym (ap (λ (b : Behind). ended_behind t.ended (silent b.now)) e ∙ to)) rest.ends;
 }
 
 -- in the midst of a directive
-pub goes_by : (r : Reader) (t : At) (all : List At) (c now next : Conditions) (tokens : List Spelled) (places : List Place) (last : Last) → judged_at t c ≡ passed now
+pub goes_by : (r : Reader) (t : At) (all : List At) (c now next : Conditions) (tokens : List SourceToken) (places : List Place) (last : Last) → judged_at t c ≡ passed now
     → (ended_behind t.ended (silent now) ≡ next) × (ended_places t.ended now.inner ≡ []) → Led r all next tokens places last → Led r (t ∷ all) c tokens places last
 goes_by r t all c now next tokens places last e both rest = passes r t all c now next tokens [] places last e both.0 both.1 rest
 
@@ -701,7 +701,7 @@ goes_by r t all c now next tokens places last e both rest = passes r t all c now
 keeps : (t : At) (c : Conditions) (missing : List Place) (last : Last) → judged_at t c ≡ kept c → StandsAt Hands last (ended_behind t.ended (silent c)) → ended_places t.ended c.inner ≡ missing → Led Hands (t ∷ []) c (t.token ∷ []) missing last
 keeps t c missing last e rest told = record {
   hands = ap (λ (b : Behind). handed_on b.judged t.token ++ []) e;
-  tells = ap (λ (b : Behind). lone_places b.judged.lone ++ (ended_places t.ended b.now.inner ++ [])) e ∙ append-nil (ended_places t.ended c.inner) ∙ told;
+  tells = ap (λ (b : Behind). lone_places b.judged.unmatched ++ (ended_places t.ended b.now.inner ++ [])) e ∙ append-nil (ended_places t.ended c.inner) ∙ told;
   ends = subst (λ (x : Conditions). StandsAt Hands last x) (sym (ap (λ (b : Behind). ended_behind t.ended (silent b.now)) e)) rest;
 }
 
@@ -712,7 +712,7 @@ keeps_both : (t : At) (place : Place) (c now : Conditions) (missing : List Place
     → StandsAt Hands last (ended_behind t.ended (silent now)) → ended_places t.ended now.inner ≡ missing → Led Hands (t ∷ []) c (hash place ∷ t.token ∷ []) missing last
 keeps_both t place c now missing last e rest told = record {
   hands = ap (λ (b : Behind). handed_on b.judged t.token ++ []) e;
-  tells = ap (λ (b : Behind). lone_places b.judged.lone ++ (ended_places t.ended b.now.inner ++ [])) e ∙ append-nil (ended_places t.ended now.inner) ∙ told;
+  tells = ap (λ (b : Behind). lone_places b.judged.unmatched ++ (ended_places t.ended b.now.inner ++ [])) e ∙ append-nil (ended_places t.ended now.inner) ∙ told;
   ends = subst (λ (x : Conditions). StandsAt Hands last x) (sym (ap (λ (b : Behind). ended_behind t.ended (silent b.now)) e)) rest;
 }
 
@@ -742,13 +742,13 @@ inside_kept place t c inner among declared none is =
 
 -- a directive has ended, which is lone or not
 abbrev ended_so : Conditions → Option Place → Option Place → Behind
-ended_so now alone place = record { now = now; judged = record none_handed { lone = alone; ended = place } }
+ended_so now alone place = record { now = now; judged = record none_handed { unmatched = alone; ended = place } }
 
 acts : (r : Reader) (t : At) (c now : Conditions) (alone place : Option Place) (missing : List Place) (last : Last) → judged_at t c ≡ ended_so now alone place
     → StandsAt r last (ended_behind t.ended (silent now)) → ended_places t.ended now.inner ≡ missing → Led r (t ∷ []) c [] (lone_places alone ++ missing) last
 acts r t c now alone place missing last e rest told = record {
   hands = ap (λ (b : Behind). handed_on b.judged t.token ++ []) e;
-  tells = ap (λ (b : Behind). lone_places b.judged.lone ++ (ended_places t.ended b.now.inner ++ [])) e ∙ ap (λ ps. lone_places alone ++ ps) (append-nil (ended_places t.ended now.inner) ∙ told);
+  tells = ap (λ (b : Behind). lone_places b.judged.unmatched ++ (ended_places t.ended b.now.inner ++ [])) e ∙ ap (λ ps. lone_places alone ++ ps) (append-nil (ended_places t.ended now.inner) ∙ told);
   ends = subst (λ (x : Conditions). StandsAt r last x) (sym (ap (λ (b : Behind). ended_behind t.ended (silent b.now)) e)) rest;
 }
 
@@ -756,7 +756,7 @@ takes : (r : Reader) (t : At) (c now : Conditions) (missing : List Place) (last 
     → StandsAt (read_one t.token r) last (ended_behind t.ended (silent now)) → ended_places t.ended now.inner ≡ missing → Led r (t ∷ []) c (t.token ∷ []) missing last
 takes r t c now missing last none e rest told = record {
   hands = ap (λ (b : Behind). handed_on b.judged t.token ++ []) e ∙ sym (ap (λ hs. hs ++ []) none);
-  tells = ap (λ (b : Behind). lone_places b.judged.lone ++ (ended_places t.ended b.now.inner ++ [])) e ∙ append-nil (ended_places t.ended now.inner) ∙ told;
+  tells = ap (λ (b : Behind). lone_places b.judged.unmatched ++ (ended_places t.ended b.now.inner ++ [])) e ∙ append-nil (ended_places t.ended now.inner) ∙ told;
   ends = subst (λ (x : Conditions). StandsAt (read_one t.token r) last x) (sym (ap (λ (b : Behind). ended_behind t.ended (silent b.now)) e)) rest;
 }
 
@@ -882,16 +882,16 @@ with_condition k c = record c { conditions = k ∷ c.conditions }
 abbrev counted : Bool → Condition → Conditions → Conditions
 counted is_quiet k c = record c { most_tokens = cond is_quiet c.most_tokens (max c.most_tokens (outer_tokens k.unit)) }
 
-pub begun_asking : (is_inner wanted : Bool) (t : Spelled) (place : Place) (c : Conditions) (inner among : List Conditional) (declared : ℕ) → fits grammar known (atom_of (record t { place = place })) condition_begun.stack ≡ true
+pub begun_asking : (is_inner wanted : Bool) (t : SourceToken) (place : Place) (c : Conditions) (inner among : List Conditional) (declared : ℕ) → fits grammar known (atom_of (record t { place = place })) condition_begun.stack ≡ true
     → begun (asking wanted) t place is_inner (at c inner among None declared)
     ≡ passed (reading is_inner place (awaits.Condition wanted) (with_condition (condition_took (record t { place = place }) condition_begun) c) inner among declared)
 begun_asking is_inner true t place c inner among declared is =
     let here = at c inner among None declared in
-    let first : Spelled = record t { place = place } in
+    let first : SourceToken = record t { place = place } in
     ap (λ (b : Bool). cond b (passed (asking_on place is_inner true (condition_took first condition_begun) here)) (unfit here)) is
 begun_asking is_inner false t place c inner among declared is =
     let here = at c inner among None declared in
-    let first : Spelled = record t { place = place } in
+    let first : SourceToken = record t { place = place } in
     ap (λ (b : Bool). cond b (passed (asking_on place is_inner false (condition_took first condition_begun) here)) (unfit here)) is
 
 -- a token that it takes, whatever then is
@@ -1032,7 +1032,7 @@ Leads d parts = (r : Reader) (s : Around) (declared n : ℕ) (w : List (List Con
     → Led r (all_tokens parts) c (kept_sides d s parts) (told_parts d s parts) (last_behind d parts s declared n w)
 
 -- of one that is kept
-within_led_so : (tokens : List Spelled) → (d : Answers) (parts : Parts) → Leads d parts → (r : Reader) (rest : List At) (is_inner : Bool) (place : Place) (a : Awaits) (c : Conditions) (ks after : List Condition) (s : Around) (declared n : ℕ) (w : List (List Conditional)) (start : Conditions) (places : List Place) (last : Last)
+within_led_so : (tokens : List SourceToken) → (d : Answers) (parts : Parts) → Leads d parts → (r : Reader) (rest : List At) (is_inner : Bool) (place : Place) (a : Awaits) (c : Conditions) (ks after : List Condition) (s : Around) (declared n : ℕ) (w : List (List Conditional)) (start : Conditions) (places : List Place) (last : Last)
     → let p = directive is_inner place a in let l = last_behind d parts s declared n w in
     StandsAt (Reads p c.pending ks) (last_at s declared n w) start → all_kept s ≡ true → AreParts d true s declared parts → StayAs d s parts → TakesAll (Reads p c.pending ks) (kept_sides d s parts)
     → read_on (kept_sides d s parts) (Reads p c.pending ks) ≡ Reads p c.pending after → n + length (all_tokens parts) ≤ most_levels
@@ -1067,10 +1067,10 @@ pub within_led : (d : Answers) (parts : Parts) → Leads d parts → (r : Reader
 within_led = within_led_so []
 
 -- of which nothing is kept
-pub takes_none : (tokens : List Spelled) (r : Reader) → tokens ≡ [] → TakesAll r tokens
+pub takes_none : (tokens : List SourceToken) (r : Reader) → tokens ≡ [] → TakesAll r tokens
 takes_none tokens r e = subst (TakesAll r) (sym e) tt
 
-pub reads_none : (tokens : List Spelled) (r : Reader) → tokens ≡ [] → read_on tokens r ≡ r
+pub reads_none : (tokens : List SourceToken) (r : Reader) → tokens ≡ [] → read_on tokens r ≡ r
 reads_none tokens r e = ap (λ ts. read_on ts r) e
 
 -- of one that stands in a side that is left out
@@ -1094,7 +1094,7 @@ left_led d parts leads r rest s declared n w start places last e are none few fu
     }
 
 -- a plain token of a side that is left out
-left_token : (r : Reader) (is_within : Bool) (t : At) (all : List At) (s : Around) (declared n : ℕ) (w : List (List Conditional)) (start : Conditions) (tokens : List Spelled) (places : List Place) (last : Last)
+left_token : (r : Reader) (is_within : Bool) (t : At) (all : List At) (s : Around) (declared n : ℕ) (w : List (List Conditional)) (start : Conditions) (tokens : List SourceToken) (places : List Place) (last : Last)
     → StandsAt r (last_at s declared n w) start → all_kept s ≡ false → IsPlain false is_within t → n + 1 ≤ most_levels
     → ((c : Conditions) → StandsAt r (last_at (ended_in t.ended s) (declared_behind t declared) n w) c → Led r all c tokens places last)
     → Led r (t ∷ all) start tokens (missing_in t.ended s ++ places) last
@@ -1194,7 +1194,7 @@ turns_among is_inner place t c z among declared is = end_kept effect.Turns is_in
     there : Conditions
     there = at c [] (record z { is_second = true } ∷ among) (left_at false 0) declared
 
-    go : (b : Bool) → (let x = cond b (lone t.site.is_quiet place here) (passed there) in record { now = x.now; judged = record x.judged { ended = unless_quiet t place } }) ≡ ended_so (cond b here there) (cond b (unless_quiet t place) None) (unless_quiet t place)
+    go : (b : Bool) → (let x = cond b (unmatched t.site.is_quiet place here) (passed there) in record { now = x.now; judged = record x.judged { ended = unless_quiet t place } }) ≡ ended_so (cond b here there) (cond b (unless_quiet t place) None) (unless_quiet t place)
     go true = refl
     go false = refl
 
@@ -1209,7 +1209,7 @@ turns_inner is_inner place t c z inner among declared is = end_kept effect.Turns
     there : Conditions
     there = at c (record z { is_second = true } ∷ inner) among (left_at true 0) declared
 
-    go : (b : Bool) → (let x = cond b (lone t.site.is_quiet place here) (passed there) in record { now = x.now; judged = record x.judged { ended = unless_quiet t place } }) ≡ ended_so (cond b here there) (cond b (unless_quiet t place) None) (unless_quiet t place)
+    go : (b : Bool) → (let x = cond b (unmatched t.site.is_quiet place here) (passed there) in record { now = x.now; judged = record x.judged { ended = unless_quiet t place } }) ≡ ended_so (cond b here there) (cond b (unless_quiet t place) None) (unless_quiet t place)
     go true = refl
     go false = refl
 
@@ -1489,7 +1489,7 @@ stands_so r st declared n v c = StandsAt r (last_at (stack_of st) declared n v) 
 stands : (r : Reader) (st : Stands) (declared n : ℕ) (v : List (List Conditional)) (c : Conditions) → Holds r c → c.waiting ≡ v → levels_of st ≤ n → stands_so r st declared n v c
 stands r st declared n v c holds waits few = record { base = c; stand = st; holds = holds; waits = waits; is = refl; stack = refl; few = few }
 
-pub told_so : (r : Reader) (all : List At) (c : Conditions) (tokens : List Spelled) (places told : List Place) (last : Last) → places ≡ told → Led r all c tokens places last → Led r all c tokens told last
+pub told_so : (r : Reader) (all : List At) (c : Conditions) (tokens : List SourceToken) (places told : List Place) (last : Last) → places ≡ told → Led r all c tokens places last → Led r all c tokens told last
 told_so r all c tokens places told last e is = subst (λ ps. Led r all c tokens ps last) e is
 
 -- Plain tokens
@@ -1644,16 +1644,16 @@ signed_leads d is_inner sign t r (OuterLeft deep x between left sb) declared n v
 -- A `#` before another one
 
 -- A `#` may be held back where this one comes.
-pub same_first : (r : Reader) (t : At) (all : List At) (c held_back : Conditions) (tokens : List Spelled) (places : List Place) (last : Last) → judged_at t held_back ≡ judged_at t c
+pub same_first : (r : Reader) (t : At) (all : List At) (c held_back : Conditions) (tokens : List SourceToken) (places : List Place) (last : Last) → judged_at t held_back ≡ judged_at t c
     → Led r (t ∷ all) c tokens places last → Led r (t ∷ all) held_back tokens places last
 same_first r t all c held_back tokens places last e is = record {
   hands = ap (λ (b : Behind). handed_on b.judged t.token ++ all_handed_on all (ended_behind t.ended (silent b.now))) e ∙ is.hands;
-  tells = ap (λ (b : Behind). lone_places b.judged.lone ++ (ended_places t.ended b.now.inner ++ all_told all (ended_behind t.ended (silent b.now)))) e ∙ is.tells;
+  tells = ap (λ (b : Behind). lone_places b.judged.unmatched ++ (ended_places t.ended b.now.inner ++ all_told all (ended_behind t.ended (silent b.now)))) e ∙ is.tells;
   ends = subst (λ (x : Conditions). StandsAt (read_on tokens r) last (all_behind all x)) (sym (ap (λ (b : Behind). ended_behind t.ended (silent b.now)) e)) is.ends;
 }
 
 -- Where it is kept, it is handed on then.
-abbrev pub with_sign : Handed → Place → Behind → Behind
+abbrev pub with_sign : Forwarded → Place → Behind → Behind
 with_sign h place b = record b { judged = record b.judged { sign = Some (record { place = place; handed = h }) } }
 
 pub hash_freed : (place : Place) (t : At) (c : Conditions) (ps : List Pending) (inner among : List Conditional) (declared : ℕ) → c.pending ≡ ps → is_mark mark.Hash t.token.kind ≡ true → t.site.is_between ≡ false
@@ -1667,7 +1667,7 @@ hash_freed place t c ps inner among declared read hash inside =
     ∙ ap (λ ps. signed ps (passed (held false t.token.place here))) read
     ∙ sym (ap (signed ps) (sign_inner t (given_up_so c) inner among declared (ap (λ b. b && true) inside) hash))
 
-kept_first : (place : Place) (t : At) (all : List At) (c : Conditions) (inner among : List Conditional) (declared : ℕ) (tokens : List Spelled) (places : List Place) (last : Last)
+kept_first : (place : Place) (t : At) (all : List At) (c : Conditions) (inner among : List Conditional) (declared : ℕ) (tokens : List SourceToken) (places : List Place) (last : Last)
     → c.pending ≡ [] → is_mark mark.Hash t.token.kind ≡ true → t.site.is_between ≡ false
     → Led Hands (t ∷ all) (at (given_up_so c) inner among None declared) tokens places last
     → Led Hands (t ∷ all) (state c (Some place) inner among None declared) (hash place ∷ tokens) places last
@@ -1682,7 +1682,7 @@ kept_first place t all c inner among declared tokens places last none is inside 
           ap (λ (b : Behind). handed_on b.judged t.token ++ all_handed_on all (ended_behind t.ended (silent b.now))) (b ∙ ap (with_sign handed.Kept place) e)
           ∙ ap (λ hs. as_kept (hash place) ∷ hs) (sym (ap (λ (b : Behind). handed_on b.judged t.token ++ all_handed_on all (ended_behind t.ended (silent b.now))) e) ∙ led_on.hands);
       tells =
-          ap (λ (b : Behind). lone_places b.judged.lone ++ (ended_places t.ended b.now.inner ++ all_told all (ended_behind t.ended (silent b.now)))) b ∙ led_on.tells;
+          ap (λ (b : Behind). lone_places b.judged.unmatched ++ (ended_places t.ended b.now.inner ++ all_told all (ended_behind t.ended (silent b.now)))) b ∙ led_on.tells;
       ends = subst (λ (x : Conditions). StandsAt (read_on tokens Hands) last (all_behind all x)) (sym next) led_on.ends;
     }
 
@@ -1848,7 +1848,7 @@ fronted_leads d sign parts t leads Hands (AllStay [] between si sb) declared n v
     (ended_told t.ended (AllStay l.around.inside l.around.between bi bb) l.declared after))))
 
 -- What is led behind a `#` is so from where that is held back.
-pub behind_sign_led : (r : Reader) (sign : At) (all : List At) (c now then : Conditions) (tokens : List Spelled) (places : List Place) (last : Last) → judged_at sign c ≡ passed now
+pub behind_sign_led : (r : Reader) (sign : At) (all : List At) (c now then : Conditions) (tokens : List SourceToken) (places : List Place) (last : Last) → judged_at sign c ≡ passed now
     → (ended_behind sign.ended (silent now) ≡ then) × (ended_places sign.ended now.inner ≡ []) → Led r (sign ∷ all) c tokens places last → Led r all then tokens places last
 behind_sign_led r sign all c now then tokens places last e both is = record {
   hands =
@@ -1857,7 +1857,7 @@ behind_sign_led r sign all c now then tokens places last e both is = record {
       ∙ is.hands;
   tells =
       sym
-      (ap (λ (b : Behind). lone_places b.judged.lone ++ (ended_places sign.ended b.now.inner ++ all_told all (ended_behind sign.ended (silent b.now)))) e
+      (ap (λ (b : Behind). lone_places b.judged.unmatched ++ (ended_places sign.ended b.now.inner ++ all_told all (ended_behind sign.ended (silent b.now)))) e
       ∙ ap (λ x. ended_places sign.ended now.inner ++ all_told all x) both.0
       ∙ ap (λ ps. ps ++ all_told all then) both.1)
       ∙ is.tells;
@@ -1865,7 +1865,7 @@ behind_sign_led r sign all c now then tokens places last e both is = record {
 }
 
 -- where it begins a directive
-pub front_led : (r : Reader) (sign : At) (all : List At) (c : Conditions) (inner among : List Conditional) (declared : ℕ) (tokens : List Spelled) (places : List Place) (last : Last) → c.pending ≡ []
+pub front_led : (r : Reader) (sign : At) (all : List At) (c : Conditions) (inner among : List Conditional) (declared : ℕ) (tokens : List SourceToken) (places : List Place) (last : Last) → c.pending ≡ []
     → sign.site.is_between ≡ true → is_mark mark.Hash sign.token.kind ≡ true → sign.ended ≡ None
     → Led r (sign ∷ all) (at c inner among None declared) tokens places last → Led r all (reading false sign.token.place awaits.Word c inner among declared) tokens places last
 front_led r sign all c inner among declared tokens places last none front hash goes is =
@@ -1994,7 +1994,7 @@ EndingLed w act d is_inner first parts end r st declared n v c k =
     EndingIs w act d (within r) is_inner first parts end declared (stack_of st) k
     → Led r (directive_tokens first (all_tokens parts) end) (stands_at c st declared) [] (ending_places w act d first parts end (stack_of st) k) (ending_last act d first parts end declared n v (stack_of st) k)
 
-ending_kept : (w : ConditionalWord) (act : Around → Around) (e : Effect) → ((t : Spelled) (place : Place) (is_inner : Bool) (c : Conditions) → begun w t place is_inner c ≡ passed (awaiting place is_inner (awaits.End e) c)) → LastLed w act e
+ending_kept : (w : ConditionalWord) (act : Around → Around) (e : Effect) → ((t : SourceToken) (place : Place) (is_inner : Bool) (c : Conditions) → begun w t place is_inner c ≡ passed (awaiting place is_inner (awaits.End e) c)) → LastLed w act e
     → (d : Answers) (is_inner : Bool) (first : First) (parts : Parts) (end : At) → Leads d parts → (r : Reader) (declared n : ℕ) (v : List (List Conditional)) (c : Conditions) → Holds r c → c.waiting ≡ v
     → n + length (directive_tokens first (all_tokens parts) end) ≤ most_levels
     → (inside between : List Open) (si : are_kept inside ≡ true) (sb : are_kept between ≡ true) → EndingLed w act d is_inner first parts end r (AllStay inside between si sb) declared n v c true

@@ -7,7 +7,7 @@ use Rattle.inf_scanner.specs.declared.tokens.TokenKind.{TokenKind}
 use Rattle.inf_scanner.specs.declared.tokens.TokenKind.TheVariants as kind
 use Rattle.inf_machine.specs.Machine.{fits}
 use Rattle.inf_grammar.specs.Language.{grammar, known}
-use Rattle.inf_unit.specs.Tokens.{Spelled, is_end, is_mark}
+use Rattle.inf_unit.specs.Tokens.{SourceToken, is_end, is_mark}
 use Rattle.inf_conditionals.specs.Atoms.{atom_of}
 use Rattle.inf_conditionals.specs.Condition.{Condition, condition_begun, condition_took, is_whole, verdict_of}
 use Rattle.inf_conditionals.specs.Said.{too_much}
@@ -21,7 +21,7 @@ use Rattle.inf_conditionals.specs.declared.pending.Effect.TheVariants as effect
 use Rattle.inf_conditionals.specs.declared.pending.Pending.{Pending}
 use Rattle.inf_conditionals.specs.declared.words.ConditionalWord.{ConditionalWord}
 use Rattle.inf_conditionals.specs.declared.words.ConditionalWord.TheVariants as word
-use Rattle.inf_conditionals.specs.Judging.{Behind, asked, asked_first, asking, at_front, awaited, begun, behind_front, behind_sign, decided, effected, given_up, held, is_none_pending, judged, judged_by, kept, lone, named, offered, offered_to, passed, passed_by, saying, taken, tokens_counted, unfit, went_on}
+use Rattle.inf_conditionals.specs.Judging.{Behind, asked, asked_first, asking, at_front, awaited, begun, behind_front, behind_sign, decided, effected, given_up, held, is_none_pending, judged, judged_by, kept, unmatched, named, offered, offered_to, passed, passed_by, saying, taken, tokens_counted, unfit, went_on}
 use Rattle.inf_conditionals.specs.Open.{Conditions, closed, closed_by, is_none_open, is_second, latest, latest_among, opened, turned, turned_by}
 use Rattle.inf_conditionals.specs.Words.{awaits_of, word_of}
 use Rattle.inf_reader.specs.Handing.{judged_taken}
@@ -102,7 +102,7 @@ changed_so false changes c none inside = changed_among changes c none inside
 
 -- The semicolon of a directive
 
-pub ended_is : (e : Effect) (w : ConditionalWord) (site : Site) (out : Out) (t : Spelled) (p : Pending) (c : Conditions) (at : IsEndOf w p t c) → awaits_of w ≡ awaits.End e
+pub ended_is : (e : Effect) (w : ConditionalWord) (site : Site) (out : Out) (t : SourceToken) (p : Pending) (c : Conditions) (at : IsEndOf w p t c) → awaits_of w ≡ awaits.End e
     → judged site out t c ≡ effected e site.is_quiet p (record c { pending = at.others })
 ended_is e w site out t p c at waits =
     let quiet = site.is_quiet in
@@ -120,7 +120,7 @@ ifnot_acts site out t p c at =
     let read : Conditions = record c { pending = at.others } in
     let left : LeftOut = record { is_inner = not (is_none_open c.inner); levels = 0 } in
     ap (λ (b : Behind). sides b.now) (ended_is effect.Turns word.Ifnot site out t p c at refl)
-    ∙ of_both (λ (b : Behind). sides b.now ≡ sides_behind word.Ifnot (sides c)) (is_second (latest c)) (lone site.is_quiet p.place read)
+    ∙ of_both (λ (b : Behind). sides b.now ≡ sides_behind word.Ifnot (sides c)) (is_second (latest c)) (unmatched site.is_quiet p.place read)
     (passed (record (turned read) { left_out = Some left }))
     (λ e. lone_turns (sides c) (sym (second_is c.inner c.among) ∙ e))
     (λ _. turned_sides read)
@@ -129,7 +129,7 @@ pub endif_acts : Acts word.Endif
 endif_acts site out t p c at =
     let read : Conditions = record c { pending = at.others } in
     ap (λ (b : Behind). sides b.now) (ended_is effect.Closes word.Endif site out t p c at refl)
-    ∙ of_both (λ (b : Behind). sides b.now ≡ sides_behind word.Endif (sides c)) (is_none_open (latest c)) (lone site.is_quiet p.place read) (passed (closed read))
+    ∙ of_both (λ (b : Behind). sides b.now ≡ sides_behind word.Endif (sides c)) (is_none_open (latest c)) (unmatched site.is_quiet p.place read) (passed (closed read))
     (λ e. lone_closes (sides c) (sym (none_is c.inner c.among) ∙ e))
     (λ _. closed_sides read)
 
@@ -144,20 +144,20 @@ sides_follow = record {
 -- A lone directive
 
 -- whose effect is so
-lone_effected : (w : ConditionalWord) (site : Site) (out : Out) (t : Spelled) (p : Pending) (c : Conditions) (at : IsEndOf w p t c) → is_lone w (sides c) ≡ true → site.is_quiet ≡ false
+lone_effected : (w : ConditionalWord) (site : Site) (out : Out) (t : SourceToken) (p : Pending) (c : Conditions) (at : IsEndOf w p t c) → is_lone w (sides c) ≡ true → site.is_quiet ≡ false
     → judged site out t c ≡ lone_behind at.others p.place c
 lone_effected word.Ifnot site out t p c at has_none told =
     let read : Conditions = record c { pending = at.others } in
     let left : LeftOut = record { is_inner = not (is_none_open c.inner); levels = 0 } in
     ended_is effect.Turns word.Ifnot site out t p c at refl
     ∙ ap (λ quiet. effected effect.Turns quiet p read) told
-    ∙ ap (λ b. let x = cond b (lone false p.place read) (passed (record (turned read) { left_out = Some left })) in record { now = x.now; judged = record x.judged { ended = Some p.place } })
+    ∙ ap (λ b. let x = cond b (unmatched false p.place read) (passed (record (turned read) { left_out = Some left })) in record { now = x.now; judged = record x.judged { ended = Some p.place } })
     (second_is c.inner c.among ∙ has_none)
 lone_effected word.Endif site out t p c at has_none told =
     let read : Conditions = record c { pending = at.others } in
     ended_is effect.Closes word.Endif site out t p c at refl
     ∙ ap (λ quiet. effected effect.Closes quiet p read) told
-    ∙ ap (λ b. let x = cond b (lone false p.place read) (passed (closed read)) in record { now = x.now; judged = record x.judged { ended = Some p.place } })
+    ∙ ap (λ b. let x = cond b (unmatched false p.place read) (passed (closed read)) in record { now = x.now; judged = record x.judged { ended = Some p.place } })
     (none_is c.inner c.among ∙ has_none)
 lone_effected word.Ifdef site out t p c at has_none told = cc
 lone_effected word.Ifndef site out t p c at has_none told = cc
@@ -177,7 +177,7 @@ none_some : {A : Type 0} (place : Place) → None ≡ Some place → A
 none_some place e = cc
 
 -- a token ends one, where no side is left out and no `#` is held back
-record Ends (quiet : Bool) (t : Spelled) (c : Conditions) (place : Place) : Type 0 where
+record Ends (quiet : Bool) (t : SourceToken) (c : Conditions) (place : Place) : Type 0 where
   word : ConditionalWord
   directive : Pending
   others : List Pending
@@ -189,19 +189,19 @@ record Ends (quiet : Bool) (t : Spelled) (c : Conditions) (place : Place) : Type
   is_told : quiet ≡ false
   begins : directive.place ≡ place
 
-abbrev Tells : Conditions → Bool → Spelled → Place → Behind → Type 0
-Tells c quiet t place b = b.judged.lone ≡ Some place → Ends quiet t c place
+abbrev Tells : Conditions → Bool → SourceToken → Place → Behind → Type 0
+Tells c quiet t place b = b.judged.unmatched ≡ Some place → Ends quiet t c place
 
 told_by_quiet : (quiet : Bool) (at place : Place) → cond quiet (None) (Some at) ≡ Some place → (quiet ≡ false) × (at ≡ place)
 told_by_quiet true at place e = cc
 told_by_quiet false at place e = (refl, ap (λ o. unwrap_or o at) e)
 
-asked_first_lone : (wanted is_inner : Bool) (t : Spelled) (c : Conditions) → (asked_first wanted t is_inner c).judged.lone ≡ None
+asked_first_lone : (wanted is_inner : Bool) (t : SourceToken) (c : Conditions) → (asked_first wanted t is_inner c).judged.unmatched ≡ None
 asked_first_lone wanted is_inner t c =
-    of_both (λ (b : Behind). b.judged.lone ≡ None) (fits grammar known (atom_of t) condition_begun.stack) (passed (asking t.place is_inner wanted (condition_took t condition_begun) c)) (unfit c)
+    of_both (λ (b : Behind). b.judged.unmatched ≡ None) (fits grammar known (atom_of t) condition_begun.stack) (passed (asking t.place is_inner wanted (condition_took t condition_begun) c)) (unfit c)
     (λ _. refl) (λ _. refl)
 
-begun_lone : (w : ConditionalWord) (t : Spelled) (place : Place) (is_inner : Bool) (c : Conditions) → (begun w t place is_inner c).judged.lone ≡ None
+begun_lone : (w : ConditionalWord) (t : SourceToken) (place : Place) (is_inner : Bool) (c : Conditions) → (begun w t place is_inner c).judged.unmatched ≡ None
 begun_lone word.Ifdef t place is_inner c = refl
 begun_lone word.Ifndef t place is_inner c = refl
 begun_lone word.Iftrue t place is_inner c = asked_first_lone true is_inner (record t { place = place }) c
@@ -209,15 +209,15 @@ begun_lone word.Iffalse t place is_inner c = asked_first_lone false is_inner (re
 begun_lone word.Ifnot t place is_inner c = refl
 begun_lone word.Endif t place is_inner c = refl
 
-front_lone : (o : Option ConditionalWord) (t : Spelled) (c : Conditions) → (at_front o t c).judged.lone ≡ None
+front_lone : (o : Option ConditionalWord) (t : SourceToken) (c : Conditions) → (at_front o t c).judged.unmatched ≡ None
 front_lone None t c = refl
 front_lone (Some w) t c = begun_lone w t t.place false c
 
-behind_front_lone : (o : Option ConditionalWord) (t : Spelled) (p : Pending) (c : Conditions) → (behind_front o t p c).judged.lone ≡ None
+behind_front_lone : (o : Option ConditionalWord) (t : SourceToken) (p : Pending) (c : Conditions) → (behind_front o t p c).judged.unmatched ≡ None
 behind_front_lone None t p c = refl
 behind_front_lone (Some w) t p c = begun_lone w t p.place p.is_inner c
 
-named_lone : (k : TokenKind) (bytes : List ℕ) (if_declared : Bool) (out : Out) (p : Pending) (c : Conditions) → (named k bytes if_declared out p c).judged.lone ≡ None
+named_lone : (k : TokenKind) (bytes : List ℕ) (if_declared : Bool) (out : Out) (p : Pending) (c : Conditions) → (named k bytes if_declared out p c).judged.unmatched ≡ None
 named_lone kind.Name bytes if_declared out p c = refl
 named_lone (kind.Number n) bytes if_declared out p c = refl
 named_lone kind.Text bytes if_declared out p c = refl
@@ -227,28 +227,28 @@ named_lone (kind.Mark x) bytes if_declared out p c = refl
 named_lone (kind.Bad x) bytes if_declared out p c = refl
 named_lone kind.End bytes if_declared out p c = refl
 
-went_on_lone : (wanted quiet : Bool) (out : Out) (t : Spelled) (k : Condition) (p : Pending) (c : Conditions) → (went_on wanted quiet out t k p c).judged.lone ≡ None
+went_on_lone : (wanted quiet : Bool) (out : Out) (t : SourceToken) (k : Condition) (p : Pending) (c : Conditions) → (went_on wanted quiet out t k p c).judged.unmatched ≡ None
 went_on_lone wanted quiet out t k p c =
-    of_both (λ (b : Behind). b.judged.lone ≡ None) (is_whole k) (decided (verdict_of c.declared out k) wanted quiet k p c)
+    of_both (λ (b : Behind). b.judged.unmatched ≡ None) (is_whole k) (decided (verdict_of c.declared out k) wanted quiet k p c)
     (taken (asking p.place p.is_inner wanted k (saying quiet (too_much c.longest t k) (tokens_counted quiet k c))))
     (λ _. refl) (λ _. refl)
 
-asked_lone : (ks : List Condition) (wanted quiet : Bool) (out : Out) (t : Spelled) (p : Pending) (c : Conditions) → (asked ks wanted quiet out t p c).judged.lone ≡ None
+asked_lone : (ks : List Condition) (wanted quiet : Bool) (out : Out) (t : SourceToken) (p : Pending) (c : Conditions) → (asked ks wanted quiet out t p c).judged.unmatched ≡ None
 asked_lone [] wanted quiet out t p c = refl
 asked_lone (k ∷ ks) wanted quiet out t p c =
     let read : Conditions = record c { conditions = ks } in
-    of_both (λ (b : Behind). b.judged.lone ≡ None) (fits grammar known (atom_of t) k.stack) (went_on wanted quiet out t (condition_took t k) p read) (unfit read)
+    of_both (λ (b : Behind). b.judged.unmatched ≡ None) (fits grammar known (atom_of t) k.stack) (went_on wanted quiet out t (condition_took t k) p read) (unfit read)
     (λ _. went_on_lone wanted quiet out t (condition_took t k) p read) (λ _. refl)
 
 -- behind its semicolon
-effected_lone : (e : Effect) (quiet : Bool) (t : Spelled) (p : Pending) (others : List Pending) (c : Conditions) (place : Place) → c.pending ≡ p ∷ others → p.awaits ≡ awaits.End e
+effected_lone : (e : Effect) (quiet : Bool) (t : SourceToken) (p : Pending) (others : List Pending) (c : Conditions) (place : Place) → c.pending ≡ p ∷ others → p.awaits ≡ awaits.End e
     → is_mark mark.Hash t.kind ≡ false → is_mark mark.Semicolon t.kind ≡ true → Tells c quiet t place (effected e quiet p (record c { pending = others }))
 effected_lone (effect.Opens is_kept) quiet t p others c place read waits no_hash last = none_some place
 effected_lone effect.Nothing quiet t p others c place read waits no_hash last = none_some place
 effected_lone effect.Turns quiet t p others c place read waits no_hash last =
     let here : Conditions = record c { pending = others } in
     let left : LeftOut = record { is_inner = not (is_none_open c.inner); levels = 0 } in
-    of_both (Tells c quiet t place) (is_second (latest c)) (lone quiet p.place here) (passed (record (turned here) { left_out = Some left }))
+    of_both (Tells c quiet t place) (is_second (latest c)) (unmatched quiet p.place here) (passed (record (turned here) { left_out = Some left }))
     (λ e told.
     let q = told_by_quiet quiet p.place place told in
     record {
@@ -266,7 +266,7 @@ effected_lone effect.Turns quiet t p others c place read waits no_hash last =
     (λ _. none_some place)
 effected_lone effect.Closes quiet t p others c place read waits no_hash last =
     let here : Conditions = record c { pending = others } in
-    of_both (Tells c quiet t place) (is_none_open (latest c)) (lone quiet p.place here) (passed (closed here))
+    of_both (Tells c quiet t place) (is_none_open (latest c)) (unmatched quiet p.place here) (passed (closed here))
     (λ e told.
     let q = told_by_quiet quiet p.place place told in
     record {
@@ -283,7 +283,7 @@ effected_lone effect.Closes quiet t p others c place read waits no_hash last =
     })
     (λ _. none_some place)
 
-awaited_lone : (a : Awaits) (quiet : Bool) (out : Out) (t : Spelled) (p : Pending) (others : List Pending) (c : Conditions) (place : Place) → c.pending ≡ p ∷ others → p.awaits ≡ a
+awaited_lone : (a : Awaits) (quiet : Bool) (out : Out) (t : SourceToken) (p : Pending) (others : List Pending) (c : Conditions) (place : Place) → c.pending ≡ p ∷ others → p.awaits ≡ a
     → is_mark mark.Hash t.kind ≡ false → Tells c quiet t place (awaited a quiet out t p (record c { pending = others }))
 awaited_lone awaits.Word quiet out t p others c place read waits no_hash = λ told. none_some place (sym (behind_front_lone (word_of t) t p (record c { pending = others })) ∙ told)
 awaited_lone (awaits.Name if_declared) quiet out t p others c place read waits no_hash = λ told. none_some place (sym (named_lone t.kind t.bytes if_declared out p (record c { pending = others })) ∙ told)
@@ -293,13 +293,13 @@ awaited_lone (awaits.End e) quiet out t p others c place read waits no_hash =
     of_both (Tells c quiet t place) (is_mark mark.Semicolon t.kind) (effected e quiet p here) (unfit here)
     (λ last. effected_lone e quiet t p others c place read waits no_hash last) (λ _. none_some place)
 
-offered_to_lone : (ps : List Pending) (front quiet : Bool) (out : Out) (t : Spelled) (c : Conditions) (place : Place) → c.pending ≡ ps → is_mark mark.Hash t.kind ≡ false
+offered_to_lone : (ps : List Pending) (front quiet : Bool) (out : Out) (t : SourceToken) (c : Conditions) (place : Place) → c.pending ≡ ps → is_mark mark.Hash t.kind ≡ false
     → Tells c quiet t place (offered_to ps front quiet out t c)
 offered_to_lone [] front quiet out t c place read no_hash =
     of_both (Tells c quiet t place) front (at_front (word_of t) t c) (kept c) (λ _ told. none_some place (sym (front_lone (word_of t) t c) ∙ told)) (λ _. none_some place)
 offered_to_lone (p ∷ ps) front quiet out t c place read no_hash = awaited_lone p.awaits quiet out t p ps c place read refl no_hash
 
-offered_lone : (front quiet : Bool) (out : Out) (t : Spelled) (c : Conditions) (place : Place) → Tells c quiet t place (offered front quiet out t c)
+offered_lone : (front quiet : Bool) (out : Out) (t : SourceToken) (c : Conditions) (place : Place) → Tells c quiet t place (offered front quiet out t c)
 offered_lone front quiet out t c place =
     of_both (Tells c quiet t place) (is_mark mark.Hash t.kind) (passed (held front t.place c)) (offered_to c.pending front quiet out t c)
     (λ _. none_some place) (λ no_hash. offered_to_lone c.pending front quiet out t c place refl no_hash)
@@ -315,7 +315,7 @@ no_end (kind.Bad x) last end = cc
 no_end kind.End last end = cc
 
 -- behind a `#` that was held back nothing is being read any more
-sign_lone : (o : Option ConditionalWord) (at : Place) (quiet : Bool) (out : Out) (t : Spelled) (c : Conditions) (place : Place) → (behind_sign o at quiet out t c).judged.lone ≡ Some place → ⊥
+sign_lone : (o : Option ConditionalWord) (at : Place) (quiet : Bool) (out : Out) (t : SourceToken) (c : Conditions) (place : Place) → (behind_sign o at quiet out t c).judged.unmatched ≡ Some place → ⊥
 sign_lone None at quiet out t c place told =
     let found = offered_lone false quiet out t (given_up (record c { sign = None })) place told in
     let never : [] ≡ found.directive ∷ found.others = found.is_read in cc
@@ -324,7 +324,7 @@ sign_lone (Some w) at quiet out t c place told = none_some place (sym (begun_lon
 pub only_lones_are : OnlyLonesAre
 only_lones_are site out t c place = by_left c.left_out refl
   where
-    by_sign : (o : Option Place) → c.sign ≡ o → c.left_out ≡ None → (judged_by None o site out t c).judged.lone ≡ Some place → IsLone site t c place
+    by_sign : (o : Option Place) → c.sign ≡ o → c.left_out ≡ None → (judged_by None o site out t c).judged.unmatched ≡ Some place → IsLone site t c place
     by_sign (Some at) e left told = absurd (sign_lone (word_of t) at site.is_quiet out t c place told)
     by_sign None e left told =
         let found = offered_lone (site.is_between && is_none_pending c.pending) site.is_quiet out t c place told in
@@ -337,9 +337,9 @@ only_lones_are site out t c place = by_left c.left_out refl
           begins = found.begins;
         }
 
-    by_left : (o : Option LeftOut) → c.left_out ≡ o → (judged_by o c.sign site out t c).judged.lone ≡ Some place → IsLone site t c place
+    by_left : (o : Option LeftOut) → c.left_out ≡ o → (judged_by o c.sign site out t c).judged.unmatched ≡ Some place → IsLone site t c place
     by_left (Some side) e =
-        of_both (λ (b : Behind). b.judged.lone ≡ Some place → IsLone site t c place) (is_end t.kind) (offered false site.is_quiet out t (record c { left_out = None; sign = None })) (passed (passed_by (word_of t) t side c))
+        of_both (λ (b : Behind). b.judged.unmatched ≡ Some place → IsLone site t c place) (is_end t.kind) (offered false site.is_quiet out t (record c { left_out = None; sign = None })) (passed (passed_by (word_of t) t side c))
         (λ end told. absurd (no_end t.kind (offered_lone false site.is_quiet out t (record c { left_out = None; sign = None }) place told).is_last end))
         (λ _. none_some place)
     by_left None e = by_sign c.sign refl e

@@ -1,14 +1,14 @@
 -- The turns of a reading by the sides that they keep.
 use Rattle.std.proofs.Common.{◌≡◌, ℕ, zero, suc, ◌+◌, ◌≤◌, [], ◌∷◌, ◌++◌, map, cond, ◌&&◌, Bool, true, false, Option, Some, None, refl, sym, ap, subst, ◌∙◌, arith}
 use Rattle.std.proofs.lemmas.List.{map-append}
-use Rattle.inf_token.specs.Files.{Sources}
-use Rattle.inf_unit.specs.Directives.{Asked, End, Include, Nothing}
+use Rattle.inf_files.specs.Files.{Sources}
+use Rattle.inf_unit.specs.Directives.{Request, End, Include, Nothing}
 use Rattle.inf_unit.specs.Messages.{FileNames}
-use Rattle.inf_unit.specs.Tokens.{Spelled}
+use Rattle.inf_unit.specs.Tokens.{SourceToken}
 use Rattle.inf_unit.proofs.Cases.{of_both}
-use Rattle.inf_conditionals.specs.declared.judged.Handed.{Handed}
-use Rattle.inf_conditionals.specs.declared.judged.Handed.TheVariants as handed
-use Rattle.inf_conditionals.specs.declared.judged.Judged.{Judged}
+use Rattle.inf_conditionals.specs.declared.judged.Forwarded.{Forwarded}
+use Rattle.inf_conditionals.specs.declared.judged.Forwarded.TheVariants as handed
+use Rattle.inf_conditionals.specs.declared.judged.Filtered.{Filtered}
 use Rattle.inf_conditionals.specs.declared.judged.Sign.{Sign}
 use Rattle.inf_conditionals.specs.declared.open.LeftOut.{LeftOut}
 use Rattle.inf_conditionals.specs.Ends.{file_told}
@@ -16,28 +16,28 @@ use Rattle.inf_conditionals.specs.Judging.{Behind, is_none_pending, judged, none
 use Rattle.inf_conditionals.specs.Open.{Conditions, is_second, latest, most_levels, silent}
 use Rattle.inf_conditionals.specs.Words.{word_of}
 use Rattle.inf_reader.specs.Handing.{judged_taken, said_told, sign_taken, site_of}
-use Rattle.inf_reader.specs.Reading.{Reading, Stand, is_mode_ended}
+use Rattle.inf_reader.specs.Reading.{Reading, ReaderState, is_mode_ended}
 use Rattle.inf_session.specs.Choices.{Choices}
-use Rattle.inf_session.specs.Session.{State, answered, asked_nothing, has_ended, heeded, is_resting, left, piece_closed, rested, stand_of, stepped, token_of, turn}
-use Rattle.inf_work.specs.Actions.{Work}
+use Rattle.inf_session.specs.Session.{State, answered, asked_nothing, has_ended, carried_out, is_resting, left, piece_closed, rested, stand_of, stepped, token_of, turn}
+use Rattle.inf_work.specs.Actions.{Compilation}
 use Rattle.inf_conditional_laws.specs.KeptSides.{all_behind, all_handed_on, ended_behind, going_on, handed_as, handed_on, handed_sign, handed_token, judged_at}
 use Rattle.inf_laws.specs.KeptTokens.{given_as, given_of, given_sign, given_token}
 use Rattle.inf_laws.specs.KeptTurns.{given_by, given_in, turned}
 use Rattle.inf_conditional_laws.specs.SideTurns.{ReadingsStartClear, StayInOne, TurnsCutInnerSides, TurnsHandOn, TurnsKeepSides, TurnsTellMissingEnds, as_event, at_turn, at_turns, ends_there, is_inclusion, shown}
 use Rattle.inf_conditional_laws.specs.Sides.{StayIn, level_behind}
 use Rattle.inf_conditional_laws.proofs.KeptSides.{one_side_is_kept}
-use Rattle.inf_laws.proofs.KeptTurns.{heeded_reading, turn_reading}
+use Rattle.inf_laws.proofs.KeptTurns.{carried_out_reading, turn_reading}
 use Rattle.inf_conditional_laws.proofs.Sides.{inside, one_more, sign_behind, token_is}
 
 -- The conditionals behind a turn
 
-answered_conditions : (a : Asked) (sources : Sources) (o : Choices) (s : State) → is_inclusion a ≡ false → (answered a sources o s).conditions ≡ s.conditions
+answered_conditions : (a : Request) (sources : Sources) (o : Choices) (s : State) → is_inclusion a ≡ false → (answered a sources o s).conditions ≡ s.conditions
 answered_conditions (Include text unit) sources o s none = cc
 answered_conditions End sources o s none = refl
 answered_conditions Nothing sources o s none = refl
 
-heeded_conditions : (sources : Sources) (o : Choices) (s : State) → is_mode_ended s.reading.mode ≡ false → is_inclusion s.work.asked ≡ false → (heeded sources o s).conditions ≡ s.conditions
-heeded_conditions sources o s going none =
+carried_out_conditions : (sources : Sources) (o : Choices) (s : State) → is_mode_ended s.reading.mode ≡ false → is_inclusion s.work.asked ≡ false → (carried_out sources o s).conditions ≡ s.conditions
+carried_out_conditions sources o s going none =
     of_both (λ (x : State). x.conditions ≡ s.conditions) s.work.report.counts.is_over s
     (cond (is_mode_ended s.reading.mode) (left s) (answered s.work.asked sources o (asked_nothing s)))
     (λ _. refl)
@@ -54,26 +54,26 @@ rested_conditions s = go (has_ended s) (is_resting s)
 turn_conditions : (sources : Sources) (o : Choices) (s : State) → is_mode_ended (stepped s).reading.mode ≡ false → is_inclusion (stepped s).work.asked ≡ false
     → (turn sources o s).conditions ≡ going_on (at_turn sources o s) s.conditions
 turn_conditions sources o s going none =
-    rested_conditions (heeded sources o (stepped s)) ∙ ap (ended_behind (ends_there (heeded sources o (stepped s)))) (heeded_conditions sources o (stepped s) going none)
+    rested_conditions (carried_out sources o (stepped s)) ∙ ap (ended_behind (ends_there (carried_out sources o (stepped s)))) (carried_out_conditions sources o (stepped s) going none)
 
 -- What it hands on
 
-shown_as : (h : Handed) (t : Spelled) (w : Work) → map shown (given_as h t w) ≡ handed_as h t
+shown_as : (h : Forwarded) (t : SourceToken) (w : Compilation) → map shown (given_as h t w) ≡ handed_as h t
 shown_as handed.Kept t w = refl
 shown_as handed.Unfit t w = refl
 shown_as handed.Condition t w = refl
 
-shown_sign : (sign : Option Sign) (w : Work) → map shown (given_sign sign w) ≡ handed_sign sign
+shown_sign : (sign : Option Sign) (w : Compilation) → map shown (given_sign sign w) ≡ handed_sign sign
 shown_sign None w = refl
 shown_sign (Some sign) w = shown_as sign.handed _ w
 
-shown_token : (h : Option Handed) (t : Spelled) (w : Work) → map shown (given_token h t w) ≡ handed_token h t
+shown_token : (h : Option Forwarded) (t : SourceToken) (w : Compilation) → map shown (given_token h t w) ≡ handed_token h t
 shown_token None t w = refl
 shown_token (Some h) t w = shown_as h t w
 
-pub all_shown : (files : FileNames) (j : Judged) (t : Spelled) (s : Stand) → map shown (given_of files j t s) ≡ handed_on j t
+pub all_shown : (files : FileNames) (j : Filtered) (t : SourceToken) (s : ReaderState) → map shown (given_of files j t s) ≡ handed_on j t
 all_shown files j t s =
-    let behind : Work = (sign_taken j.sign files s).work in
+    let behind : Compilation = (sign_taken j.sign files s).work in
     map-append shown (given_sign j.sign s.work) (given_token j.token t behind)
     ∙ ap (λ hs. hs ++ map shown (given_token j.token t behind)) (shown_sign j.sign s.work)
     ∙ ap (λ hs. handed_sign j.sign ++ hs) (shown_token j.token t behind)
@@ -124,8 +124,8 @@ record Still (sources : Sources) (o : Choices) (s : State) (side : LeftOut) : Ty
   left_out : (turn sources o s).conditions.left_out ≡ Some (record side { levels = level_behind (word_of (token_of s.nesting.cursor)) side.levels })
   second : is_second (latest (turn sources o s).conditions) ≡ is_second (latest s.conditions)
 
-heeded_asked : (sources : Sources) (o : Choices) (s : State) → is_mode_ended s.reading.mode ≡ false → s.work.asked ≡ Nothing → (heeded sources o s).work.asked ≡ Nothing
-heeded_asked sources o s going none =
+carried_out_asked : (sources : Sources) (o : Choices) (s : State) → is_mode_ended s.reading.mode ≡ false → s.work.asked ≡ Nothing → (carried_out sources o s).work.asked ≡ Nothing
+carried_out_asked sources o s going none =
     of_both (λ (x : State). x.work.asked ≡ Nothing) s.work.report.counts.is_over s
     (cond (is_mode_ended s.reading.mode) (left s) (answered s.work.asked sources o (asked_nothing s)))
     (λ _. none)
@@ -164,15 +164,15 @@ still sources o s side left_out inner going none few stay =
     let read : (stepped s).reading ≡ s.reading = ap (λ j. (judged_taken files t j stand).reading) judged_so in
     let asked_so : (stepped s).work.asked ≡ Nothing = ap (λ j. (judged_taken files t j stand).work.asked) judged_so ∙ none in
     let goes_on : is_mode_ended (stepped s).reading.mode ≡ false = ap (λ (r : Reading). is_mode_ended r.mode) read ∙ going in
-    let h = heeded sources o (stepped s) in
-    let h_read : h.reading ≡ s.reading = heeded_reading sources o (stepped s) goes_on ∙ read in
+    let h = carried_out sources o (stepped s) in
+    let h_read : h.reading ≡ s.reading = carried_out_reading sources o (stepped s) goes_on ∙ read in
     let not_resting : is_resting h ≡ false = ap (λ (r : Reading). (site_of r).is_between && is_none_pending h.conditions.pending) h_read ∙ ap (λ x. x && is_none_pending h.conditions.pending) inner in
     let conditions : (turn sources o s).conditions ≡ silent now =
     turn_conditions sources o s goes_on (ap is_inclusion asked_so) ∙ ap (λ e. ended_behind e (silent b.now)) (none_ends h not_resting) ∙ ap silent now_so in
     record {
       none_given = ap (λ j. given_of files j t stand) judged_so;
       reading = turn_reading sources o s goes_on ∙ read;
-      asked = rested_asked h ∙ heeded_asked sources o (stepped s) goes_on asked_so;
+      asked = rested_asked h ∙ carried_out_asked sources o (stepped s) goes_on asked_so;
       left_out = ap (λ (x : Conditions). x.left_out) conditions;
       second = ap (λ (x : Conditions). is_second (latest x)) conditions;
     }

@@ -7,7 +7,7 @@ use Rattle.inf_scanner.specs.declared.tokens.TokenKind.{TokenKind}
 use Rattle.inf_scanner.specs.declared.tokens.TokenKind.TheVariants as kind
 use Rattle.inf_machine.specs.Machine.{fits}
 use Rattle.inf_grammar.specs.Language.{grammar, known}
-use Rattle.inf_unit.specs.Tokens.{Spelled, is_end, is_mark}
+use Rattle.inf_unit.specs.Tokens.{SourceToken, is_end, is_mark}
 use Rattle.inf_conditionals.specs.Atoms.{atom_of}
 use Rattle.inf_conditionals.specs.Condition.{Condition, condition_took, is_whole, verdict_of}
 use Rattle.inf_conditionals.specs.Said.{too_much}
@@ -63,11 +63,11 @@ abbrev pub inside : Conditions → LeftOut → ℕ → Option Place → ℕ → 
 inside c side level sign declared = record c { left_out = Some (record side { levels = level }); sign = sign; declared = declared }
 
 -- a `#` that is held back behind a token
-abbrev pub sign_behind : Option ConditionalWord → Spelled → Option Place
+abbrev pub sign_behind : Option ConditionalWord → SourceToken → Option Place
 sign_behind None t = cond (is_mark mark.Hash t.kind) (Some t.place) None
 sign_behind (Some w) t = None
 
-passed_is : (o : Option ConditionalWord) (t : Spelled) (c : Conditions) (side : LeftOut) (level : ℕ) (sign : Option Place) (declared : ℕ)
+passed_is : (o : Option ConditionalWord) (t : SourceToken) (c : Conditions) (side : LeftOut) (level : ℕ) (sign : Option Place) (declared : ℕ)
     → ends_side (is_second (latest c)) level o ≡ false → level + 1 ≤ most_levels
     → passed_by o t (record side { levels = level }) (inside c side level sign declared) ≡ inside c side (level_behind o level) (sign_behind o t) declared
 passed_is None t c side level sign declared e few = refl
@@ -77,7 +77,7 @@ passed_is (Some w) t c side level sign declared e few =
     (inside c side (levels_behind w level) None declared)) (ends_as w level (is_second (latest c)) false e)
     ∙ ap (λ (n : ℕ). inside c side n None declared) (level_is w level few)
 
-pub token_is : (site : Site) (out : Out) (t : Spelled) (c : Conditions) (side : LeftOut) (level : ℕ) (sign : Option Place) (declared : ℕ)
+pub token_is : (site : Site) (out : Out) (t : SourceToken) (c : Conditions) (side : LeftOut) (level : ℕ) (sign : Option Place) (declared : ℕ)
     → is_end t.kind ≡ false → ends_side (is_second (latest c)) level (word_of t) ≡ false → level + 1 ≤ most_levels
     → judged site out t (inside c side level sign declared) ≡ passed (inside c side (level_behind (word_of t) level) (sign_behind (word_of t) t) declared)
 token_is site out t c side level sign declared going e few =
@@ -142,7 +142,7 @@ sides_are_cut events c side left_out at few stay =
 
 -- The token that ends it
 
-ending : (o : Option ConditionalWord) (t : Spelled) (c : Conditions) (side : LeftOut) → ends_side (is_second (latest c)) side.levels o ≡ true → (passed_by o t side c).left_out ≡ None
+ending : (o : Option ConditionalWord) (t : SourceToken) (c : Conditions) (side : LeftOut) → ends_side (is_second (latest c)) side.levels o ≡ true → (passed_by o t side c).left_out ≡ None
 ending None t c side e = cc
 ending (Some w) t c side e =
     ap (λ (b : Bool). (cond b (awaiting (unwrap_or c.sign t.place) false (awaits.End effect.Nothing) (record (ended_by w c) { left_out = None; sign = None }))
@@ -165,7 +165,7 @@ abbrev clear : Conditions → Conditions
 clear c = record c { left_out = None; sign = None; pending = [] }
 
 -- the word of a directive with a name
-word_step : (flag : Bool) (site : Site) (out : Out) (w : Spelled) (o : ConditionalWord) (c : Conditions) → site.is_between ≡ true → w.kind ≡ kind.Name → word_of w ≡ Some o
+word_step : (flag : Bool) (site : Site) (out : Out) (w : SourceToken) (o : ConditionalWord) (c : Conditions) → site.is_between ≡ true → w.kind ≡ kind.Name → word_of w ≡ Some o
     → awaits_of o ≡ awaits.Name flag → judged site out w (clear c) ≡ passed (awaiting w.place false (awaits.Name flag) (clear c))
 word_step flag site out w o c between is_name is awaits =
     let here = clear c in
@@ -175,7 +175,7 @@ word_step flag site out w o c between is_name is awaits =
     ∙ ap (λ (a : Awaits). begun_by a w false here) awaits
 
 -- its semicolon
-end_step : (k : Bool) (site : Site) (out : Out) (t : Spelled) (p : Pending) (c : Conditions) → is_mark mark.Hash t.kind ≡ false → is_mark mark.Semicolon t.kind ≡ true
+end_step : (k : Bool) (site : Site) (out : Out) (t : SourceToken) (p : Pending) (c : Conditions) → is_mark mark.Hash t.kind ≡ false → is_mark mark.Semicolon t.kind ≡ true
     → judged site out t (record (clear c) { pending = record p { awaits = awaits.End (effect.Opens k) } ∷ [] })
     ≡ effected (effect.Opens k) site.is_quiet (record p { awaits = awaits.End (effect.Opens k) }) (clear c)
 end_step k site out t p c no_hash is =

@@ -4,8 +4,8 @@ use Rattle.inf_names.specs.Symbols.{declared_before}
 use Rattle.inf_output.specs.Output.{Out}
 use Rattle.inf_scanner.specs.declared.tokens.Mark.TheVariants as mark
 use Rattle.inf_scanner.specs.declared.tokens.Place.{Place}
-use Rattle.inf_unit.specs.Tokens.{Spelled, is_end, is_mark}
-use Rattle.inf_conditionals.specs.declared.judged.Judged.{Judged}
+use Rattle.inf_unit.specs.Tokens.{SourceToken, is_end, is_mark}
+use Rattle.inf_conditionals.specs.declared.judged.Filtered.{Filtered}
 use Rattle.inf_conditionals.specs.declared.judged.Site.{Site}
 use Rattle.inf_conditionals.specs.declared.open.LeftOut.{LeftOut}
 use Rattle.inf_conditionals.specs.declared.pending.Awaits.TheVariants as awaits
@@ -39,7 +39,7 @@ abbrev pub ending : Place → Pending
 ending place = record { place = place; is_inner = false; awaits = awaits.End effect.Nothing }
 
 -- The token that ends it is cut, and so is a `#` before it. Behind it nothing is left out, and nothing is held back.
-pub record EndsSideBy (w : ConditionalWord) (t : Spelled) (c now : Conditions) (j : Judged) : Type 0 where
+pub record EndsSideBy (w : ConditionalWord) (t : SourceToken) (c now : Conditions) (j : Filtered) : Type 0 where
   pub is_cut : j ≡ none_handed
   pub kept_on : now.left_out ≡ None
   pub no_sign : now.sign ≡ None
@@ -47,7 +47,7 @@ pub record EndsSideBy (w : ConditionalWord) (t : Spelled) (c now : Conditions) (
   pub follows : sides now ≡ sides_behind w (sides c)
 
 abbrev pub WordsEndSides : Type 0
-WordsEndSides = (site : Site) (out : Out) (t : Spelled) (w : ConditionalWord) (c : Conditions) (side : LeftOut) → c.left_out ≡ Some side → is_end t.kind ≡ false → word_of t ≡ Some w
+WordsEndSides = (site : Site) (out : Out) (t : SourceToken) (w : ConditionalWord) (c : Conditions) (side : LeftOut) → c.left_out ≡ Some side → is_end t.kind ≡ false → word_of t ≡ Some w
     → ends_side (is_second (latest c)) side.levels (Some w) ≡ true → EndsSideBy w t c (judged site out t c).now (judged site out t c).judged
 
 -- Its semicolon is not handed on either, and behind it all is read as before the side.
@@ -56,7 +56,7 @@ semicolon_behind is_quiet place others c =
     record { now = record c { pending = others }; judged = record none_handed { ended = if is_quiet then None else Some place } }
 
 abbrev pub SemicolonsEndThem : Type 0
-SemicolonsEndThem = (site : Site) (out : Out) (t : Spelled) (place : Place) (others : List Pending) (c : Conditions) → c.left_out ≡ None → c.sign ≡ None → c.pending ≡ ending place ∷ others
+SemicolonsEndThem = (site : Site) (out : Out) (t : SourceToken) (place : Place) (others : List Pending) (c : Conditions) → c.left_out ≡ None → c.sign ≡ None → c.pending ≡ ending place ∷ others
     → is_mark mark.Hash t.kind ≡ false → is_mark mark.Semicolon t.kind ≡ true → judged site out t c ≡ semicolon_behind site.is_quiet place others c
 
 -- Which side is left out
@@ -73,7 +73,7 @@ NoneHandedOn [] c = Unit {0}
 NoneHandedOn (e ∷ events) c = (((became e c).sign ≡ None) × ((became e c).token ≡ None)) × NoneHandedOn events (behind e c)
 
 -- the four tokens of a directive with a name behind a `#`
-abbrev pub signed : Site → Site → Site → Site → Out → Spelled → Spelled → List ℕ → Place → Spelled → List Event
+abbrev pub signed : Site → Site → Site → Site → Out → SourceToken → SourceToken → List ℕ → Place → SourceToken → List Event
 signed zeroth first second third out hash w name place end = Token zeroth out hash ∷ directive first second third out w name place end
 
 -- inside the directive a conditional is open more, from a place on, whose first side is left out or not
@@ -87,7 +87,7 @@ pub record OpenedInside (place : Place) (is_kept : Bool) (c now : Conditions) : 
 -- The first side of `#Ifdef` is kept where a directive before the one around it declared the name, and that of `#Ifndef` where none did. No token of
 -- the directive is handed on.
 abbrev pub InnerFirstSides : ConditionalWord → (Bool → Bool) → Type 0
-InnerFirstSides directive_word is_kept = (zeroth first second third : Site) (out : Out) (hash w end : Spelled) (name : List ℕ) (place : Place) (c : Conditions)
+InnerFirstSides directive_word is_kept = (zeroth first second third : Site) (out : Out) (hash w end : SourceToken) (name : List ℕ) (place : Place) (c : Conditions)
     → IsInside zeroth c → is_mark mark.Hash hash.kind ≡ true → word_of w ≡ Some directive_word → is_mark mark.Semicolon end.kind ≡ true → is_mark mark.Hash end.kind ≡ false
     → NoneHandedOn (signed zeroth first second third out hash w name place end) c
     × OpenedInside hash.place (is_kept (declared_before name c.declared out.names)) c (behind_all (signed zeroth first second third out hash w name place end) c)
@@ -100,7 +100,7 @@ pub record TurnsTo (site : Site) (p : Pending) (c : Conditions) (b : Behind) : T
   pub follows : sides b.now ≡ sides_behind word.Ifnot (sides c)
 
 abbrev pub SecondSides : Type 0
-SecondSides = (site : Site) (out : Out) (t : Spelled) (p : Pending) (c : Conditions) → IsEndOf word.Ifnot p t c → is_lone word.Ifnot (sides c) ≡ false → TurnsTo site p c (judged site out t c)
+SecondSides = (site : Site) (out : Out) (t : SourceToken) (p : Pending) (c : Conditions) → IsEndOf word.Ifnot p t c → is_lone word.Ifnot (sides c) ≡ false → TurnsTo site p c (judged site out t c)
 
 pub record InnerSidesAgree : Type 0 where
   pub of_ifdef : InnerFirstSides word.Ifdef (λ b. b)

@@ -8,13 +8,13 @@ use Rattle.inf_scanner.specs.declared.tokens.TokenKind.TheVariants as kind
 use Rattle.inf_machine.specs.Machine.{fits}
 use Rattle.inf_grammar.specs.Language.{grammar, known}
 use Rattle.inf_unit.specs.Messages.{FileNames, Reported}
-use Rattle.inf_unit.specs.Tokens.{Spelled, is_end, is_mark}
+use Rattle.inf_unit.specs.Tokens.{SourceToken, is_end, is_mark}
 use Rattle.inf_conditionals.specs.Atoms.{atom_of}
 use Rattle.inf_conditionals.specs.Condition.{Condition, condition_begun, condition_took, is_whole, verdict_of}
 use Rattle.inf_conditionals.specs.declared.open.Conditional.{Conditional}
-use Rattle.inf_conditionals.specs.declared.judged.Handed.{Handed}
-use Rattle.inf_conditionals.specs.declared.judged.Handed.TheVariants as handed
-use Rattle.inf_conditionals.specs.declared.judged.Judged.{Judged}
+use Rattle.inf_conditionals.specs.declared.judged.Forwarded.{Forwarded}
+use Rattle.inf_conditionals.specs.declared.judged.Forwarded.TheVariants as handed
+use Rattle.inf_conditionals.specs.declared.judged.Filtered.{Filtered}
 use Rattle.inf_conditionals.specs.declared.judged.Sign.{Sign}
 use Rattle.inf_conditionals.specs.declared.judged.Site.{Site}
 use Rattle.inf_conditionals.specs.declared.words.ConditionalWord.{ConditionalWord}
@@ -31,14 +31,14 @@ use Rattle.inf_conditional_laws.specs.MissingEnds.{with_all_at}
 
 -- a token that is handed on, as one that is kept or as one that does not fit
 pub record Handing : Type 0 where
-  pub handed : Handed
-  pub token : Spelled
+  pub handed : Forwarded
+  pub token : SourceToken
 
-abbrev pub as_kept : Spelled → Handing
+abbrev pub as_kept : SourceToken → Handing
 as_kept t = record { handed = handed.Kept; token = t }
 
 -- of a token, by what becomes of it: first a `#` that was held back before it
-abbrev pub handed_as : Handed → Spelled → List Handing
+abbrev pub handed_as : Forwarded → SourceToken → List Handing
 handed_as handed.Condition t = []
 handed_as h t = record { handed = h; token = t } ∷ []
 
@@ -46,18 +46,18 @@ abbrev pub handed_sign : Option Sign → List Handing
 handed_sign None = []
 handed_sign (Some sign) = handed_as sign.handed (hash sign.place)
 
-abbrev pub handed_token : Option Handed → Spelled → List Handing
+abbrev pub handed_token : Option Forwarded → SourceToken → List Handing
 handed_token None t = []
 handed_token (Some h) t = handed_as h t
 
-abbrev pub handed_on : Judged → Spelled → List Handing
+abbrev pub handed_on : Filtered → SourceToken → List Handing
 handed_on j t = handed_sign j.sign ++ handed_token j.token t
 
 -- a token at a site, where names are known, and how many names are declared behind it, where a directive is taken to end there
 pub record At : Type 0 where
   pub site : Site
   pub out : Out
-  pub token : Spelled
+  pub token : SourceToken
   pub ended : Option ℕ
 
 abbrev pub judged_at : At → Conditions → Behind
@@ -96,7 +96,7 @@ ended_places (Some declared) inner = places (reverse inner)
 
 abbrev pub all_told : List At → Conditions → List Place
 all_told [] c = []
-all_told (t ∷ tokens) c = lone_places (judged_at t c).judged.lone ++ (ended_places t.ended (judged_at t c).now.inner ++ all_told tokens (going_on t c))
+all_told (t ∷ tokens) c = lone_places (judged_at t c).judged.unmatched ++ (ended_places t.ended (judged_at t c).now.inner ++ all_told tokens (going_on t c))
 
 -- What stands in a file
 
@@ -176,14 +176,14 @@ declared_tokens [] declared = declared
 declared_tokens (t ∷ tokens) declared = declared_tokens tokens (declared_behind t declared)
 
 -- A condition with what of its directive is still to be read: behind further tokens, and behind all of them.
-abbrev pub placed_word : First → Spelled
+abbrev pub placed_word : First → SourceToken
 placed_word first = record first.word.token { place = begins first }
 
-abbrev pub condition_behind : List Spelled → Condition → Condition
+abbrev pub condition_behind : List SourceToken → Condition → Condition
 condition_behind [] k = k
 condition_behind (t ∷ tokens) k = condition_behind tokens (condition_took t k)
 
-abbrev pub whole_condition : First → List Spelled → At → Condition
+abbrev pub whole_condition : First → List SourceToken → At → Condition
 whole_condition first tokens end = condition_took end.token (condition_behind tokens (condition_took (placed_word first) condition_begun))
 
 -- what is told of each name at its place, whether one of the directives before declared it, and of each condition, whether it is true behind its last
@@ -266,7 +266,7 @@ passed_by is_inner first word.Endif s = closed s
 passed_by is_inner first w s = opened_more is_inner (first_side first true true) s
 
 -- the tokens that are kept of a part; none of a conditional directive is
-abbrev pub kept_of : Part → Around → List Spelled
+abbrev pub kept_of : Part → Around → List SourceToken
 kept_of (Plain t) s = if all_kept s then t.token ∷ [] else []
 kept_of (Signed is_inner sign t) s = if all_kept s then hash sign.token.place ∷ t.token ∷ [] else []
 kept_of (Before is_inner sign part) s = (if all_kept s then hash sign.token.place ∷ [] else []) ++ kept_of part s
@@ -297,7 +297,7 @@ abbrev mutual
   behind_parts answers s NoParts = s
   behind_parts answers s (Then part parts) = behind_parts answers (behind_part answers part s) parts
 
-  pub kept_sides : Answers → Around → Parts → List Spelled
+  pub kept_sides : Answers → Around → Parts → List SourceToken
   kept_sides answers s NoParts = []
   kept_sides answers s (Then part parts) = kept_of part s ++ kept_sides answers (behind_part answers part s) parts
 
@@ -469,17 +469,17 @@ NoneInsideBehind true false end s = end.ended ≡ None → s.inside ≡ []
 NoneInsideBehind _ _ end s = Unit {0}
 
 -- a condition: the grammar takes its tokens, and the last one is the last of its directive
-abbrev pub AreTaken : List Spelled → At → Condition → Type 0
+abbrev pub AreTaken : List SourceToken → At → Condition → Type 0
 AreTaken [] end k = (fits grammar known (atom_of end.token) k.stack ≡ true) × (is_whole (condition_took end.token k) ≡ true)
 AreTaken (t ∷ tokens) end k =
     (fits grammar known (atom_of t) k.stack ≡ true) × ((is_whole (condition_took t k) ≡ false) × AreTaken tokens end (condition_took t k))
 
-pub record IsCondition (answers : Answers) (first : First) (tokens : List Spelled) (end : At) (declared : ℕ) : Type 0 where
+pub record IsCondition (answers : Answers) (first : First) (tokens : List SourceToken) (end : At) (declared : ℕ) : Type 0 where
   pub are_taken : AreTaken tokens end (condition_took (placed_word first) condition_begun)
   pub agrees : (verdict_of declared end.out (whole_condition first tokens end)).is_true ≡ answers.is_true (whole_condition first tokens end) end
 
 -- where it is kept, and else nothing is
-abbrev pub IsAsked : Bool → Answers → First → List Spelled → At → ℕ → Type 0
+abbrev pub IsAsked : Bool → Answers → First → List SourceToken → At → ℕ → Type 0
 IsAsked true answers first tokens end declared = IsCondition answers first tokens end declared
 IsAsked false answers first tokens end declared = tokens ≡ []
 

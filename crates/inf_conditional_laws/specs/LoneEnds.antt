@@ -5,7 +5,7 @@ use Rattle.inf_report.specs.Messages.{LoneConditional}
 use Rattle.inf_scanner.specs.declared.tokens.Mark.TheVariants as mark
 use Rattle.inf_scanner.specs.declared.tokens.Place.{Place}
 use Rattle.inf_unit.specs.Messages.{FileNames, location, with_error}
-use Rattle.inf_unit.specs.Tokens.{Spelled, is_mark}
+use Rattle.inf_unit.specs.Tokens.{SourceToken, is_mark}
 use Rattle.inf_conditionals.specs.declared.judged.Site.{Site}
 use Rattle.inf_conditionals.specs.declared.open.Conditional.{Conditional}
 use Rattle.inf_conditionals.specs.declared.pending.Pending.{Pending}
@@ -15,7 +15,7 @@ use Rattle.inf_conditionals.specs.Judging.{Behind, judged, none_handed}
 use Rattle.inf_conditionals.specs.Open.{Conditions, opened}
 use Rattle.inf_conditionals.specs.Words.{awaits_of}
 use Rattle.inf_reader.specs.Handing.{judged_taken, unit_ended}
-use Rattle.inf_reader.specs.Reading.{Stand}
+use Rattle.inf_reader.specs.Reading.{ReaderState}
 use Rattle.inf_conditional_laws.specs.MissingEnds.{Change, Closes, Opens, StandInside, Turns, all_changed}
 
 -- Sides
@@ -45,7 +45,7 @@ is_lone _ sides = false
 -- How the sides follow
 
 -- the semicolon of a directive with a word comes, where no side is left out
-pub record IsEndOf (w : ConditionalWord) (p : Pending) (t : Spelled) (c : Conditions) : Type 0 where
+pub record IsEndOf (w : ConditionalWord) (p : Pending) (t : SourceToken) (c : Conditions) : Type 0 where
   pub all_kept : c.left_out ≡ None
   pub no_sign : c.sign ≡ None
   pub others : List Pending
@@ -56,7 +56,7 @@ pub record IsEndOf (w : ConditionalWord) (p : Pending) (t : Spelled) (c : Condit
 
 -- the word acts, whether it is lone or not
 abbrev pub Acts : ConditionalWord → Type 0
-Acts w = (site : Site) (out : Out) (t : Spelled) (p : Pending) (c : Conditions) → IsEndOf w p t c → sides (judged site out t c).now ≡ sides_behind w (sides c)
+Acts w = (site : Site) (out : Out) (t : SourceToken) (p : Pending) (c : Conditions) → IsEndOf w p t c → sides (judged site out t c).now ≡ sides_behind w (sides c)
 
 -- what changes do, one after the other
 abbrev pub all_sides_behind : List Change → List Bool → List Bool
@@ -74,7 +74,7 @@ pub record SidesFollow : Type 0 where
 -- Lone ones
 
 -- A lone directive ends that begins at a place, and not among tokens that are passed over.
-pub record IsLone (site : Site) (t : Spelled) (c : Conditions) (place : Place) : Type 0 where
+pub record IsLone (site : Site) (t : SourceToken) (c : Conditions) (place : Place) : Type 0 where
   pub word : ConditionalWord
   pub directive : Pending
   pub ends : IsEndOf word directive t c
@@ -84,20 +84,20 @@ pub record IsLone (site : Site) (t : Spelled) (c : Conditions) (place : Place) :
 
 -- It changes nothing, and no token of it is handed on.
 abbrev pub lone_behind : List Pending → Place → Conditions → Behind
-lone_behind others place c = record { now = record c { pending = others }; judged = record none_handed { lone = Some place; ended = Some place } }
+lone_behind others place c = record { now = record c { pending = others }; judged = record none_handed { unmatched = Some place; ended = Some place } }
 
 abbrev pub LonesAreJudged : Type 0
-LonesAreJudged = (site : Site) (out : Out) (t : Spelled) (c : Conditions) (place : Place) (lone : IsLone site t c place) → judged site out t c ≡ lone_behind lone.ends.others place c
+LonesAreJudged = (site : Site) (out : Out) (t : SourceToken) (c : Conditions) (place : Place) (unmatched : IsLone site t c place) → judged site out t c ≡ lone_behind unmatched.ends.others place c
 
 -- No other token tells of one.
 abbrev pub OnlyLonesAre : Type 0
-OnlyLonesAre = (site : Site) (out : Out) (t : Spelled) (c : Conditions) (place : Place) → (judged site out t c).judged.lone ≡ Some place → IsLone site t c place
+OnlyLonesAre = (site : Site) (out : Out) (t : SourceToken) (c : Conditions) (place : Place) → (judged site out t c).judged.unmatched ≡ Some place → IsLone site t c place
 
 -- It is told where it begins, and it is a unit that has ended, as any other conditional directive is.
-abbrev pub lone_message : FileNames → Place → Stand → Stand
+abbrev pub lone_message : FileNames → Place → ReaderState → ReaderState
 lone_message files place s =
     record s { work = record s.work { report = with_error (location files place) (location files place) LoneConditional s.work.report } }
 
 abbrev pub LonesAreTold : Type 0
-LonesAreTold = (files : FileNames) (site : Site) (out : Out) (t : Spelled) (c : Conditions) (place : Place) (s : Stand) → IsLone site t c place
+LonesAreTold = (files : FileNames) (site : Site) (out : Out) (t : SourceToken) (c : Conditions) (place : Place) (s : ReaderState) → IsLone site t c place
     → judged_taken files t (judged site out t c).judged s ≡ unit_ended (Some place) files (lone_message files place s)

@@ -1,15 +1,15 @@
 -- The tokens that the turns of a whole reading hand on, with the conditionals of its file.
 use Rattle.std.specs.Prelude.{◌≡◌, ◌≤◌, ◌+◌, ℕ, zero, suc, List, [], ◌∷◌, ◌++◌, map, Bool, true, false, if◌then◌else◌, Option, Some, None}
-use Rattle.inf_token.specs.Files.{Sources}
-use Rattle.inf_unit.specs.Directives.{Asked, End, Include, Nothing}
+use Rattle.inf_files.specs.Files.{Sources}
+use Rattle.inf_unit.specs.Directives.{Request, End, Include, Nothing}
 use Rattle.inf_unit.specs.Tokens.{is_end}
-use Rattle.inf_conditionals.specs.declared.judged.Handed.TheVariants as handed
+use Rattle.inf_conditionals.specs.declared.judged.Forwarded.TheVariants as handed
 use Rattle.inf_conditionals.specs.declared.open.LeftOut.{LeftOut}
 use Rattle.inf_conditionals.specs.Open.{is_second, latest, most_levels}
 use Rattle.inf_reader.specs.Handing.{site_of}
 use Rattle.inf_reader.specs.Reading.{is_mode_ended}
 use Rattle.inf_session.specs.Choices.{Choices}
-use Rattle.inf_session.specs.Session.{State, file_closed, has_ended, heeded, is_resting, start, stepped, token_of, turn}
+use Rattle.inf_session.specs.Session.{State, file_closed, has_ended, carried_out, is_resting, start, stepped, token_of, turn}
 use Rattle.inf_conditional_laws.specs.KeptSides.{Answers, At, Handing, IsClear, IsFile, Parts, all_handed_on, all_tokens, as_kept, behind_parts, kept_sides, none_around, unended}
 use Rattle.inf_laws.specs.KeptTokens.{Given, Kept, Unfit}
 use Rattle.inf_laws.specs.KeptTurns.{given_in, turned}
@@ -23,14 +23,14 @@ ends_there s = if has_ended s then None else if is_resting s then Some s.work.ou
 -- what comes to the conditionals by a turn, and by so many
 abbrev pub at_turn : Sources → Choices → State → At
 at_turn sources o s =
-    record { site = site_of s.reading; out = s.work.output; token = token_of s.nesting.cursor; ended = ends_there (heeded sources o (stepped s)) }
+    record { site = site_of s.reading; out = s.work.output; token = token_of s.nesting.cursor; ended = ends_there (carried_out sources o (stepped s)) }
 
 abbrev pub at_turns : Sources → Choices → ℕ → State → List At
 at_turns sources o zero s = []
 at_turns sources o (suc n) s = at_turn sources o s ∷ at_turns sources o n (turn sources o s)
 
 -- in these turns no file ends, and none is asked for
-abbrev pub is_inclusion : Asked → Bool
+abbrev pub is_inclusion : Request → Bool
 is_inclusion (Include text unit) = true
 is_inclusion End = false
 is_inclusion Nothing = false

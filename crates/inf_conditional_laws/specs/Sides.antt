@@ -7,10 +7,10 @@ use Rattle.inf_scanner.specs.declared.tokens.Place.{Place}
 use Rattle.inf_scanner.specs.declared.tokens.TokenKind.TheVariants as kind
 use Rattle.inf_machine.specs.Machine.{fits}
 use Rattle.inf_grammar.specs.Language.{grammar, known}
-use Rattle.inf_unit.specs.Tokens.{Spelled, is_end, is_mark}
+use Rattle.inf_unit.specs.Tokens.{SourceToken, is_end, is_mark}
 use Rattle.inf_conditionals.specs.Atoms.{atom_of}
 use Rattle.inf_conditionals.specs.Condition.{Condition, condition_took, is_whole, verdict_of}
-use Rattle.inf_conditionals.specs.declared.judged.Judged.{Judged}
+use Rattle.inf_conditionals.specs.declared.judged.Filtered.{Filtered}
 use Rattle.inf_conditionals.specs.declared.judged.Site.{Site}
 use Rattle.inf_conditionals.specs.declared.open.Conditional.{Conditional}
 use Rattle.inf_conditionals.specs.declared.open.LeftOut.{LeftOut}
@@ -26,7 +26,7 @@ use Rattle.inf_conditionals.specs.Words.{word_of}
 -- What comes to the conditionals of a file: a token at a site, where names are known; and the end of a directive, behind which so many names
 -- are declared.
 pub data Event : Type 0 where
-  Token : (site : Site) (out : Out) (token : Spelled) → Event
+  Token : (site : Site) (out : Out) (token : SourceToken) → Event
   Piece : (declared : ℕ) → Event
 
 -- the conditionals behind it, and what becomes of it
@@ -34,7 +34,7 @@ abbrev pub behind : Event → Conditions → Conditions
 behind (Token site out t) c = (judged site out t c).now
 behind (Piece declared) c = piece_ended declared c
 
-abbrev pub became : Event → Conditions → Judged
+abbrev pub became : Event → Conditions → Filtered
 became (Token site out t) c = (judged site out t c).judged
 became (Piece declared) c = none_handed
 
@@ -96,12 +96,12 @@ SidesAreCut = (events : List Event) (c : Conditions) (side : LeftOut) → c.left
     → AllCut events c × StaysLeftOut c (behind_all events c) side (level_after events side.levels)
 
 -- The token that ends it is cut, too, and nothing is left out behind it.
-pub record EndsSide (c now : Conditions) (j : Judged) : Type 0 where
+pub record EndsSide (c now : Conditions) (j : Filtered) : Type 0 where
   pub is_cut : j ≡ none_handed
   pub kept_on : now.left_out ≡ None
 
 abbrev pub SidesEnd : Type 0
-SidesEnd = (site : Site) (out : Out) (t : Spelled) (c : Conditions) (side : LeftOut) → c.left_out ≡ Some side → is_end t.kind ≡ false
+SidesEnd = (site : Site) (out : Out) (t : SourceToken) (c : Conditions) (side : LeftOut) → c.left_out ≡ Some side → is_end t.kind ≡ false
     → ends_side (is_second (latest c)) side.levels (word_of t) ≡ true → EndsSide c (judged site out t c).now (judged site out t c).judged
 
 -- Which side is left out
@@ -114,7 +114,7 @@ pub record IsBetween (site : Site) (c : Conditions) : Type 0 where
   pub no_sign : c.sign ≡ None
 
 -- the three tokens of a directive with a name, at sites, where names are known
-abbrev pub directive : Site → Site → Site → Out → Spelled → List ℕ → Place → Spelled → List Event
+abbrev pub directive : Site → Site → Site → Out → SourceToken → List ℕ → Place → SourceToken → List Event
 directive first second third out w name place end =
     Token first out w ∷ Token second out (record { kind = kind.Name; bytes = name; place = place }) ∷ Token third out end ∷ []
 
@@ -126,7 +126,7 @@ opened_at place is_kept c now =
 
 -- The first side of `Ifdef` is kept where a directive before this one declared the name, and that of `Ifndef` where none did.
 abbrev pub FirstSides : ConditionalWord → (Bool → Bool) → Type 0
-FirstSides directive_word is_kept = (first second third : Site) (out : Out) (w end : Spelled) (name : List ℕ) (place : Place) (c : Conditions)
+FirstSides directive_word is_kept = (first second third : Site) (out : Out) (w end : SourceToken) (name : List ℕ) (place : Place) (c : Conditions)
     → IsBetween first c → w.kind ≡ kind.Name → word_of w ≡ Some directive_word → is_mark mark.Semicolon end.kind ≡ true → is_mark mark.Hash end.kind ≡ false
     → opened_at w.place (is_kept (declared_before name c.declared out.names)) c (behind_all (directive first second third out w name place end) c)
 
@@ -135,7 +135,7 @@ pub record SidesAgree : Type 0 where
   pub of_ifndef : FirstSides word.Ifndef not
 
 -- a directive with a condition, of which a token is the last
-pub record IsLastOf (t : Spelled) (wanted : Bool) (p : Pending) (k : Condition) (c : Conditions) : Type 0 where
+pub record IsLastOf (t : SourceToken) (wanted : Bool) (p : Pending) (k : Condition) (c : Conditions) : Type 0 where
   pub all_kept : c.left_out ≡ None
   pub no_sign : c.sign ≡ None
   pub others : List Pending
@@ -154,6 +154,6 @@ is_wanted wanted is_true = if wanted then is_true else not is_true
 -- The first side of `Iftrue` is kept where its condition is true, and that of `Iffalse` where it is not, by the names that were declared by the directives
 -- before.
 abbrev pub ValuesDecide : Type 0
-ValuesDecide = (site : Site) (out : Out) (t : Spelled) (wanted : Bool) (p : Pending) (k : Condition) (c : Conditions) → IsLastOf t wanted p k c
+ValuesDecide = (site : Site) (out : Out) (t : SourceToken) (wanted : Bool) (p : Pending) (k : Condition) (c : Conditions) → IsLastOf t wanted p k c
     → (judged site out t c).now.left_out
     ≡ (if is_wanted wanted (verdict_of c.declared out (condition_took t k)).is_true then None else Some (record { is_inner = p.is_inner; levels = 0 }))

@@ -3,13 +3,13 @@ use Rattle.std.proofs.Common.{◌≡◌, ℕ, List, [], ◌∷◌, Bool, true, f
 use Rattle.inf_scanner.specs.declared.tokens.Place.{Place}
 use Rattle.inf_scanner.specs.declared.tokens.TokenKind.TheVariants as kind
 use Rattle.inf_output.specs.Output.{Out}
-use Rattle.inf_unit.specs.Tokens.{Spelled}
+use Rattle.inf_unit.specs.Tokens.{SourceToken}
 use Rattle.inf_conditionals.specs.Condition.{Condition, condition_took}
 use Rattle.inf_conditionals.specs.Judging.{asked, awaited, judged, judged_by, offered_condition, offered_to, unfit, went_on}
 use Rattle.inf_conditionals.specs.Open.{Conditions}
-use Rattle.inf_conditionals.specs.declared.judged.Handed.{Handed}
-use Rattle.inf_conditionals.specs.declared.judged.Handed.TheVariants as handed
-use Rattle.inf_conditionals.specs.declared.judged.Judged.{Judged}
+use Rattle.inf_conditionals.specs.declared.judged.Forwarded.{Forwarded}
+use Rattle.inf_conditionals.specs.declared.judged.Forwarded.TheVariants as handed
+use Rattle.inf_conditionals.specs.declared.judged.Filtered.{Filtered}
 use Rattle.inf_conditionals.specs.declared.judged.Site.{Site}
 use Rattle.inf_conditionals.specs.declared.open.LeftOut.{LeftOut}
 use Rattle.inf_conditionals.specs.declared.pending.Awaits.{Awaits}
@@ -17,56 +17,56 @@ use Rattle.inf_conditionals.specs.declared.pending.Awaits.TheVariants as awaits
 use Rattle.inf_conditionals.specs.declared.pending.Pending.{Pending}
 use Rattle.inf_conditionals.proofs.Misfits.{end_fits_nothing}
 
-abbrev pub end_of : List ℕ → Place → Spelled
+abbrev pub end_of : List ℕ → Place → SourceToken
 end_of bytes place = record { kind = kind.End; bytes = bytes; place = place }
 
 -- whether it is handed on so
-abbrev pub is_on : Handed → Bool
+abbrev pub is_on : Forwarded → Bool
 is_on handed.Kept = true
 is_on handed.Unfit = true
 is_on handed.Condition = false
 
 -- a token is handed on, in some way
-pub record IsHanded (j : Judged) : Type 0 where
-  pub handed : Handed
+pub record IsForwarded (j : Filtered) : Type 0 where
+  pub handed : Forwarded
   pub is : j.token ≡ Some handed
   pub on : is_on handed ≡ true
 
-as_kept : (j : Judged) → j.token ≡ Some handed.Kept → IsHanded j
+as_kept : (j : Filtered) → j.token ≡ Some handed.Kept → IsForwarded j
 as_kept j e = record { handed = handed.Kept; is = e; on = refl }
 
-as_unfit : (j : Judged) → j.token ≡ Some handed.Unfit → IsHanded j
+as_unfit : (j : Filtered) → j.token ≡ Some handed.Unfit → IsForwarded j
 as_unfit j e = record { handed = handed.Unfit; is = e; on = refl }
 
 -- it fits no condition
 to_offered_condition : (wanted q : Bool) (out : Out) (bytes : List ℕ) (place : Place) (k : Condition) (p : Pending) (c : Conditions)
-    → IsHanded (offered_condition wanted q out (end_of bytes place) k p c).judged
+    → IsForwarded (offered_condition wanted q out (end_of bytes place) k p c).judged
 to_offered_condition wanted q out bytes place k p c =
-    let t : Spelled = end_of bytes place in
+    let t : SourceToken = end_of bytes place in
     let n : Condition = condition_took t k in
     as_unfit _ (ap (λ (b : Bool). (cond b (went_on wanted q out t n p c) (unfit c)).judged.token) (end_fits_nothing k.stack))
 
 to_asked : (conditions : List Condition) (wanted q : Bool) (out : Out) (bytes : List ℕ) (place : Place) (p : Pending) (c : Conditions)
-    → IsHanded (asked conditions wanted q out (end_of bytes place) p c).judged
+    → IsForwarded (asked conditions wanted q out (end_of bytes place) p c).judged
 to_asked [] wanted q out bytes place p c = as_unfit _ refl
 to_asked (k ∷ conditions) wanted q out bytes place p c = to_offered_condition wanted q out bytes place k p (record c { conditions = conditions })
 
-to_awaited : (a : Awaits) (q : Bool) (out : Out) (bytes : List ℕ) (place : Place) (p : Pending) (c : Conditions) → IsHanded (awaited a q out (end_of bytes place) p c).judged
+to_awaited : (a : Awaits) (q : Bool) (out : Out) (bytes : List ℕ) (place : Place) (p : Pending) (c : Conditions) → IsForwarded (awaited a q out (end_of bytes place) p c).judged
 to_awaited awaits.Word q out bytes place p c = as_kept _ refl
 to_awaited (awaits.Name b) q out bytes place p c = as_unfit _ refl
 to_awaited (awaits.Condition wanted) q out bytes place p c = to_asked c.conditions wanted q out bytes place p c
 to_awaited (awaits.End e) q out bytes place p c = as_unfit _ refl
 
-to_offered : (ps : List Pending) (front q : Bool) (out : Out) (bytes : List ℕ) (place : Place) (c : Conditions) → IsHanded (offered_to ps front q out (end_of bytes place) c).judged
+to_offered : (ps : List Pending) (front q : Bool) (out : Out) (bytes : List ℕ) (place : Place) (c : Conditions) → IsForwarded (offered_to ps front q out (end_of bytes place) c).judged
 to_offered [] true q out bytes place c = as_kept _ refl
 to_offered [] false q out bytes place c = as_kept _ refl
 to_offered (p ∷ ps) front q out bytes place c = to_awaited p.awaits q out bytes place p (record c { pending = ps })
 
 end_by : (side : Option LeftOut) (sign : Option Place) (site : Site) (out : Out) (bytes : List ℕ) (place : Place) (c : Conditions)
-    → IsHanded (judged_by side sign site out (end_of bytes place) c).judged
+    → IsForwarded (judged_by side sign site out (end_of bytes place) c).judged
 end_by (Some side) sign site out bytes place c = to_offered c.pending false site.is_quiet out bytes place (record c { left_out = None; sign = None })
 end_by None (Some at) site out bytes place c = as_kept _ refl
 end_by None None site out bytes place c = to_offered c.pending _ site.is_quiet out bytes place c
 
-pub end_is_handed : (site : Site) (out : Out) (bytes : List ℕ) (place : Place) (c : Conditions) → IsHanded (judged site out (end_of bytes place) c).judged
+pub end_is_handed : (site : Site) (out : Out) (bytes : List ℕ) (place : Place) (c : Conditions) → IsForwarded (judged site out (end_of bytes place) c).judged
 end_is_handed site out bytes place c = end_by c.left_out c.sign site out bytes place c

@@ -4,7 +4,7 @@ use Rattle.inf_scanner.specs.declared.tokens.TokenKind.{TokenKind}
 use Rattle.inf_scanner.specs.declared.tokens.TokenKind.TheVariants as kind
 use Rattle.inf_syntax.specs.Atoms.{mark_atom, place_in, first_word, first_literal, names}
 use Rattle.inf_syntax.specs.Words.{words}
-use Rattle.inf_unit.specs.Tokens.{Spelled}
+use Rattle.inf_unit.specs.Tokens.{SourceToken}
 
 -- the atoms of a number, a character, a word in quotes, a text, of what is faulty by itself, and of the end
 abbrev pub number_atom : ℕ
@@ -40,9 +40,9 @@ atom_of_kind is_class kind.Text bytes = text_atom
 atom_of_kind is_class (kind.Bad b) bytes = bad_atom
 atom_of_kind is_class kind.End bytes = end_atom
 
-abbrev pub atom_as : Bool → Spelled → ℕ
+abbrev pub atom_as : Bool → SourceToken → ℕ
 atom_as is_class t = atom_of_kind is_class t.kind t.bytes
 
 -- of one that is not
-abbrev pub atom_of : Spelled → ℕ
+abbrev pub atom_of : SourceToken → ℕ
 atom_of t = atom_as false t

@@ -15,7 +15,7 @@ use Rattle.inf_expressions.specs.Rooted.{Rooted}
 use Rattle.inf_expressions.specs.Trees.{Tree, Leaf}
 use Rattle.inf_expressions.specs.Units.{judged, trees_of}
 use Rattle.inf_output.specs.Output.{Out}
-use Rattle.inf_unit.specs.Tokens.{Spelled}
+use Rattle.inf_unit.specs.Tokens.{SourceToken}
 use Rattle.inf_unit.specs.Units.{Unit, acted, no_unit, taken}
 use Rattle.inf_conditionals.specs.Atoms.{atom_of}
 use Rattle.inf_conditionals.specs.Operands.{operands_of}
@@ -40,7 +40,7 @@ all_acted [] u = u
 all_acted (a ∷ actions) u = all_acted actions (acted a u)
 
 -- a token that fits is taken: first the actions on the way to it gather
-abbrev pub condition_took : Spelled → Condition → Condition
+abbrev pub condition_took : SourceToken → Condition → Condition
 condition_took t k =
     let n = read grammar known (atom_of t) k.stack in
     record { stack = n.left; unit = taken t (all_acted n.actions k.unit) }

@@ -10,11 +10,11 @@ use Rattle.inf_machine.specs.Machine.{fits}
 use Rattle.inf_grammar.specs.Language.{grammar, known}
 use Rattle.inf_names.specs.Symbols.{declared_before}
 use Rattle.inf_output.specs.Output.{Out}
-use Rattle.inf_unit.specs.Tokens.{Spelled, is_end, is_mark}
+use Rattle.inf_unit.specs.Tokens.{SourceToken, is_end, is_mark}
 use Rattle.inf_unit.specs.Units.{outer_tokens}
 use Rattle.inf_conditionals.specs.declared.condition.Verdict.{Verdict}
-use Rattle.inf_conditionals.specs.declared.judged.Handed.TheVariants as handed
-use Rattle.inf_conditionals.specs.declared.judged.Judged.{Judged}
+use Rattle.inf_conditionals.specs.declared.judged.Forwarded.TheVariants as handed
+use Rattle.inf_conditionals.specs.declared.judged.Filtered.{Filtered}
 use Rattle.inf_conditionals.specs.declared.judged.Site.{Site}
 use Rattle.inf_conditionals.specs.declared.open.LeftOut.{LeftOut}
 use Rattle.inf_conditionals.specs.declared.pending.Awaits.{Awaits}
@@ -32,10 +32,10 @@ use Rattle.inf_conditionals.specs.Open.{Conditions, closed, ended_by, ends_at, i
 -- the conditionals behind a token, and what becomes of it
 pub record Behind : Type 0 where
   pub now : Conditions
-  pub judged : Judged
+  pub judged : Filtered
 
-abbrev pub none_handed : Judged
-none_handed = record { sign = None; token = None; lone = None; ended = None }
+abbrev pub none_handed : Filtered
+none_handed = record { sign = None; token = None; unmatched = None; ended = None }
 
 -- it belongs to a conditional
 abbrev pub passed : Conditions → Behind
@@ -60,17 +60,17 @@ unfit c = record { now = given_up c; judged = record none_handed { token = Some 
 -- The end of a conditional directive
 
 -- the directive has no conditional to end or to turn; among tokens that are passed over this is not told
-abbrev pub lone : Bool → Place → Conditions → Behind
-lone is_quiet place c = record { now = c; judged = record none_handed { lone = if is_quiet then None else Some place } }
+abbrev pub unmatched : Bool → Place → Conditions → Behind
+unmatched is_quiet place c = record { now = c; judged = record none_handed { unmatched = if is_quiet then None else Some place } }
 
 -- The second side of the latest conditional, whose first side was kept, is left out.
 abbrev pub turning : Bool → Place → Conditions → Behind
 turning is_quiet place c =
-    if is_second (latest c) then lone is_quiet place c
+    if is_second (latest c) then unmatched is_quiet place c
     else passed (record (turned c) { left_out = Some (record { is_inner = not (is_none_open c.inner); levels = 0 }) })
 
 abbrev pub closing : Bool → Place → Conditions → Behind
-closing is_quiet place c = if is_none_open (latest c) then lone is_quiet place c else passed (closed c)
+closing is_quiet place c = if is_none_open (latest c) then unmatched is_quiet place c else passed (closed c)
 
 abbrev pub effected_by : Effect → Bool → Pending → Conditions → Behind
 effected_by (effect.Opens is_kept) is_quiet p c = passed (opened is_kept p c)
@@ -95,21 +95,21 @@ abbrev pub asking : Place → Bool → Bool → Condition → Conditions → Con
 asking place is_inner wanted k c = record (awaiting place is_inner (awaits.Condition wanted) c) { conditions = k ∷ c.conditions }
 
 -- its word is its first token for the grammar
-abbrev pub asked_first : Bool → Spelled → Bool → Conditions → Behind
+abbrev pub asked_first : Bool → SourceToken → Bool → Conditions → Behind
 asked_first wanted word is_inner c =
     if fits grammar known (atom_of word) condition_begun.stack
     then passed (asking word.place is_inner wanted (condition_took word condition_begun) c) else unfit c
 
-abbrev pub begun_by : Awaits → Spelled → Bool → Conditions → Behind
+abbrev pub begun_by : Awaits → SourceToken → Bool → Conditions → Behind
 begun_by (awaits.Condition wanted) t is_inner c = asked_first wanted t is_inner c
 begun_by a t is_inner c = passed (awaiting t.place is_inner a c)
 
 -- it begins with a word, at a place, inside another or not
-abbrev pub begun : ConditionalWord → Spelled → Place → Bool → Conditions → Behind
+abbrev pub begun : ConditionalWord → SourceToken → Place → Bool → Conditions → Behind
 begun word t place is_inner c = begun_by (awaits_of word) (record t { place = place }) is_inner c
 
 -- behind a `#` at the front of a piece: another directive than a conditional one is kept, with its `#`
-abbrev pub behind_front : Option ConditionalWord → Spelled → Pending → Conditions → Behind
+abbrev pub behind_front : Option ConditionalWord → SourceToken → Pending → Conditions → Behind
 behind_front None t p c = record { now = c; judged = record none_handed { sign = Some (record { place = p.place; handed = handed.Kept }); token = Some handed.Kept } }
 behind_front (Some word) t p c = begun word t p.place p.is_inner c
 
@@ -138,23 +138,23 @@ decided v wanted is_quiet k p c =
     effected (effect.Opens (if wanted then v.is_true else not v.is_true)) is_quiet p (saying is_quiet (told_by p.place k v.finding) c)
 
 -- behind a token the directive is whole, or goes on
-abbrev pub went_on : Bool → Bool → Out → Spelled → Condition → Pending → Conditions → Behind
+abbrev pub went_on : Bool → Bool → Out → SourceToken → Condition → Pending → Conditions → Behind
 went_on wanted is_quiet o t k p c =
     if is_whole k then decided (verdict_of c.declared o k) wanted is_quiet k p c
     else taken (asking p.place p.is_inner wanted k (saying is_quiet (too_much c.longest t k) (tokens_counted is_quiet k c)))
 
-abbrev pub offered_condition : Bool → Bool → Out → Spelled → Condition → Pending → Conditions → Behind
+abbrev pub offered_condition : Bool → Bool → Out → SourceToken → Condition → Pending → Conditions → Behind
 offered_condition wanted is_quiet o t k p c =
     if fits grammar known (atom_of t) k.stack
     then went_on wanted is_quiet o t (condition_took t k) p c else unfit c
 
 -- the innermost one is that of the directive
-abbrev pub asked : List Condition → Bool → Bool → Out → Spelled → Pending → Conditions → Behind
+abbrev pub asked : List Condition → Bool → Bool → Out → SourceToken → Pending → Conditions → Behind
 asked [] wanted is_quiet o t p c = unfit c
 asked (k ∷ conditions) wanted is_quiet o t p c = offered_condition wanted is_quiet o t k p (record c { conditions = conditions })
 
 -- a token comes to a directive that waits so; the conditions are those without it
-abbrev pub awaited : Awaits → Bool → Out → Spelled → Pending → Conditions → Behind
+abbrev pub awaited : Awaits → Bool → Out → SourceToken → Pending → Conditions → Behind
 awaited awaits.Word is_quiet o t p c = behind_front (word_of t) t p c
 awaited (awaits.Name if_declared) is_quiet o t p c = named t.kind t.bytes if_declared o p c
 awaited (awaits.Condition wanted) is_quiet o t p c = asked c.conditions wanted is_quiet o t p c
@@ -168,16 +168,16 @@ held true place c = awaiting place false awaits.Word c
 held false place c = record c { sign = Some place }
 
 -- a token at the front of a piece
-abbrev pub at_front : Option ConditionalWord → Spelled → Conditions → Behind
+abbrev pub at_front : Option ConditionalWord → SourceToken → Conditions → Behind
 at_front None t c = kept c
 at_front (Some word) t c = begun word t t.place false c
 
 -- a token where no side is left out and no `#` is held back, at the front of a piece or not
-abbrev pub offered_to : List Pending → Bool → Bool → Out → Spelled → Conditions → Behind
+abbrev pub offered_to : List Pending → Bool → Bool → Out → SourceToken → Conditions → Behind
 offered_to [] is_front is_quiet o t c = if is_front then at_front (word_of t) t c else kept c
 offered_to (p ∷ pending) is_front is_quiet o t c = awaited p.awaits is_quiet o t p (record c { pending = pending })
 
-abbrev pub offered : Bool → Bool → Out → Spelled → Conditions → Behind
+abbrev pub offered : Bool → Bool → Out → SourceToken → Conditions → Behind
 offered is_front is_quiet o t c =
     if is_mark mark.Hash t.kind then passed (held is_front t.place c) else offered_to c.pending is_front is_quiet o t c
 
@@ -187,7 +187,7 @@ is_none_pending (p ∷ pending) = false
 
 -- A token behind a `#` that was held back inside a directive. Where it is no word of a conditional the `#` is kept, or does not
 -- fit the conditional directive in which it stands.
-abbrev pub behind_sign : Option ConditionalWord → Place → Bool → Out → Spelled → Conditions → Behind
+abbrev pub behind_sign : Option ConditionalWord → Place → Bool → Out → SourceToken → Conditions → Behind
 behind_sign (Some word) place is_quiet o t c = begun word t place true (record c { sign = None })
 behind_sign None place is_quiet o t c =
     let b = offered false is_quiet o t (given_up (record c { sign = None })) in
@@ -202,24 +202,24 @@ word_passed word place side c =
     then awaiting (unwrap_or c.sign place) false (awaits.End effect.Nothing) (record (ended_by word c) { left_out = None; sign = None })
     else record c { left_out = Some (record side { levels = levels_behind word side.levels }); sign = None }
 
-abbrev pub passed_by : Option ConditionalWord → Spelled → LeftOut → Conditions → Conditions
+abbrev pub passed_by : Option ConditionalWord → SourceToken → LeftOut → Conditions → Conditions
 passed_by None t side c = record c { sign = if is_mark mark.Hash t.kind then Some t.place else None }
 passed_by (Some word) t side c = word_passed word t.place side c
 
 -- at the end of the file nothing is left out any more
-abbrev pub in_side : Bool → Out → Spelled → LeftOut → Conditions → Behind
+abbrev pub in_side : Bool → Out → SourceToken → LeftOut → Conditions → Behind
 in_side is_quiet o t side c =
     if is_end t.kind then offered false is_quiet o t (record c { left_out = None; sign = None })
     else passed (passed_by (word_of t) t side c)
 
 -- Any token
 
-abbrev pub judged_by : Option LeftOut → Option Place → Site → Out → Spelled → Conditions → Behind
+abbrev pub judged_by : Option LeftOut → Option Place → Site → Out → SourceToken → Conditions → Behind
 judged_by (Some side) sign site o t c = in_side site.is_quiet o t side c
 judged_by None (Some place) site o t c = behind_sign (word_of t) place site.is_quiet o t c
 judged_by None None site o t c = offered (site.is_between && is_none_pending c.pending) site.is_quiet o t c
 
-abbrev pub judged : Site → Out → Spelled → Conditions → Behind
+abbrev pub judged : Site → Out → SourceToken → Conditions → Behind
 judged site o t c = judged_by c.left_out c.sign site o t c
 
 -- Where a part of the reading may end

@@ -18,8 +18,8 @@ use Rattle.inf_names.specs.declared.meanings.Meaning.{Meaning}
 use Rattle.inf_names.specs.declared.meanings.Meaning.TheVariants as meaning
 use Rattle.inf_names.specs.declared.symbols.Found.{Found}
 use Rattle.inf_names.specs.declared.symbols.Found.TheVariants as found
-use Rattle.inf_symbol.specs.Spellings.{Name}
-use Rattle.inf_unit.specs.Tokens.{Spelled}
+use Rattle.inf_sinks.specs.Spellings.{Name}
+use Rattle.inf_unit.specs.Tokens.{SourceToken}
 use Rattle.inf_unit.specs.Units.{name_at}
 
 -- Every other name is known later: no code asks for its number.
@@ -66,7 +66,7 @@ abbrev pub bytes_of : Option Name → List ℕ
 bytes_of None = []
 bytes_of (Some n) = n.bytes
 
-abbrev pub leaf_operand : ℕ → Table Place → List Spelled → Leaf → Operand
+abbrev pub leaf_operand : ℕ → Table Place → List SourceToken → Leaf → Operand
 leaf_operand declared names tokens (leaf.Name at) = name_operand declared names (bytes_of (name_at tokens at))
 leaf_operand declared names tokens (leaf.Alone at) = name_operand declared names (bytes_of (name_at tokens at))
 leaf_operand declared names tokens (leaf.Number number) = operand.Known number
@@ -77,17 +77,17 @@ leaf_operand declared names tokens (leaf.Action at) = operand.Unknown
 leaf_operand declared names tokens (leaf.System at) = operand.Unknown
 
 -- an action has its number: one that did not appear is the next, behind new ones of its condition
-abbrev pub operand_behind : ℕ → Out → List Spelled → Leaf → Table Place → Table Place × Operand
+abbrev pub operand_behind : ℕ → Out → List SourceToken → Leaf → Table Place → Table Place × Operand
 operand_behind declared o tokens (leaf.Action at) ahead = looked_action (name_at tokens at) o ahead
 operand_behind declared o tokens l ahead = (ahead, leaf_operand declared o.names tokens l)
 
 -- behind others
-abbrev pub operands_from : ℕ → Out → List Spelled → List Leaf → Table Place → List Operand → List Operand
+abbrev pub operands_from : ℕ → Out → List SourceToken → List Leaf → Table Place → List Operand → List Operand
 operands_from declared o tokens [] ahead operands = operands
 operands_from declared o tokens (l ∷ leaves) ahead operands =
     let s = operand_behind declared o tokens l ahead in operands_from declared o tokens leaves s.0 (operands ++ s.1 ∷ [])
 
-abbrev pub operands_of : ℕ → Out → List Spelled → List Leaf → List Operand
+abbrev pub operands_of : ℕ → Out → List SourceToken → List Leaf → List Operand
 operands_of declared o tokens leaves = operands_from declared o tokens leaves (no_names 4294967295 false) []
 
 -- Where nothing is wrong with a condition its actions appear.
@@ -95,10 +95,10 @@ abbrev pub appeared_by : Option Name → Code
 appeared_by None o = o
 appeared_by (Some n) o = (action_of n.bytes n.place o).0
 
-abbrev pub action_added : List Spelled → Leaf → Code
+abbrev pub action_added : List SourceToken → Leaf → Code
 action_added tokens (leaf.Action at) o = appeared_by (name_at tokens at) o
 action_added tokens _ o = o
 
-abbrev pub actions_added : List Spelled → List Leaf → Code
+abbrev pub actions_added : List SourceToken → List Leaf → Code
 actions_added tokens [] o = o
 actions_added tokens (l ∷ leaves) o = actions_added tokens leaves (action_added tokens l o)

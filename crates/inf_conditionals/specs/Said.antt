@@ -7,8 +7,8 @@ use Rattle.inf_scanner.specs.declared.tokens.Place.{Place}
 use Rattle.inf_settings.specs.declared.setting.Setting.TheVariants.{ExpressionNodes}
 use Rattle.inf_expressions.specs.declared.findings.Finding.{Finding}
 use Rattle.inf_report.specs.Messages.{ConstantOutOfRange, DeepNesting, End, Exceeded, Message, NotConstant, Told, TooManyArguments, WrongKind}
-use Rattle.inf_unit.specs.Messages.{Blame, FileNames, Reported, location, with_error, with_fatal}
-use Rattle.inf_unit.specs.Tokens.{Spelled, is_mark, told}
+use Rattle.inf_unit.specs.Messages.{Diagnostic, FileNames, Reported, location, with_error, with_fatal}
+use Rattle.inf_unit.specs.Tokens.{SourceToken, is_mark, told}
 use Rattle.inf_unit.specs.Units.{long_at}
 use Rattle.inf_conditionals.specs.Condition.{Condition}
 use Rattle.inf_conditionals.specs.Operands.{actions_added}
@@ -16,8 +16,8 @@ use Rattle.inf_conditionals.specs.Operands.{actions_added}
 -- That nothing is wrong with it: then the actions of its leaves appear. An error, of a directive that begins at a place; the first token that it has more
 -- than it may have; and a bracket that stands too deep in others.
 pub data Said : Type 0 where
-  Right : (tokens : List Spelled) (leaves : List Leaf) → Said
-  Wrong : (directive : Place) (blame : Blame) → Said
+  Right : (tokens : List SourceToken) (leaves : List Leaf) → Said
+  Wrong : (directive : Place) (blame : Diagnostic) → Said
   Long : (place : Place) → Said
   Deep : (place : Place) → Said
 
@@ -40,11 +40,11 @@ abbrev pub message_of : ℕ → Told → Message
 message_of number t =
     if number == 9 then WrongKind t else if number == 12 then NotConstant else if number == 13 then ConstantOutOfRange else TooManyArguments
 
-abbrev pub blame_at : Place → ℕ → Option Spelled → Blame
+abbrev pub blame_at : Place → ℕ → Option SourceToken → Diagnostic
 blame_at directive number None = record { place = directive; message = message_of number End }
 blame_at directive number (Some t) = record { place = t.place; message = message_of number (told t) }
 
-abbrev pub blame_of : Place → Condition → Finding → Blame
+abbrev pub blame_of : Place → Condition → Finding → Diagnostic
 blame_of directive k f = blame_at directive f.number (slice_get k.unit.tokens f.order)
 
 abbrev pub wrong : Place → Condition → Finding → Said
@@ -63,13 +63,13 @@ told_by directive k (Some f) = Some (wrong directive k f)
 abbrev pub most_nested : ℕ
 most_nested = 64
 
-abbrev pub too_deep : Spelled → ℕ → Option Said
+abbrev pub too_deep : SourceToken → ℕ → Option Said
 too_deep t depth = if is_mark mark.OpenParenthesis t.kind && nat_lt most_nested depth then Some (Deep t.place) else None
 
-abbrev pub too_much_by : Option Place → Spelled → ℕ → Option Said
+abbrev pub too_much_by : Option Place → SourceToken → ℕ → Option Said
 too_much_by (Some place) t depth = Some (Long place)
 too_much_by None t depth = too_deep t depth
 
 -- behind a token, where a condition may have so many
-abbrev pub too_much : ℕ → Spelled → Condition → Option Said
+abbrev pub too_much : ℕ → SourceToken → Condition → Option Said
 too_much longest t k = too_much_by (long_at longest k.unit) t k.unit.depth

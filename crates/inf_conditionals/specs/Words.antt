@@ -5,10 +5,10 @@ use Rattle.inf_conditionals.specs.declared.pending.Awaits.TheVariants as awaits
 use Rattle.inf_conditionals.specs.declared.pending.Effect.TheVariants as effect
 use Rattle.inf_conditionals.specs.declared.words.ConditionalWord.{ConditionalWord}
 use Rattle.inf_conditionals.specs.declared.words.ConditionalWord.TheVariants as word
-use Rattle.inf_unit.specs.Tokens.{Spelled, is_word}
+use Rattle.inf_unit.specs.Tokens.{SourceToken, is_word}
 
 -- the word that a token is, if it is one
-abbrev pub word_of : Spelled → Option ConditionalWord
+abbrev pub word_of : SourceToken → Option ConditionalWord
 word_of t =
     if is_word (codes "ifdef") t then Some word.Ifdef else
     if is_word (codes "ifndef") t then Some word.Ifndef else

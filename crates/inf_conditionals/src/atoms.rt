@@ -5,10 +5,10 @@ ghost use Rattle.inf_unit.specs.Tokens.{spelled};
 
 use inf_scanner::TokenKind;
 use inf_syntax::{Token as Seen, atom_of};
-use inf_unit::tokens::Spelled;
+use inf_unit::tokens::SourceToken;
 
 /// How the grammar sees a token, which is the name of a class or not. What has a fault of its own is a bad one, which fits nowhere.
-pub fn atom_at(token: &Spelled<'_>, is_class: bool) -> u8
+pub fn atom_at(token: &SourceToken<'_>, is_class: bool) -> u8
     ensures { result ≡ atom_as is_class (spelled token.now) }
 {
     atom_of(match token.kind {

@@ -15,7 +15,7 @@ use inf_area::Value;
 use inf_expressions::{Finding, Forest, Wanted, build, constant, judge};
 use inf_grammar::{Action, Machine, PIECE};
 use inf_output::Output;
-use inf_unit::tokens::Spelled;
+use inf_unit::tokens::SourceToken;
 use inf_unit::unit::Unit;
 use std::alloc::{AllocError, Global};
 
@@ -60,7 +60,7 @@ impl Condition {
     }
 
     /// Takes the next token of its directive, if it fits. Answers whether it does.
-    pub(crate) fn take(&mut self, token: &Spelled<'_>) -> Result<bool, AllocError>
+    pub(crate) fn take(&mut self, token: &SourceToken<'_>) -> Result<bool, AllocError>
         ensures fits { IfOk result (λ is_taken. is_taken ≡ fits grammar known (atom_of (spelled token.now)) (condition self.old).stack) }
         ensures taken { IfOk result (λ is_taken. is_taken ≡ true → condition self.new ≡ condition_took (spelled token.now) (condition self.old)) }
     {

@@ -7,7 +7,7 @@ ghost use Rattle.inf_unit.specs.Tokens.{spelled};
 
 use crate::condition::Condition;
 use crate::ends::tell_all;
-use crate::judged::{Handed, Judged, KEPT, NONE, Sign, Site, TAKEN};
+use crate::judged::{Filtered, Forwarded, KEPT, NONE, Sign, Site, TAKEN};
 use crate::open::{Conditional, LeftOut};
 use crate::pending::{Awaits, Effect, Pending};
 use crate::said::{Said, too_much};
@@ -18,8 +18,8 @@ use inf_output::Output;
 use inf_scanner::{Mark, Place, TokenKind};
 use inf_settings::setting::Setting;
 use inf_settings::settings::Settings;
-use inf_unit::messages::Messages;
-use inf_unit::tokens::{Spelled, is_end, is_mark};
+use inf_unit::messages::Diagnostics;
+use inf_unit::tokens::{SourceToken, is_end, is_mark};
 use std::alloc::{AllocError, Global};
 use std::marker::Model;
 use std::mem;
@@ -106,7 +106,7 @@ impl Conditionals {
     }
 
     /// Whether it is seen at once that a token is kept and nothing else comes of it, as of most tokens.
-    fn keeps(&self, site: Site, token: &Spelled<'_>) -> bool
+    fn keeps(&self, site: Site, token: &SourceToken<'_>) -> bool
         ensures { (o : Out) → result ≡ true → judged site o (spelled token.now) self.now ≡ kept self.now }
     {
         self.left_out.is_none()
@@ -121,8 +121,8 @@ impl Conditionals {
         &mut self,
         site: Site,
         out: &Output,
-        token: &Spelled<'_>,
-    ) -> Result<Judged, AllocError>
+        token: &SourceToken<'_>,
+    ) -> Result<Filtered, AllocError>
         requires { IsSome (name_of (spelled token.now)) → length token.now.bytes.now ≤ 32 }
         ensures { IfOk result (λ j. record { now = self.new; judged = j } ≡ judged site out.now (spelled token.now) self.old) }
     {
@@ -143,7 +143,7 @@ impl Conditionals {
     pub fn tell(
         &mut self,
         files: &Stack,
-        report: &mut Messages,
+        report: &mut Diagnostics,
         out: &mut Output,
     ) -> Result<(), AllocError>
         ensures told { OnOk result (report.new ≡ with_said files.now.names self.old.said report.old) }
@@ -202,7 +202,7 @@ impl Conditionals {
     }
 
     /// The innermost file has ended: tells the conditionals that are open in it, and forgets them.
-    pub fn end_file(&mut self, files: &Stack, report: &mut Messages) -> Result<(), AllocError>
+    pub fn end_file(&mut self, files: &Stack, report: &mut Diagnostics) -> Result<(), AllocError>
         ensures told { OnOk result (report.new ≡ file_told files.now.names self.old report.old) }
         ensures left { OnOk result (self.new ≡ file_left self.old) }
     {
@@ -222,7 +222,7 @@ impl Conditionals {
         &mut self,
         declared: usize,
         files: &Stack,
-        report: &mut Messages,
+        report: &mut Diagnostics,
     ) -> Result<(), AllocError>
         ensures told { OnOk result (report.new ≡ piece_told files.now.names self.old report.old) }
         ensures ended { OnOk result (self.new ≡ piece_ended declared self.old) }
@@ -242,8 +242,8 @@ impl Conditionals {
         side: LeftOut,
         is_quiet: bool,
         out: &Output,
-        token: &Spelled<'_>,
-    ) -> Result<Judged, AllocError>
+        token: &SourceToken<'_>,
+    ) -> Result<Filtered, AllocError>
         requires { IsSome (name_of (spelled token.now)) → length token.now.bytes.now ≤ 32 }
         ensures { IfOk result (λ j. record { now = self.new; judged = j } ≡ in_side is_quiet out.now (spelled token.now) side self.old) }
     {
@@ -296,8 +296,8 @@ impl Conditionals {
         place: Place,
         is_quiet: bool,
         out: &Output,
-        token: &Spelled<'_>,
-    ) -> Result<Judged, AllocError>
+        token: &SourceToken<'_>,
+    ) -> Result<Filtered, AllocError>
         requires { IsSome (name_of (spelled token.now)) → length token.now.bytes.now ≤ 32 }
         ensures { IfOk result (λ j. record { now = self.new; judged = j } ≡
             behind_sign (word_of (spelled token.now)) place is_quiet out.now (spelled token.now) self.old) }
@@ -307,14 +307,14 @@ impl Conditionals {
             return self.begin(word, token, place, true);
         }
         let handed = if self.pending.is_empty() {
-            Handed::Kept
+            Forwarded::Kept
         } else {
-            Handed::Unfit
+            Forwarded::Unfit
         };
         self.pending.clear();
         self.conditions.clear();
         let judged = self.offer(false, is_quiet, out, token)?;
-        Ok(Judged {
+        Ok(Filtered {
             sign: Some(Sign { place, handed }),
             ..judged
         })
@@ -326,8 +326,8 @@ impl Conditionals {
         is_front: bool,
         is_quiet: bool,
         out: &Output,
-        token: &Spelled<'_>,
-    ) -> Result<Judged, AllocError>
+        token: &SourceToken<'_>,
+    ) -> Result<Filtered, AllocError>
         requires { IsSome (name_of (spelled token.now)) → length token.now.bytes.now ≤ 32 }
         ensures { IfOk result (λ j. record { now = self.new; judged = j } ≡ offered is_front is_quiet out.now (spelled token.now) self.old) }
     {
@@ -363,8 +363,8 @@ impl Conditionals {
         pending: Pending,
         is_quiet: bool,
         out: &Output,
-        token: &Spelled<'_>,
-    ) -> Result<Judged, AllocError>
+        token: &SourceToken<'_>,
+    ) -> Result<Filtered, AllocError>
         requires { IsSome (name_of (spelled token.now)) → length token.now.bytes.now ≤ 32 }
         ensures { IfOk result (λ j. record { now = self.new; judged = j } ≡
             awaited pending.awaits is_quiet out.now (spelled token.now) pending self.old) }
@@ -391,18 +391,18 @@ impl Conditionals {
     fn name_directive(
         &mut self,
         pending: Pending,
-        token: &Spelled<'_>,
-    ) -> Result<Judged, AllocError>
+        token: &SourceToken<'_>,
+    ) -> Result<Filtered, AllocError>
         ensures { IfOk result (λ j. record { now = self.new; judged = j } ≡
             behind_front (word_of (spelled token.now)) (spelled token.now) pending self.old) }
     {
         if let Some(word) = word_of(token) {
             return self.begin(word, token, pending.place, pending.is_inner);
         }
-        Ok(Judged {
+        Ok(Filtered {
             sign: Some(Sign {
                 place: pending.place,
-                handed: Handed::Kept,
+                handed: Forwarded::Kept,
             }),
             ..KEPT
         })
@@ -412,14 +412,14 @@ impl Conditionals {
     fn begin(
         &mut self,
         word: ConditionalWord,
-        token: &Spelled<'_>,
+        token: &SourceToken<'_>,
         place: Place,
         is_inner: bool,
-    ) -> Result<Judged, AllocError>
+    ) -> Result<Filtered, AllocError>
         ensures { IfOk result (λ j. record { now = self.new; judged = j } ≡ begun word (spelled token.now) place is_inner self.old) }
     {
         if let Awaits::Condition(wanted) = word.awaits() {
-            let first = Spelled { place, ..*token };
+            let first = SourceToken { place, ..*token };
             return self.begin_asking(wanted, &first, is_inner);
         }
         self.wait(place, is_inner, word.awaits())?;
@@ -430,9 +430,9 @@ impl Conditionals {
     fn begin_asking(
         &mut self,
         wanted: bool,
-        word: &Spelled<'_>,
+        word: &SourceToken<'_>,
         is_inner: bool,
-    ) -> Result<Judged, AllocError>
+    ) -> Result<Filtered, AllocError>
         ensures { IfOk result (λ j. record { now = self.new; judged = j } ≡ asked_first wanted (spelled word.now) is_inner self.old) }
     {
         let mut condition = match self.spare.take() {
@@ -454,8 +454,8 @@ impl Conditionals {
         directive: Pending,
         is_quiet: bool,
         out: &Output,
-        token: &Spelled<'_>,
-    ) -> Result<Judged, AllocError>
+        token: &SourceToken<'_>,
+    ) -> Result<Filtered, AllocError>
         ensures { IfOk result (λ j. record { now = self.new; judged = j } ≡
             asked self.old.conditions wanted is_quiet out.now (spelled token.now) directive self.old) }
     {
@@ -491,7 +491,7 @@ impl Conditionals {
         is_quiet: bool,
         out: &Output,
         condition: Condition,
-    ) -> Result<Judged, AllocError>
+    ) -> Result<Filtered, AllocError>
         ensures { let k = condition_of condition in IfOk result (λ j. record { now = self.new; judged = j } ≡
             decided (verdict_of self.old.declared out.now k) wanted is_quiet k directive self.old) }
     {
@@ -544,13 +544,13 @@ impl Conditionals {
     }
 
     /// The conditional directives that are being read are given up for a token that does not fit.
-    fn give_up(&mut self) -> Judged
+    fn give_up(&mut self) -> Filtered
         ensures { record { now = self.new; judged = result } ≡ unfit self.old }
     {
         self.pending.clear();
         self.conditions.clear();
-        Judged {
-            token: Some(Handed::Unfit),
+        Filtered {
+            token: Some(Forwarded::Unfit),
             ..NONE
         }
     }
@@ -573,7 +573,7 @@ impl Conditionals {
         effect: Effect,
         is_quiet: bool,
         directive: Pending,
-    ) -> Result<Judged, AllocError>
+    ) -> Result<Filtered, AllocError>
         ensures { IfOk result (λ j. record { now = self.new; judged = j } ≡ effected effect is_quiet directive self.old) }
     {
         let is_lone = match effect {
@@ -590,8 +590,8 @@ impl Conditionals {
         } else {
             Some(directive.place)
         };
-        Ok(Judged {
-            lone: if is_lone { place } else { None },
+        Ok(Filtered {
+            unmatched: if is_lone { place } else { None },
             ended: place,
             ..NONE
         })
@@ -623,7 +623,7 @@ impl Conditionals {
 
     /// Leaves the second side of the latest conditional out, whose first side was kept. Answers whether there is none such.
     fn leave_second_out(&mut self) -> bool
-        ensures lone { result ≡ is_second (latest self.old) }
+        ensures unmatched { result ≡ is_second (latest self.old) }
         ensures same { result ≡ true → self.new ≡ self.old }
         ensures turned { result ≡ false → self.new ≡
             record (turned self.old) { left_out = Some (record { is_inner = not (is_none_open self.old.inner); levels = 0 }) } }
@@ -641,7 +641,7 @@ impl Conditionals {
 
     /// Closes the latest conditional. Answers whether there is none.
     fn close_latest(&mut self) -> bool
-        ensures lone { result ≡ is_none_open (latest self.old) }
+        ensures unmatched { result ≡ is_none_open (latest self.old) }
         ensures same { result ≡ true → self.new ≡ self.old }
         ensures closed { result ≡ false → self.new ≡ closed self.old }
     {

@@ -6,14 +6,14 @@ use crate::open::Conditional;
 use inf_lexer::Stack;
 use inf_report::messages::Message;
 use inf_scanner::Place;
-use inf_unit::messages::{Messages, location};
+use inf_unit::messages::{Diagnostics, location};
 use std::alloc::AllocError;
 
 /// Tells some conditionals that have no other end.
 pub(crate) fn tell_all(
     unclosed: &[Conditional],
     files: &Stack,
-    report: &mut Messages,
+    report: &mut Diagnostics,
 ) -> Result<(), AllocError>
     ensures { OnOk result (report.new ≡ with_all_lone files.now.names unclosed.now report.old) }
 {
@@ -24,7 +24,7 @@ pub(crate) fn tell_all(
 }
 
 /// Tells a conditional directive without its other end, where it begins.
-pub fn tell_lone(place: Place, files: &Stack, report: &mut Messages) -> Result<(), AllocError>
+pub fn tell_lone(place: Place, files: &Stack, report: &mut Diagnostics) -> Result<(), AllocError>
     ensures { OnOk result (report.new ≡ with_lone files.now.names place report.old) }
 {
     let at = location(files, place);

@@ -4,7 +4,7 @@ use inf_scanner::Place;
 
 /// How a token is handed on to the machine of the grammar.
 #[derive(Clone, Copy, Debug, PartialEq, Eq)]
-pub enum Handed {
+pub enum Forwarded {
     /// As one that is kept.
     Kept,
     /// As one that does not fit.
@@ -17,16 +17,16 @@ pub enum Handed {
 #[derive(Clone, Copy, Debug, PartialEq, Eq)]
 pub struct Sign {
     pub place: Place,
-    pub handed: Handed,
+    pub handed: Forwarded,
 }
 
 /// What a token comes to: what is handed on, first the `#` before it and then the token itself; where a directive begins
 /// that ends or turns a conditional which is not there; and where a conditional directive begins that has ended.
 #[derive(Clone, Copy, Debug, PartialEq, Eq)]
-pub struct Judged {
+pub struct Filtered {
     pub sign: Option<Sign>,
-    pub token: Option<Handed>,
-    pub lone: Option<Place>,
+    pub token: Option<Forwarded>,
+    pub unmatched: Option<Place>,
     pub ended: Option<Place>,
 }
 
@@ -40,25 +40,25 @@ pub struct Site {
 }
 
 /// Nothing is handed on.
-pub(crate) const NONE: Judged = Judged {
+pub(crate) const NONE: Filtered = Filtered {
     sign: None,
     token: None,
-    lone: None,
+    unmatched: None,
     ended: None,
 };
 
 /// The token is taken by a condition.
-pub(crate) const TAKEN: Judged = Judged {
+pub(crate) const TAKEN: Filtered = Filtered {
     sign: None,
-    token: Some(Handed::Condition),
-    lone: None,
+    token: Some(Forwarded::Condition),
+    unmatched: None,
     ended: None,
 };
 
 /// The token is kept.
-pub(crate) const KEPT: Judged = Judged {
+pub(crate) const KEPT: Filtered = Filtered {
     sign: None,
-    token: Some(Handed::Kept),
-    lone: None,
+    token: Some(Forwarded::Kept),
+    unmatched: None,
     ended: None,
 };

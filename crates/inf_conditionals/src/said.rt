@@ -1,7 +1,7 @@
 //! What is told of a condition.
 ghost use Rattle.std.specs.Prelude.{◌≡◌, OnOk, None, Some, if◌then◌else◌, option_map};
 ghost use Rattle.inf_report.specs.Meant.{meant, named};
-ghost use Rattle.inf_unit.specs.Blames.{blamed};
+ghost use Rattle.inf_unit.specs.Diagnostics.{blamed};
 ghost use Rattle.inf_unit.specs.Tokens.{spelled};
 ghost use Rattle.inf_conditionals.specs.Meant.{condition as condition_of, said_of};
 ghost use Rattle.inf_conditionals.specs.Said.{blame_of, message_of, too_deep, too_much, with_right, with_said};
@@ -14,8 +14,8 @@ use inf_output::Output;
 use inf_report::messages::{Message, Told};
 use inf_scanner::{Mark, Place};
 use inf_settings::setting::Setting;
-use inf_unit::messages::{Blame, Messages, location};
-use inf_unit::tokens::{Spelled, is_mark, told};
+use inf_unit::messages::{Diagnostic, Diagnostics, location};
+use inf_unit::tokens::{SourceToken, is_mark, told};
 use std::alloc::AllocError;
 
 /// How deep brackets may stand in one another.
@@ -36,7 +36,7 @@ pub enum Said {
 
 impl Said {
     /// Tells it.
-    pub(crate) fn tell(&self, files: &Stack, report: &mut Messages) -> Result<(), AllocError>
+    pub(crate) fn tell(&self, files: &Stack, report: &mut Diagnostics) -> Result<(), AllocError>
         ensures { OnOk result (report.new ≡ with_said files.now.names (Some (said_of self.now)) report.old) }
     {
         match self {
@@ -79,7 +79,7 @@ impl Said {
 pub(crate) fn too_much(
     is_quiet: bool,
     longest: usize,
-    token: &Spelled<'_>,
+    token: &SourceToken<'_>,
     condition: &Condition,
 ) -> Option<Said>
     ensures { option_map said_of result ≡ (if is_quiet then None else too_much longest (spelled token.now) (condition_of condition.now)) }
@@ -97,15 +97,15 @@ pub(crate) fn too_much(
 }
 
 /// What a finding of a condition is told as, whose directive begins at a place.
-fn blame_of<'t>(directive: Place, condition: &'t Condition, finding: Finding) -> Blame<'t>
+fn blame_of<'t>(directive: Place, condition: &'t Condition, finding: Finding) -> Diagnostic<'t>
     ensures { blamed result ≡ blame_of directive (condition_of condition.now) finding }
 {
     match condition.unit.tokens.get(finding.order as usize) {
-        Some(token) => Blame {
+        Some(token) => Diagnostic {
             place: token.place,
             message: message_of(finding.number, told(&token)),
         },
-        None => Blame {
+        None => Diagnostic {
             place: directive,
             message: message_of(finding.number, Told::End),
         },

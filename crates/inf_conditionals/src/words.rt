@@ -5,7 +5,7 @@ ghost use Rattle.inf_conditionals.specs.Words.{awaits_of, word_of};
 ghost use Rattle.inf_unit.specs.Tokens.{spelled};
 
 use crate::pending::{Awaits, Effect};
-use inf_unit::tokens::{Spelled, is_word};
+use inf_unit::tokens::{SourceToken, is_word};
 
 /// The word that begins a conditional directive.
 #[derive(Clone, Copy, Debug, PartialEq, Eq)]
@@ -19,7 +19,7 @@ pub enum ConditionalWord {
 }
 
 /// The word of a conditional directive that a token is, if it is one.
-pub fn word_of(token: &Spelled<'_>) -> Option<ConditionalWord>
+pub fn word_of(token: &SourceToken<'_>) -> Option<ConditionalWord>
     ensures { result ≡ word_of (spelled token.now) }
 {
     if is_word(token, b"ifdef") {

@@ -3,8 +3,8 @@ use Rattle.std.specs.Prelude.{◌≡◌, ⊤, ℕ, ◌-◌, length, slice_get, s
 use Rattle.std.specs.Io.KnownBytes.{ReadConsumes, WriteAppends}
 use Rattle.std.specs.declared.io.ErrorKind.{ErrorKind}
 use Rattle.std.specs.declared.io.ErrorKind.TheVariants as kind
-use Rattle.inf_token.specs.declared.files.OpenFault.{OpenFault}
-use Rattle.inf_token.specs.declared.files.OpenFault.TheVariants as fault
+use Rattle.inf_files.specs.declared.files.OpenFault.{OpenFault}
+use Rattle.inf_files.specs.declared.files.OpenFault.TheVariants as fault
 
 -- what it means that a file cannot be opened: it is absent where none has the name, or none can have it
 abbrev pub fault_of_kind : ErrorKind → OpenFault

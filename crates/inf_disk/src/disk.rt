@@ -1,13 +1,13 @@
 ghost use Rattle.std.specs.Prelude.{◌≡◌, ◌+◌, ◌<◌, ◌≤◌, [], ◌∷◌, ◌++◌, None, Some, Ok, true, IsErr, IsSome, IsErrOf, IfOk, OnOk, OnErr, is_ok, length, min, if◌then◌else◌};
 ghost use Rattle.std.specs.Fs.{new_options, with_write, with_create, with_truncate};
 ghost use Rattle.std.specs.Io.KnownBytes.{ReadConsumes, WriteAppends};
-ghost use Rattle.inf_token.specs.Files.{Rose, last_count};
+ghost use Rattle.inf_files.specs.Files.{Rose, last_count};
 ghost use Rattle.inf_disk.specs.Disk.{fault_of_kind, OpensFile, ReadsLast, WritesMade};
 
-use inf_symbol::sinks::{Sink, SinkFault};
-use inf_token::failures::Failures;
-use inf_token::files::{Files, OpenFault, ReadFault};
-use inf_token::given_bytes::GivenBytes;
+use inf_files::failures::Failures;
+use inf_files::files::{Files, OpenFault, ReadFault};
+use inf_files::given_bytes::GivenBytes;
+use inf_sinks::sinks::{Sink, SinkFault};
 use std::alloc::Global;
 use std::cell::Cell;
 use std::fs::{OpenFile, OpenOptions};

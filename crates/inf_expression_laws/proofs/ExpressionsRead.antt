@@ -16,7 +16,7 @@ use Rattle.inf_gathering.specs.Gatherings.{Gathering, with_prefix, with_suffix, 
 use Rattle.inf_unit.specs.declared.steps.Step.{Step}
 use Rattle.inf_unit.specs.declared.steps.Step.TheVariants as step
 use Rattle.inf_unit.specs.Steps.{step_of}
-use Rattle.inf_unit.specs.Tokens.{Spelled}
+use Rattle.inf_unit.specs.Tokens.{SourceToken}
 use Rattle.inf_unit.specs.Units.{Unit, acted, depth_behind, stepped, taken}
 use Rattle.inf_grammar.specs.Language.{grammar}
 use Rattle.inf_expression_laws.specs.Precedence.{Written, sign_behind, sign_between, sign_in_front, sign_of_test}
@@ -31,18 +31,18 @@ use Rattle.inf_expression_laws.proofs.Typed as typed
 use Rattle.inf_expression_laws.proofs.Typed.{Change, form_passes, Passes, below, between_changes, front_changes, joined, row_passes, step_changes, suffix_changes, test_changes, two_changes}
 
 -- Where reading stands
-record Read (f : Frame) (items : List Item) (seen : List ℕ) (u : Unit) (tokens : List Spelled) : Type 0 where
+record Read (f : Frame) (items : List Item) (seen : List ℕ) (u : Unit) (tokens : List SourceToken) : Type 0 where
   stands : Stands f items seen u.gathering
   at : At f u (length seen) tokens
 
 -- what is gathered changes nothing else
-at_gathered : {f : Frame} {u : Unit} {count : ℕ} {tokens : List Spelled} (g : Gathering) → At f u count tokens → At f (record u { gathering = g }) count tokens
+at_gathered : {f : Frame} {u : Unit} {count : ℕ} {tokens : List SourceToken} (g : Gathering) → At f u count tokens → At f (record u { gathering = g }) count tokens
 at_gathered g a = record { all = a.all; long = a.long; outer = a.outer; begun = a.begun; early = a.early; ready = a.ready; few = a.few }
 
-at_sure : {f : Frame} {u : Unit} {count : ℕ} {tokens : List Spelled} → At f u count tokens → At f (record u { is_sure = true }) count tokens
+at_sure : {f : Frame} {u : Unit} {count : ℕ} {tokens : List SourceToken} → At f u count tokens → At f (record u { is_sure = true }) count tokens
 at_sure a = record { all = a.all; long = a.long; outer = a.outer; begun = a.begun; early = a.early; ready = a.ready; few = a.few }
 
-few_seen : {f : Frame} {u : Unit} {count : ℕ} {tokens : List Spelled} → At f u count tokens → count < 4294967295
+few_seen : {f : Frame} {u : Unit} {count : ℕ} {tokens : List SourceToken} → At f u count tokens → count < 4294967295
 few_seen {f} {u} {count} {tokens} a = omega (arith, a.few, ap length a.all, length-append u.tokens tokens, a.long)
 
 -- what each kind of step makes of it
@@ -85,7 +85,7 @@ two_by rest binary.Call c m s = elim m [ ]
 two_by rest binary.Then c m s = elim m [ ]
 two_by rest binary.To c m s = elim m [ ]
 
-stepped_stands : {f : Frame} {seen : List ℕ} (rest : List Item) (s : Option Step) (c : Change) → IsOneOf c (step_changes s) → (u : Unit) (tokens : List Spelled) →
+stepped_stands : {f : Frame} {seen : List ℕ} (rest : List Item) (s : Option Step) (c : Change) → IsOneOf c (step_changes s) → (u : Unit) (tokens : List SourceToken) →
     Read f (c.old ++ rest) seen u tokens → Read f (c.now ++ rest) seen (stepped s u) tokens
 stepped_stands rest None c m u tokens r = elim m [ ]
 stepped_stands rest (Some step.Leaf) c first u tokens r = record { stands = leaf_stands u tokens r.at r.stands; at = at_gathered _ r.at }
@@ -114,7 +114,7 @@ stepped_stands rest (Some step.Bracketed) c (later first) u tokens r = record { 
 stepped_stands rest (Some step.Bracketed) c (later (later m)) u tokens r = elim m [ ]
 
 -- an action
-acts : {f : Frame} {seen : List ℕ} (rest : List Item) (a : Action) (c : Change) → IsOneOf c (step_changes (step_of a)) → (u : Unit) (tokens : List Spelled) →
+acts : {f : Frame} {seen : List ℕ} (rest : List Item) (a : Action) (c : Change) → IsOneOf c (step_changes (step_of a)) → (u : Unit) (tokens : List SourceToken) →
     Read f (c.old ++ rest) seen u tokens → Read f (c.now ++ rest) seen (acted a u) tokens
 acts {f} {seen} rest a c m u tokens r = by_step (step_of a) refl m
   where
@@ -127,10 +127,10 @@ last_of : {A : Type 0} (xs ys : List A) (y : A) → slice_get (xs ++ y ∷ ys) (
 last_of [] ys y = refl
 last_of (x ∷ xs) ys y = last_of xs ys y
 
-taken_ready : (t : Spelled) (u : Unit) → u.is_over ≡ false → taken t u ≡ record u { tokens = u.tokens ++ t ∷ []; depth = depth_behind t.kind u.depth }
+taken_ready : (t : SourceToken) (u : Unit) → u.is_over ≡ false → taken t u ≡ record u { tokens = u.tokens ++ t ∷ []; depth = depth_behind t.kind u.depth }
 taken_ready t u e = cond-false u.is_over (record u { is_over = false }) (record u { tokens = u.tokens ++ t ∷ []; depth = depth_behind t.kind u.depth }) e
 
-with_token : {f : Frame} {items : List Item} {seen : List ℕ} {u : Unit} (t : Spelled) (tokens : List Spelled) (atom : ℕ) → IsSeen atom t → Read f items seen u (t ∷ tokens) →
+with_token : {f : Frame} {items : List Item} {seen : List ℕ} {u : Unit} (t : SourceToken) (tokens : List SourceToken) (atom : ℕ) → IsSeen atom t → Read f items seen u (t ∷ tokens) →
     ((other : List Item) → Stands f other (seen ++ atom ∷ []) u.gathering → Read f other (seen ++ atom ∷ []) (taken t u) tokens) × Known f (f.order + length seen) atom
 with_token {f} {items} {seen} {u} t tokens atom is r =
     let a = r.at in (
@@ -148,7 +148,7 @@ with_token {f} {items} {seen} {u} t tokens atom is r =
       }),
       record {
         seen = t.kind;
-        is = ap (option_map (λ (x : Spelled). x.kind)) (ap (λ n. slice_get f.all n) (sym a.long) ∙ ap (λ ts. slice_get ts (length u.tokens)) a.all ∙ last_of u.tokens tokens t);
+        is = ap (option_map (λ (x : SourceToken). x.kind)) (ap (λ n. slice_get f.all n) (sym a.long) ∙ ap (λ ts. slice_get ts (length u.tokens)) a.all ∙ last_of u.tokens tokens t);
         mark = is;
       },
     )
@@ -163,7 +163,7 @@ at_end e (typed.act c rest one w p) s = cc
 at_end e (typed.rule c rest is w p) s = cc
 
 reads : {symbols left : List (Symbol Action)} {atoms : List ℕ} {events : List (Event Action)} → Leads grammar symbols atoms events left → left ≡ [] →
-    {f : Frame} {items target : List Item} {seen : List ℕ} → Passes items symbols target → (u : Unit) (tokens : List Spelled) → AreSeen atoms tokens →
+    {f : Frame} {items target : List Item} {seen : List ℕ} → Passes items symbols target → (u : Unit) (tokens : List SourceToken) → AreSeen atoms tokens →
     Read f items seen u tokens → Read f target (seen ++ atoms) (read_by events tokens u) []
 reads here e {f = f} {target = target} {seen = seen} p u [] a r =
     subst (λ s. Read f target s u []) (sym (append-nil seen)) (record { stands = at_end e p r.stands; at = r.at })
@@ -191,10 +191,10 @@ only_whole : {f : Frame} {level : ℕ} {all : List ℕ} {g : Gathering} → Stan
     (a : Source) × Written level f.order (length f.base.leaves) all a × (g ≡ gained f a f.base)
 only_whole {f} (whole _ atoms a _ start w) = (a, moved (omega arith) refl w, refl)
 
-abbrev frame : Unit → List Spelled → Frame
+abbrev frame : Unit → List SourceToken → Frame
 frame u tokens = record { outer = u.outer; begun = u.begun; all = u.tokens ++ tokens; order = length u.tokens; base = u.gathering }
 
-at_start : (u : Unit) (tokens : List Spelled) → u.is_over ≡ false → u.begun ≤ length u.tokens → length (u.tokens ++ tokens) < 4294967295 → At (frame u tokens) u 0 tokens
+at_start : (u : Unit) (tokens : List SourceToken) → u.is_over ≡ false → u.begun ≤ length u.tokens → length (u.tokens ++ tokens) < 4294967295 → At (frame u tokens) u 0 tokens
 at_start u tokens ready early few = record {
   all = refl;
   long = omega arith;

@@ -15,7 +15,7 @@ use Rattle.inf_expressions.specs.declared.symbols.Symbol.TheVariants as symbol
 use Rattle.inf_expressions.specs.Sources.{Leaf}
 use Rattle.inf_gathering.specs.declared.gathering.Leaf.TheVariants as leaf
 use Rattle.inf_gathering.specs.Gatherings.{with_bracket, with_leaf}
-use Rattle.inf_unit.specs.Tokens.{Spelled}
+use Rattle.inf_unit.specs.Tokens.{SourceToken}
 use Rattle.inf_unit.specs.Units.{Unit, is_alone, is_first, is_sign, is_some_mark, kind_at, last_leaf, leaf_of, marked_from, order, told_leaf, with_last}
 use Rattle.inf_expression_laws.specs.Precedence.{operand, action, opening_sign, operands, primaries}
 use Rattle.inf_expression_laws.specs.Gathered.{kind_in, leaf_read}
@@ -24,7 +24,7 @@ use Rattle.inf_expression_laws.proofs.Standing.{Frame, gained, Stands, read, who
 use Rattle.inf_expression_laws.proofs.Steps.{placed}
 
 -- A unit that has taken some tokens of those of a frame
-pub record At (f : Frame) (u : Unit) (count : ℕ) (tokens : List Spelled) : Type 0 where
+pub record At (f : Frame) (u : Unit) (count : ℕ) (tokens : List SourceToken) : Type 0 where
   pub all : f.all ≡ u.tokens ++ tokens
   pub long : length u.tokens ≡ f.order + count
   pub outer : u.outer ≡ f.outer
@@ -38,19 +38,19 @@ in_front_of [] ys at l = absurd (omega (arith, l))
 in_front_of (x ∷ xs) ys zero l = refl
 in_front_of (x ∷ xs) ys (suc at) l = in_front_of xs ys at (omega (arith, l))
 
-pub kind_kept : (f : Frame) (u : Unit) (count : ℕ) (tokens : List Spelled) → At f u count tokens → (at : ℕ) → at < length u.tokens → kind_at u.tokens at ≡ kind_at f.all at
+pub kind_kept : (f : Frame) (u : Unit) (count : ℕ) (tokens : List SourceToken) → At f u count tokens → (at : ℕ) → at < length u.tokens → kind_at u.tokens at ≡ kind_at f.all at
 kind_kept f u count tokens a at l =
-    ap (option_map (λ (t : Spelled). t.kind)) (sym (in_front_of u.tokens tokens at l) ∙ ap (λ ts. slice_get ts at) (sym a.all))
+    ap (option_map (λ (t : SourceToken). t.kind)) (sym (in_front_of u.tokens tokens at l) ∙ ap (λ ts. slice_get ts at) (sym a.all))
 
 order_is : (at : ℕ) → at < 4294967295 → order at ≡ at
 unfolding order
 order_is at l = omega (arith, l)
 
-within_all : (f : Frame) (u : Unit) (count : ℕ) (tokens : List Spelled) → At f u count tokens → length u.tokens < 4294967295
+within_all : (f : Frame) (u : Unit) (count : ℕ) (tokens : List SourceToken) → At f u count tokens → length u.tokens < 4294967295
 within_all f u count tokens a = omega (arith, a.few, ap length a.all, length-append u.tokens tokens)
 
 -- whether the last token is an operand of an assembly line by itself
-alone_is : (f : Frame) (u : Unit) (count : ℕ) (tokens : List Spelled) → At f u count tokens → 0 < count → (at n : ℕ) → at ≡ n →
+alone_is : (f : Frame) (u : Unit) (count : ℕ) (tokens : List SourceToken) → At f u count tokens → 0 < count → (at n : ℕ) → at ≡ n →
     is_alone at u ≡ (is_first n f.outer && is_some_mark mark.At (kind_at f.all f.begun))
 alone_is f u count tokens a some at n e i =
     is_first (e i) (a.outer i)
@@ -64,7 +64,7 @@ leaf_is f n k e =
     cond-true (n == n) (told_leaf told (leaf_of n (kind_in (kind_at f.all n)))) (leaf.Action n) (eq-eqb n n refl)
     ∙ ap (λ o. told_leaf told (leaf_of n (kind_in o))) e
 
-pub leaf_stands : {f : Frame} {rest : List Item} {seen : List ℕ} (u : Unit) (tokens : List Spelled) → At f u (length seen) tokens →
+pub leaf_stands : {f : Frame} {rest : List Item} {seen : List ℕ} (u : Unit) (tokens : List SourceToken) → At f u (length seen) tokens →
     Stands f (Sign operands ∷ rest) seen u.gathering →
     Stands f (Whole primaries ∷ rest) seen (with_last (last_leaf u) (is_alone (last_leaf u) u) (kind_at u.tokens (last_leaf u)) u.gathering)
 leaf_stands {f} u tokens a (read seen atom s h k) =
@@ -97,7 +97,7 @@ only_mark m atom h = by_test (atom == mark_atom m) refl
     by_test true e = eqb-true atom (mark_atom m) e
     by_test false e = absurd (both_ways (has (of_mark m) atom) (ap (λ b. b == 1) (bit_at-pow_other (mark_atom m) atom (eqb-false atom (mark_atom m) e))) h)
 
-pub action_stands : {f : Frame} {rest : List Item} {seen : List ℕ} (u : Unit) (tokens : List Spelled) → At f u (length seen) tokens →
+pub action_stands : {f : Frame} {rest : List Item} {seen : List ℕ} (u : Unit) (tokens : List SourceToken) → At f u (length seen) tokens →
     Stands f (Sign operand_names ∷ Sign (of_mark mark.DoubleHash) ∷ rest) seen u.gathering →
     Stands f (Whole primaries ∷ rest) seen (with_leaf (order (marked_from u.tokens (last_leaf u))) (order (last_leaf u)) (leaf.Action (last_leaf u)) u.gathering)
 action_stands {f} u tokens a (read _ atom (read seen sign s l j) h k) =
@@ -127,7 +127,7 @@ action_stands {f} u tokens a (read _ atom (read seen sign s l j) h k) =
     })
     (whole seen (sign ∷ atom ∷ []) (Leaf n (suc n) (length g.leaves)) g s (action l h))
 
-pub opened_stands : {f : Frame} {rest : List Item} {seen : List ℕ} (u : Unit) (tokens : List Spelled) → At f u (length seen) tokens →
+pub opened_stands : {f : Frame} {rest : List Item} {seen : List ℕ} (u : Unit) (tokens : List SourceToken) → At f u (length seen) tokens →
     Stands f (Sign opening_sign ∷ rest) seen u.gathering → Stands f (Opened ∷ rest) seen (with_bracket (order (length u.tokens - 1)) u.gathering)
 opened_stands {f} u tokens a (read seen atom s h k) =
     let g = u.gathering in

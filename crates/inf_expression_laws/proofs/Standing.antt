@@ -9,7 +9,7 @@ use Rattle.inf_scanner.specs.declared.tokens.TokenKind.TheVariants as kind
 use Rattle.inf_syntax.specs.Atoms.{mark_atom}
 use Rattle.inf_expressions.specs.Sources.{Source, Leaf, Brackets, Prefix, Suffix, Two, Then, Call, Alone}
 use Rattle.inf_gathering.specs.Gatherings.{Gathering, with_bracket, with_list}
-use Rattle.inf_unit.specs.Tokens.{Spelled}
+use Rattle.inf_unit.specs.Tokens.{SourceToken}
 use Rattle.inf_unit.specs.Units.{kind_at}
 use Rattle.inf_expression_laws.specs.Precedence.{Written, operand, action, brackets, tighter, in_front, behind, between, assigned, tested, called, alone, Listed, one, more, commas, leaf_count, leaf_count_of_all, list_of, opening_sign}
 use Rattle.inf_expression_laws.specs.Gathered.{first_of, is_open, joints, leaves_of, symbols_of, with_source}
@@ -21,7 +21,7 @@ use Rattle.inf_expression_laws.proofs.Items.{Item, Sign, Whole, Opened, Closing,
 pub record Frame : Type 0 where
   pub outer : Option ℕ
   pub begun : ℕ
-  pub all : List Spelled
+  pub all : List SourceToken
   pub order : ℕ
   pub base : Gathering
 
@@ -103,7 +103,7 @@ is_no_list (tested signs sign left right b sources e w h v) = refl
 is_no_list (called left right atoms given b sources w l v r) = refl
 is_no_list (alone left right atoms w l r) = refl
 
-pub leaves_count : (outer : Option ℕ) (begun : ℕ) (tokens : List Spelled) (a : Source) → length (leaves_of outer begun tokens a) ≡ leaf_count a
+pub leaves_count : (outer : Option ℕ) (begun : ℕ) (tokens : List SourceToken) (a : Source) → length (leaves_of outer begun tokens a) ≡ leaf_count a
 leaves_count outer begun tokens (Leaf first token place) = refl
 leaves_count outer begun tokens (Brackets order a) = leaves_count outer begun tokens a
 leaves_count outer begun tokens (Prefix order op a) = leaves_count outer begun tokens a

@@ -15,22 +15,22 @@ use Rattle.inf_expressions.specs.Sources.{Source, Leaf, Brackets, Prefix, Suffix
 use Rattle.inf_gathering.specs.declared.gathering.Leaf.{Leaf as Gathered}
 use Rattle.inf_gathering.specs.declared.gathering.Leaf.TheVariants as leaf
 use Rattle.inf_gathering.specs.Gatherings.{Gathering}
-use Rattle.inf_unit.specs.Tokens.{Spelled}
+use Rattle.inf_unit.specs.Tokens.{SourceToken}
 use Rattle.inf_unit.specs.Units.{Unit, acted, is_first, is_some_mark, kind_at, leaf_of, taken, told_leaf}
 
 -- Tokens are taken and actions carried out, one behind the other.
-abbrev pub read_by : List (Event Action) → List Spelled → Unit → Unit
+abbrev pub read_by : List (Event Action) → List SourceToken → Unit → Unit
 read_by [] tokens u = u
 read_by (Did action ∷ events) tokens u = read_by events tokens (acted action u)
 read_by (Took atom ∷ events) [] u = u
 read_by (Took atom ∷ events) (t ∷ tokens) u = read_by events tokens (taken t u)
 
 -- A token whose atom is a mark's is that mark.
-abbrev pub IsSeen : ℕ → Spelled → Type 0
+abbrev pub IsSeen : ℕ → SourceToken → Type 0
 IsSeen atom t = (m : Mark) → atom ≡ mark_atom m → t.kind ≡ kind.Mark m
 
 -- the tokens of some atoms
-abbrev pub AreSeen : List ℕ → List Spelled → Type 0
+abbrev pub AreSeen : List ℕ → List SourceToken → Type 0
 AreSeen [] [] = ⊤
 AreSeen (atom ∷ atoms) (t ∷ tokens) = IsSeen atom t × AreSeen atoms tokens
 AreSeen [] (t ∷ tokens) = false ≡ true
@@ -77,12 +77,12 @@ abbrev pub kind_in : Option TokenKind → TokenKind
 kind_in None = kind.Name
 kind_in (Some k) = k
 
-abbrev pub leaf_read : Option ℕ → ℕ → List Spelled → ℕ → ℕ → Gathered
+abbrev pub leaf_read : Option ℕ → ℕ → List SourceToken → ℕ → ℕ → Gathered
 leaf_read outer begun tokens first at =
     if first == at then told_leaf (is_first at outer && is_some_mark mark.At (kind_at tokens begun)) (leaf_of at (kind_in (kind_at tokens at))) else leaf.Action at
 
 -- The leaves of an expression or a list, in the order of their tokens
-abbrev pub leaves_of : Option ℕ → ℕ → List Spelled → Source → List Gathered
+abbrev pub leaves_of : Option ℕ → ℕ → List SourceToken → Source → List Gathered
 leaves_of outer begun tokens (Leaf first token place) = leaf_read outer begun tokens first token ∷ []
 leaves_of outer begun tokens (Brackets order a) = leaves_of outer begun tokens a
 leaves_of outer begun tokens (Prefix order op a) = leaves_of outer begun tokens a
@@ -98,7 +98,7 @@ is_open [] = false
 is_open (bracket ∷ brackets) = true
 
 -- An expression more was gathered.
-abbrev pub with_source : Option ℕ → ℕ → List Spelled → Source → Gathering → Gathering
+abbrev pub with_source : Option ℕ → ℕ → List SourceToken → Source → Gathering → Gathering
 with_source outer begun tokens a g = record g {
   leaves = g.leaves ++ leaves_of outer begun tokens a;
   symbols = g.symbols ++ symbols_of (is_open g.brackets) a;

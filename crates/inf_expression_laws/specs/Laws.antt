@@ -12,7 +12,7 @@ use Rattle.inf_expressions.specs.Rooted.{seen}
 use Rattle.inf_expressions.specs.Sources.{Source, found_in, meant}
 use Rattle.inf_expressions.specs.Units.{judged, trees_of}
 use Rattle.inf_grammar.specs.Language.{grammar}
-use Rattle.inf_unit.specs.Tokens.{Spelled}
+use Rattle.inf_unit.specs.Tokens.{SourceToken}
 use Rattle.inf_unit.specs.Units.{Unit}
 use Rattle.inf_expression_laws.specs.Precedence.{Written, assignments, commas, connections, members, negations, primaries}
 use Rattle.inf_expression_laws.specs.Gathered.{AreSeen, read_by, symbols_of, with_source}
@@ -79,7 +79,7 @@ abbrev pub ExpressionsAreRead : Type 0
 ExpressionsAreRead =
     (symbols : List (Symbol Action)) (level : ℕ) → IsOneOf (form symbols level) forms →
     (atoms : List ℕ) (events : List (Event Action)) → IsText grammar symbols atoms events →
-    (u : Unit) (tokens : List Spelled) → AreSeen atoms tokens → u.is_over ≡ false → u.begun ≤ length u.tokens →
+    (u : Unit) (tokens : List SourceToken) → AreSeen atoms tokens → u.is_over ≡ false → u.begun ≤ length u.tokens →
     length (u.tokens ++ tokens) < 4294967295 →
     (a : Source)
     × Written level (length u.tokens) (length u.gathering.leaves) atoms a

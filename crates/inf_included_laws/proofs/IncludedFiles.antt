@@ -3,17 +3,17 @@ use Rattle.std.proofs.Common.{◌≡◌, ℕ, zero, suc, ◌+◌, ◌≤◌, len
 use Rattle.std.proofs.lemmas.List.{append-nil, map-append}
 use Rattle.inf_scanner.specs.declared.tokens.Mark.TheVariants as mark
 use Rattle.inf_scanner.specs.declared.tokens.Place.{Place}
-use Rattle.inf_token.specs.Files.{Sources}
+use Rattle.inf_files.specs.Files.{Sources}
 use Rattle.inf_sources.specs.Cursors.{Cursor}
 use Rattle.inf_sources.specs.Inclusions.{Inclusion, Opens, OpensNone, inclusion}
 use Rattle.inf_sources.specs.declared.open_files.Included.{Included}
 use Rattle.inf_sources.specs.declared.open_files.Included.TheVariants as answer
-use Rattle.inf_unit.specs.Directives.{Asked, End, Include, Nothing}
+use Rattle.inf_unit.specs.Directives.{Request, End, Include, Nothing}
 use Rattle.inf_unit.specs.Messages.{FileNames, Reported}
-use Rattle.inf_unit.specs.Tokens.{Spelled, is_end, is_mark}
-use Rattle.inf_conditionals.specs.declared.judged.Handed.{Handed}
-use Rattle.inf_conditionals.specs.declared.judged.Handed.TheVariants as handed
-use Rattle.inf_conditionals.specs.declared.judged.Judged.{Judged}
+use Rattle.inf_unit.specs.Tokens.{SourceToken, is_end, is_mark}
+use Rattle.inf_conditionals.specs.declared.judged.Forwarded.{Forwarded}
+use Rattle.inf_conditionals.specs.declared.judged.Forwarded.TheVariants as handed
+use Rattle.inf_conditionals.specs.declared.judged.Filtered.{Filtered}
 use Rattle.inf_conditionals.specs.declared.judged.Sign.{Sign}
 use Rattle.inf_conditionals.specs.declared.open.Conditional.{Conditional}
 use Rattle.inf_conditionals.specs.declared.open.LeftOut.{LeftOut}
@@ -25,10 +25,10 @@ use Rattle.inf_conditionals.specs.Words.{word_of}
 use Rattle.inf_reader.specs.Handing.{hash, said_told, site_of}
 use Rattle.inf_reader.specs.Reading.{is_mode_ended}
 use Rattle.inf_session.specs.Choices.{Choices}
-use Rattle.inf_session.specs.Session.{State, answered, asked_nothing, heeded, included_by, left, left_by, file_closed, none_included, stand_of, stepped, token_of, turn}
+use Rattle.inf_session.specs.Session.{State, answered, asked_nothing, carried_out, included_by, left, left_by, file_closed, none_included, stand_of, stepped, token_of, turn}
 use Rattle.inf_included_laws.specs.IncludedFiles.{Alone, AreFiles, AreOfAFile, Breaking, Cut, CutHashLast, CutHashThen, CutHashesLeft, Enters, Files, FilesKeepSides, FilesTellUnended, HashLast, HashThen, HashesLeft, Including, Leaves, Stays, Step, TurnsKeepFiles, all_unended, around_behind, around_broken, around_included, asked_passage, behind_files, end_handed, end_sign, first_step, handed_by, handed_end, handed_files, opens, passage, passed_files, released, sign_as, standing, staying, step_at, step_behind, steps, steps_at, steps_behind, told_at, told_behind, told_by, told_files}
 use Rattle.inf_conditional_laws.specs.KeptSides.{Answers, Around, At, Follows, Handing, IsClear, IsPlain, IsSign, NoneInside, Parts, all_behind, all_handed_on, all_kept, all_tokens, all_told, are_kept, as_kept, behind_parts, declared_behind, declared_tokens, ended_behind, ended_in, ended_places, going_on, handed_as, handed_on, handed_sign, handed_token, judged_at, kept_sides, lone_places, missing_in, none_around, places, told_parts, unended}
-use Rattle.inf_included_laws.specs.Unfinished.{AreHashes, Asked as HasAsked, Bare, Closes, Fronting, FrontingWord, HasWord, Hashed, HaveBegun, IsMisfit, Misfit, Named, Turns, Unfinished, Unnamed, all_begun_tokens, as_unfit, begun_handed, begun_sign, behind_all_begun, behind_misfit, handed_misfit, misfit_tokens, told_all_begun, told_misfit}
+use Rattle.inf_included_laws.specs.Unfinished.{AreHashes, Request as HasAsked, Bare, Closes, Fronting, FrontingWord, HasWord, Hashed, HaveBegun, IsMisfit, Misfit, Named, Turns, Unfinished, Unnamed, all_begun_tokens, as_unfit, begun_handed, begun_sign, behind_all_begun, behind_misfit, handed_misfit, misfit_tokens, told_all_begun, told_misfit}
 use Rattle.inf_laws.specs.KeptTurns.{given_by, given_in, turned}
 use Rattle.inf_conditional_laws.specs.MissingEnds.{with_all_at}
 use Rattle.inf_conditional_laws.specs.SideTurns.{at_turn, ends_there, shown}
@@ -66,8 +66,8 @@ tells_staying [] c = refl
 tells_staying (t ∷ tokens) c =
     let b = judged_at t c in
     let next = step_behind (staying t) c in
-    append_assoc (lone_places b.judged.lone) (ended_places t.ended b.now.inner) (told_by (map staying tokens) next)
-    ∙ ap (λ ps. lone_places b.judged.lone ++ (ended_places t.ended b.now.inner ++ ps)) (tells_staying tokens next)
+    append_assoc (lone_places b.judged.unmatched) (ended_places t.ended b.now.inner) (told_by (map staying tokens) next)
+    ∙ ap (λ ps. lone_places b.judged.unmatched ++ (ended_places t.ended b.now.inner ++ ps)) (tells_staying tokens next)
 
 behind_staying : (tokens : List At) (c : Conditions) → steps_behind (map staying tokens) c ≡ all_behind tokens c
 behind_staying [] c = refl
@@ -91,7 +91,7 @@ staying_led : (tokens : List At) (c : Conditions) (given : List Handing) (told :
 staying_led tokens c given told hands tells = record { hands = hands_staying tokens c ∙ hands; tells = tells_staying tokens c ∙ tells }
 
 -- how a file may end: so its end is handed on there, and nothing is left out or read behind it
-record EndsAs (o : Option Sign) (h : Handed) (s : Around) (w : List (List Conditional)) (c : Conditions) : Type 0 where
+record EndsAs (o : Option Sign) (h : Forwarded) (s : Around) (w : List (List Conditional)) (c : Conditions) : Type 0 where
   base : Conditions
   stand : Stands
   declared : ℕ
@@ -189,7 +189,7 @@ entered_at t s w c st plain =
     record {
       hands = ap (λ (b : Behind). handed_on b.judged t.token) keeps;
       tells =
-          ap (λ (b : Behind). lone_places b.judged.lone ++ ended_places t.ended (file_entered b.now).inner) keeps
+          ap (λ (b : Behind). lone_places b.judged.unmatched ++ ended_places t.ended (file_entered b.now).inner) keeps
           ∙ ended_told t.ended (AllStay s.inside s.between st.inside_kept st.between_kept) st.declared st.base;
       begun = subst (λ (b : Behind). Begun (around_included t s) (conditionals s.between ∷ w) (ended_behind t.ended (file_entered (silent b.now)))) (sym keeps)
           (begun_in t.ended s w st.base st.declared st.inside_kept st.waits st.none_read);
@@ -280,13 +280,13 @@ begun_behind e s w base inner among declared kept_so waits none =
     go None = record { inside_kept = refl; between_kept = kept_so; is = refl; waits = refl; none_read = none }
     go (Some now) = record { inside_kept = refl; between_kept = kept_so; is = refl; waits = refl; none_read = none }
 
-record LeftAt (o : Option Sign) (h : Handed) (t : At) (s inner : Around) (w : List (List Conditional)) (c : Conditions) : Type 0 where
+record LeftAt (o : Option Sign) (h : Forwarded) (t : At) (s inner : Around) (w : List (List Conditional)) (c : Conditions) : Type 0 where
   hands : handed_on (judged_at t c).judged t.token ≡ handed_sign o ++ handed_as h t.token
   tells : told_at (leaves t) c ≡ all_unended inner
   begun : Begun (around_behind s) w (step_behind (leaves t) c)
 
 -- the places that are told at an end
-misses_at : (t : At) (o : Option Sign) (h : Handed) (s : Around) (w : List (List Conditional)) (c : Conditions) → EndsAs o h s w c → is_end t.token.kind ≡ true → told_behind Leaves (judged_at t c).now ≡ all_unended s
+misses_at : (t : At) (o : Option Sign) (h : Forwarded) (s : Around) (w : List (List Conditional)) (c : Conditions) → EndsAs o h s w c → is_end t.token.kind ≡ true → told_behind Leaves (judged_at t c).now ≡ all_unended s
 misses_at t o h s w c e is_last =
     let open_so = are_open e.stand in
     let inner = inner_of e.stand in
@@ -296,7 +296,7 @@ misses_at t o h s w c e is_last =
     ∙ ap (λ ps. unended (stack_of e.stand).inside ++ ps) (told_places (stack_of e.stand).between among open_so.between)
     ∙ ap all_unended e.stack
 
-left_at_end : (t : At) (o : Option Sign) (h : Handed) (s inner : Around) (w : List (List Conditional)) (c : Conditions) → EndsAs o h inner (conditionals s.between ∷ w) c → are_kept s.between ≡ true
+left_at_end : (t : At) (o : Option Sign) (h : Forwarded) (s inner : Around) (w : List (List Conditional)) (c : Conditions) → EndsAs o h inner (conditionals s.between ∷ w) c → are_kept s.between ≡ true
     → is_end t.token.kind ≡ true → LeftAt o h t s inner w c
 left_at_end t o h s inner w c e kept_so is_last =
     let keeps = e.at_end t is_last in
@@ -304,7 +304,7 @@ left_at_end t o h s inner w c e kept_so is_last =
     record {
       hands = ap (λ (b : Behind). handed_on b.judged t.token) keeps;
       tells =
-          ap (λ (b : Behind). lone_places b.judged.lone ++ (told_behind Leaves b.now ++ ended_places t.ended (file_left b.now).inner)) keeps
+          ap (λ (b : Behind). lone_places b.judged.unmatched ++ (told_behind Leaves b.now ++ ended_places t.ended (file_left b.now).inner)) keeps
           ∙ ap (λ ps. told_behind Leaves at_last ++ ps) (ap (λ ws. ended_places t.ended (file_left_to ws at_last).inner) e.waits ∙ none_ended t.ended)
           ∙ append-nil (told_behind Leaves at_last)
           ∙ ap (λ (b : Behind). told_behind Leaves b.now) (sym keeps)
@@ -341,7 +341,7 @@ misfit_led d outer u s last toks alone c (Bare t) b is all =
     record {
       hands = ap (λ (x : Behind). handed_on x.judged t.token ++ []) cut;
       tells =
-          ap (λ (x : Behind). lone_places x.judged.lone ++ (ended_places t.ended x.now.inner ++ [])) cut
+          ap (λ (x : Behind). lone_places x.judged.unmatched ++ (ended_places t.ended x.now.inner ++ [])) cut
           ∙ append-nil (ended_places t.ended inner) ∙ told_here;
       begun = subst (λ (x : Behind). Begun (ended_in t.ended last.around) last.waiting (ended_behind t.ended (silent x.now))) (sym cut)
           (begun_broken t.ended last.around last.waiting (given_up_at k.base) last.declared k.inside_kept k.between_kept k.waits refl);
@@ -363,9 +363,9 @@ misfit_led d outer u s last toks alone c (Hashed sign t) b is all =
           ap (λ (x : Behind). handed_on x.judged sign.token ++ all_handed_on (t ∷ []) (ended_behind sign.ended (silent (judged_at sign there).now))) held_so
           ∙ ap (λ (x : Behind). handed_on x.judged t.token ++ []) cut;
       tells =
-          ap (λ (x : Behind). lone_places x.judged.lone ++ (ended_places sign.ended x.now.inner ++ all_told (t ∷ []) (ended_behind sign.ended (silent (judged_at sign there).now)))) held_so
+          ap (λ (x : Behind). lone_places x.judged.unmatched ++ (ended_places sign.ended x.now.inner ++ all_told (t ∷ []) (ended_behind sign.ended (silent (judged_at sign there).now)))) held_so
           ∙ ap (λ e. ended_places e inner ++ all_told (t ∷ []) (ended_behind sign.ended (silent (judged_at sign there).now))) is.1.0.goes_on
-          ∙ ap (λ (x : Behind). lone_places x.judged.lone ++ (ended_places t.ended x.now.inner ++ [])) cut
+          ∙ ap (λ (x : Behind). lone_places x.judged.unmatched ++ (ended_places t.ended x.now.inner ++ [])) cut
           ∙ append-nil (ended_places t.ended inner) ∙ told_here;
       begun = subst (λ (x : Behind). Begun (ended_in t.ended last.around) last.waiting (ended_behind t.ended (silent x.now))) (sym cut)
           (begun_broken t.ended last.around last.waiting (given_up_at k.base) last.declared k.inside_kept k.between_kept k.waits refl);
@@ -382,7 +382,7 @@ record HeldBack (sign : At) (c then : Conditions) : Type 0 where
 held_back : (sign : At) (c now then : Conditions) → judged_at sign c ≡ passed now → (ended_behind sign.ended (silent now) ≡ then) × (ended_places sign.ended now.inner ≡ []) → HeldBack sign c then
 held_back sign c now then e both = record {
   hands = ap (λ (b : Behind). handed_on b.judged sign.token) e;
-  tells = ap (λ (b : Behind). lone_places b.judged.lone ++ ended_places sign.ended b.now.inner) e ∙ both.1;
+  tells = ap (λ (b : Behind). lone_places b.judged.unmatched ++ ended_places sign.ended b.now.inner) e ∙ both.1;
   next = ap (λ (b : Behind). ended_behind sign.ended (silent b.now)) e ∙ both.0;
 }
 
@@ -393,11 +393,11 @@ held_led sign more c then given told h rest = record {
 }
 
 -- The next one hands it on.
-record LedOn (h : Handed) (place : Place) (more : List Step) (held free : Conditions) (given : List Handing) (told : List Place) : Type 0 where
+record LedOn (h : Forwarded) (place : Place) (more : List Step) (held free : Conditions) (given : List Handing) (told : List Place) : Type 0 where
   led : StepsLed more held (handed_as h (hash place) ++ given) told
   behind : steps_behind more held ≡ steps_behind more free
 
-led_on : (h : Handed) (place : Place) (more : List Step) (held free : Conditions) (given : List Handing) (told : List Place)
+led_on : (h : Forwarded) (place : Place) (more : List Step) (held free : Conditions) (given : List Handing) (told : List Place)
     → ((next : At) → is_mark mark.Hash next.token.kind ≡ true → next.site.is_between ≡ false
     → (judged_at next held ≡ with_sign h place (judged_at next free)) × ((judged_at next free).judged ≡ none_handed))
     → Follows true true (first_step more) → StepsLed more free given told → LedOn h place more held free given told
@@ -409,12 +409,12 @@ led_on h place (x ∷ more) held free given told frees follows rest =
       led = record {
         hands =
             ap (λ (b : Behind). handed_on b.judged x.at.token ++ handed_by more (ended_behind x.at.ended (passed_files x.passage (silent b.now)))) both.0
-            ∙ ap (λ (j : Judged). (handed_as h (hash place) ++ handed_token j.token x.at.token) ++ handed_by more (step_behind x free)) both.1
+            ∙ ap (λ (j : Filtered). (handed_as h (hash place) ++ handed_token j.token x.at.token) ++ handed_by more (step_behind x free)) both.1
             ∙ ap (λ hs. hs ++ handed_by more (step_behind x free)) (append-nil (handed_as h (hash place)))
             ∙ ap (λ hs. handed_as h (hash place) ++ hs)
-            (sym (ap (λ (j : Judged). handed_on j x.at.token ++ handed_by more (step_behind x free)) both.1) ∙ rest.hands);
+            (sym (ap (λ (j : Filtered). handed_on j x.at.token ++ handed_by more (step_behind x free)) both.1) ∙ rest.hands);
         tells =
-            ap (λ (b : Behind). (lone_places b.judged.lone ++ (told_behind x.passage b.now ++ ended_places x.at.ended (passed_files x.passage b.now).inner))
+            ap (λ (b : Behind). (lone_places b.judged.unmatched ++ (told_behind x.passage b.now ++ ended_places x.at.ended (passed_files x.passage b.now).inner))
             ++ told_by more (ended_behind x.at.ended (passed_files x.passage (silent b.now)))) both.0
             ∙ rest.tells;
       };
@@ -521,11 +521,11 @@ end_offered end base sign inner among b m declared is_last =
     let here = state base sign inner among (left_at b m) declared in
     ap (λ (x : Bool). cond x (offered false end.site.is_quiet end.out end.token (at base inner among None declared)) (passed (passed_by (word_of end.token) end.token (record { is_inner = b; levels = m }) here))) is_last
 
-record LeftEnds (o : Option Sign) (h : Handed) (s : Around) (w : List (List Conditional)) (signs : List At) (c : Conditions) : Type 0 where
+record LeftEnds (o : Option Sign) (h : Forwarded) (s : Around) (w : List (List Conditional)) (signs : List At) (c : Conditions) : Type 0 where
   led : StepsLed (map staying signs) c [] []
   ends : EndsAs o h s w (steps_behind (map staying signs) c)
 
-left_ends : (r : Reader) (last : Last) (c : Conditions) (is_inner : Bool) (signs : List At) (o : Option Sign) (h : Handed) (e : StandsAt r last c) → all_kept last.around ≡ false → NoneInside is_inner last.around → AreHashes is_inner signs
+left_ends : (r : Reader) (last : Last) (c : Conditions) (is_inner : Bool) (signs : List At) (o : Option Sign) (h : Forwarded) (e : StandsAt r last c) → all_kept last.around ≡ false → NoneInside is_inner last.around → AreHashes is_inner signs
     → last.levels + length signs ≤ most_levels → (free : Conditions) → free.pending ≡ [] → free.waiting ≡ last.waiting
     → ((declared : ℕ) (end : At) → is_end end.token.kind ≡ true → offered false end.site.is_quiet end.out end.token (at e.base (inner_of e.stand) (among_of e.stand) None declared)
     ≡ record { now = at free (inner_of e.stand) (among_of e.stand) None declared; judged = record none_handed { sign = o; token = Some h } })
@@ -1030,7 +1030,7 @@ included_conditions : (sources : Sources) (o : Choices) (unit : Place) (text : L
 included_conditions sources o unit text (Opens name) s = refl
 included_conditions sources o unit text (OpensNone why) s = none_conditions unit text why s
 
-asked_conditions : (a : Asked) (sources : Sources) (o : Choices) (s : State) → (answered a sources o (asked_nothing s)).conditions ≡ passed_files (asked_passage a sources o s) s.conditions
+asked_conditions : (a : Request) (sources : Sources) (o : Choices) (s : State) → (answered a sources o (asked_nothing s)).conditions ≡ passed_files (asked_passage a sources o s) s.conditions
 asked_conditions (Include text unit) sources o s = included_conditions sources o unit text (inclusion sources o.directories text s.nesting) (asked_nothing s)
 asked_conditions End sources o s = refl
 asked_conditions Nothing sources o s = refl
@@ -1039,8 +1039,8 @@ left_conditions : (ws : List Cursor) (s : State) → (left_by ws (file_closed s)
 left_conditions [] s = refl
 left_conditions (c ∷ ws) s = refl
 
-heeded_passes : (sources : Sources) (o : Choices) (s : State) → (heeded sources o s).conditions ≡ passed_files (passage sources o s) s.conditions
-heeded_passes sources o s = go s.work.report.counts.is_over (is_mode_ended s.reading.mode)
+carried_out_passes : (sources : Sources) (o : Choices) (s : State) → (carried_out sources o s).conditions ≡ passed_files (passage sources o s) s.conditions
+carried_out_passes sources o s = go s.work.report.counts.is_over (is_mode_ended s.reading.mode)
   where
     go : (over ended : Bool) → (cond over s (cond ended (left s) (answered s.work.asked sources o (asked_nothing s)))).conditions
         ≡ passed_files (cond over Stays (cond ended Leaves (asked_passage s.work.asked sources o s))) s.conditions
@@ -1050,7 +1050,7 @@ heeded_passes sources o s = go s.work.report.counts.is_over (is_mode_ended s.rea
 
 turn_steps : (sources : Sources) (o : Choices) (s : State) → (turn sources o s).conditions ≡ step_behind (step_at sources o s) s.conditions
 turn_steps sources o s =
-    rested_conditions (heeded sources o (stepped s)) ∙ ap (ended_behind (ends_there (heeded sources o (stepped s)))) (heeded_passes sources o (stepped s))
+    rested_conditions (carried_out sources o (stepped s)) ∙ ap (ended_behind (ends_there (carried_out sources o (stepped s)))) (carried_out_passes sources o (stepped s))
 
 steps_hand_on : (sources : Sources) (o : Choices) (n : ℕ) (s : State) → map shown (given_in sources o n s) ≡ handed_by (steps_at sources o n s) s.conditions
 steps_hand_on sources o zero s = refl

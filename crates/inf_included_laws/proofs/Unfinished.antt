@@ -9,10 +9,10 @@ use Rattle.inf_scanner.specs.declared.tokens.TokenKind.{TokenKind}
 use Rattle.inf_scanner.specs.declared.tokens.TokenKind.TheVariants as kind
 use Rattle.inf_machine.specs.Machine.{fits}
 use Rattle.inf_grammar.specs.Language.{grammar, known}
-use Rattle.inf_unit.specs.Tokens.{Spelled, is_end, is_mark}
+use Rattle.inf_unit.specs.Tokens.{SourceToken, is_end, is_mark}
 use Rattle.inf_conditionals.specs.Atoms.{atom_of}
 use Rattle.inf_conditionals.specs.Condition.{Condition, condition_begun, condition_took}
-use Rattle.inf_conditionals.specs.declared.judged.Handed.TheVariants as handed
+use Rattle.inf_conditionals.specs.declared.judged.Forwarded.TheVariants as handed
 use Rattle.inf_conditionals.specs.declared.open.Conditional.{Conditional}
 use Rattle.inf_conditionals.specs.declared.pending.Awaits.{Awaits}
 use Rattle.inf_conditionals.specs.declared.pending.Awaits.TheVariants as awaits
@@ -27,7 +27,7 @@ use Rattle.inf_conditionals.specs.Words.{word_of}
 use Rattle.inf_conditionals.specs.declared.open.LeftOut.{LeftOut}
 use Rattle.inf_conditionals.proofs.Misfits.{end_fits_nothing}
 use Rattle.inf_conditional_laws.specs.KeptSides.{Answers, AreParts, Around, At, First, Follows, IsFirst, IsSignedPlain, NoneInside, NoneInsideFirst, Parts, all_behind, all_handed_on, all_kept, all_tokens, all_told, are_kept, asking, begins, behind_name, behind_parts, closed, declared_behind, declared_first, declared_tokens, ended_behind, first_tokens, judged_at, kept_sides, missing_in, opening, placed_word, signed_tokens, told_parts, turned}
-use Rattle.inf_included_laws.specs.Unfinished.{Asked, AreBegun, AreCutBy, AreHashes, Closes, Fronting, FrontingWord, GoOn, HasWord, HashesBefore, IsBegun, IsCutBy, Named, Turns, Unfinished, Unnamed, all_begun_tokens, behind_all_begun, behind_begun, begun_tokens, condition_so, told_all_begun, told_begun}
+use Rattle.inf_included_laws.specs.Unfinished.{Request, AreBegun, AreCutBy, AreHashes, Closes, Fronting, FrontingWord, GoOn, HasWord, HashesBefore, IsBegun, IsCutBy, Named, Turns, Unfinished, Unnamed, all_begun_tokens, behind_all_begun, behind_begun, begun_tokens, condition_so, told_all_begun, told_begun}
 use Rattle.inf_conditional_laws.proofs.AskingWords.{asking_fits}
 use Rattle.inf_conditional_laws.proofs.KeptSides.{AllStay, CalmLeft, Hands, Holds, InnerLeft, Last, Led, LeftLed, OuterLeft, Reader, Reads, Stands, StandsAt, TakesAll, among_of, at, awaits_it, begins_kept, begun_asking, begun_opening, behind_both, both_kept, calm_at, closes_left, conditionals, declared_behind_first, declared_both, directive, end_is_no_hash, end_word, ended_stands, ended_told, fewer, front_led, goes_by, hands_both, inner_not_kept, inner_of, kept_at, last_at, last_behind, led, left_at, left_of, length_both, levels_of, mid, mids_of, name_kept, none_open, not_kept, nothing_handed, outer_front, passes, read_condition, read_on, reading, reads_none, relaxed, same_first, sign_inner, sign_kept, sign_left, some_open, stack_of, stands_at, state, takes_none, tells_both, turns_left, with_condition, within, within_led}
 
@@ -35,7 +35,7 @@ use Rattle.inf_conditional_laws.proofs.KeptSides.{AllStay, CalmLeft, Hands, Hold
 abbrev IsAwaited : Unfinished → Awaits → Type 0
 IsAwaited (Unnamed is_inner if_declared first before) a = a ≡ awaits.Name if_declared
 IsAwaited (Named is_inner if_declared first before name behind) a = (e : Effect) × (a ≡ awaits.End e)
-IsAwaited (Asked is_inner wanted first parts) a = a ≡ awaits.Condition wanted
+IsAwaited (Request is_inner wanted first parts) a = a ≡ awaits.Condition wanted
 IsAwaited (Turns is_inner hashes first parts) a = (e : Effect) × (a ≡ awaits.End e)
 IsAwaited (Closes is_inner hashes first parts) a = (e : Effect) × (a ≡ awaits.End e)
 IsAwaited (Fronting sign parts) a = a ≡ awaits.Word
@@ -49,7 +49,7 @@ IsAlone u p others = Unit {0}
 
 -- and its condition
 abbrev HasCondition : Answers → Around → Unfinished → List Condition → Type 0
-HasCondition d s (Asked is_inner wanted first parts) ks = (others : List Condition) × (ks ≡ condition_so first (kept_sides d s parts) ∷ others)
+HasCondition d s (Request is_inner wanted first parts) ks = (others : List Condition) × (ks ≡ condition_so first (kept_sides d s parts) ∷ others)
 HasCondition d s (FrontingWord sign parts u) ks = HasCondition d (behind_parts d s parts) u ks
 HasCondition d s u ks = Unit {0}
 
@@ -106,7 +106,7 @@ parts_read d parts p others ks after s declared n v c e are takes read few =
     }
 
 -- a condition so far
-read_so : (tokens : List Spelled) (k : Condition) (is_inner wanted : Bool) (place : Place) (others : List Pending) (ks : List Condition) → GoOn tokens k
+read_so : (tokens : List SourceToken) (k : Condition) (is_inner wanted : Bool) (place : Place) (others : List Pending) (ks : List Condition) → GoOn tokens k
     → TakesAll (Reads (directive is_inner place (awaits.Condition wanted)) others (k ∷ ks)) tokens
 read_so [] k is_inner wanted place others ks on = tt
 read_so (t ∷ tokens) k is_inner wanted place others ks on = ((on.0, on.1.0), read_so tokens (condition_took t k) is_inner wanted place others ks on.1.1)
@@ -180,7 +180,7 @@ record EndingLed (d : Answers) (parts : Parts) (x : Around) (last : Last) (toks 
   led : Led (Reads p others ks) toks c [] (told_parts d x parts) last
   waits_for : (e : Effect) × (p.awaits ≡ awaits.End e)
 
-ending_begun : (w : ConditionalWord) (act : Around → Around) (e : Effect) → ((t : Spelled) (place : Place) (is_inner : Bool) (c : Conditions) → begun w t place is_inner c ≡ passed (awaiting place is_inner (awaits.End e) c)) → LeftLed w act
+ending_begun : (w : ConditionalWord) (act : Around → Around) (e : Effect) → ((t : SourceToken) (place : Place) (is_inner : Bool) (c : Conditions) → begun w t place is_inner c ≡ passed (awaiting place is_inner (awaits.End e) c)) → LeftLed w act
     → (d : Answers) (parts : Parts) (r : Reader) (is_inner : Bool) (first : First) (s : Around) (declared n : ℕ) (v : List (List Conditional)) (c : Conditions)
     → StandsAt r (last_at s declared n v) c → (k : Bool) → all_kept s ≡ k → IsFirst k is_inner (within r) w first → NoneInsideFirst k is_inner first s → all_kept (cond k s (act s)) ≡ true
     → AreParts d true (cond k s (act s)) (declared_first first declared) parts → kept_sides d (cond k s (act s)) parts ≡ [] → n + length (first_tokens first (all_tokens parts)) ≤ most_levels
@@ -263,7 +263,7 @@ first_is is_inner first tokens follows = go first.sign refl follows
     go None e follows = absurd follows
     go (Some next) e follows = record { next = next; rest = first.word ∷ tokens; is = ap (λ o. signed_tokens o (first.word ∷ tokens)) e; hash = follows }
 
-ending_behind : (w : ConditionalWord) (act : Around → Around) (e : Effect) → ((t : Spelled) (place : Place) (is_inner : Bool) (c : Conditions) → begun w t place is_inner c ≡ passed (awaiting place is_inner (awaits.End e) c)) → LeftLed w act
+ending_behind : (w : ConditionalWord) (act : Around → Around) (e : Effect) → ((t : SourceToken) (place : Place) (is_inner : Bool) (c : Conditions) → begun w t place is_inner c ≡ passed (awaiting place is_inner (awaits.End e) c)) → LeftLed w act
     → (d : Answers) (parts : Parts) (r : Reader) (is_inner : Bool) (hashes : List At) (first : First) (s : Around) (declared n : ℕ) (v : List (List Conditional)) (c : Conditions)
     → StandsAt r (last_at s declared n v) c → HashesBefore is_inner s hashes first → IsFirst (all_kept s) is_inner (within r) w first → NoneInsideFirst (all_kept s) is_inner first s → all_kept (cond (all_kept s) s (act s)) ≡ true
     → AreParts d true (cond (all_kept s) s (act s)) (declared_first first (declared_tokens hashes declared)) parts → kept_sides d (cond (all_kept s) s (act s)) parts ≡ []
@@ -426,7 +426,7 @@ begun_led d (Named is_inner if_declared first before name behind) r s declared n
       condition = tt;
       alone = tt;
     }
-begun_led d (Asked is_inner wanted first parts) r s declared n v c e are few =
+begun_led d (Request is_inner wanted first parts) r s declared n v c e are few =
     let all = are.1.1.0 in
     let k = kept_so r (last_at s declared n v) c e all in
     let a = awaits.Condition wanted in
@@ -624,7 +624,7 @@ cut_one d s (Unnamed is_inner if_declared first before) p others ks base inner a
     subst (λ (a : Awaits). IsUnfit (directive p.is_inner p.place a) others ks base inner among declared front t) (sym waits) (cut_name p.is_inner if_declared p.place others ks base inner among declared front t no_hash cut)
 cut_one d s (Named is_inner if_declared first before name behind) p others ks base inner among declared front t waits condition no_hash cut =
     subst (λ (a : Awaits). IsUnfit (directive p.is_inner p.place a) others ks base inner among declared front t) (sym waits.1) (cut_end waits.0 p.is_inner p.place others ks base inner among declared front t no_hash cut)
-cut_one d s (Asked is_inner wanted first parts) p others ks base inner among declared front t waits condition no_hash cut =
+cut_one d s (Request is_inner wanted first parts) p others ks base inner among declared front t waits condition no_hash cut =
     let k = condition_so first (kept_sides d s parts) in
     subst (λ (a : Awaits). IsUnfit (directive p.is_inner p.place a) others ks base inner among declared front t) (sym waits)
     (subst (λ (cs : List Condition). IsUnfit (directive p.is_inner p.place (awaits.Condition wanted)) others cs base inner among declared front t) (sym condition.1)
@@ -678,7 +678,7 @@ end_cuts_one d s (Fronting sign parts) t so is = so
 end_cuts_one d s (FrontingWord sign parts u) t so is = end_cuts_one d (behind_parts d s parts) u t so is
 end_cuts_one d s (Unnamed is_inner if_declared first before) t so is = λ name. let never : true ≡ false = sym is ∙ ap is_end name in cc
 end_cuts_one d s (Named is_inner if_declared first before name behind) t so is = ap (is_mark mark.Semicolon) (is_the_end t.token.kind is)
-end_cuts_one d s (Asked is_inner wanted first parts) t so is =
+end_cuts_one d s (Request is_inner wanted first parts) t so is =
     let k = condition_so first (kept_sides d s parts) in
     ap (λ (x : TokenKind). fits grammar known (atom_of (record t.token { kind = x })) k.stack) (is_the_end t.token.kind is) ∙ end_fits_nothing k.stack
 end_cuts_one d s (Turns is_inner hashes first parts) t so is = ap (is_mark mark.Semicolon) (is_the_end t.token.kind is)

@@ -1,14 +1,14 @@
 -- Which tokens are kept of files that include one another: of each file those that its own conditionals keep.
 use Rattle.std.specs.Prelude.{◌≡◌, ◌≤◌, ◌+◌, ℕ, zero, suc, List, [], ◌∷◌, ◌++◌, map, reverse, length, Bool, true, false, if◌then◌else◌, Option, Some, None}
-use Rattle.inf_token.specs.Files.{Sources}
+use Rattle.inf_files.specs.Files.{Sources}
 use Rattle.inf_scanner.specs.declared.tokens.Mark.TheVariants as mark
 use Rattle.inf_scanner.specs.declared.tokens.Place.{Place}
 use Rattle.inf_sources.specs.Inclusions.{Inclusion, Opens, OpensNone, inclusion}
-use Rattle.inf_unit.specs.Directives.{Asked, End, Include, Nothing}
+use Rattle.inf_unit.specs.Directives.{Request, End, Include, Nothing}
 use Rattle.inf_unit.specs.Messages.{FileNames, Reported}
-use Rattle.inf_unit.specs.Tokens.{Spelled, is_end}
-use Rattle.inf_conditionals.specs.declared.judged.Handed.{Handed}
-use Rattle.inf_conditionals.specs.declared.judged.Handed.TheVariants as handed
+use Rattle.inf_unit.specs.Tokens.{SourceToken, is_end}
+use Rattle.inf_conditionals.specs.declared.judged.Forwarded.{Forwarded}
+use Rattle.inf_conditionals.specs.declared.judged.Forwarded.TheVariants as handed
 use Rattle.inf_conditionals.specs.declared.judged.Sign.{Sign}
 use Rattle.inf_conditionals.specs.Ends.{file_entered, file_left, file_told}
 use Rattle.inf_conditionals.specs.Open.{Conditions, most_levels, silent}
@@ -61,7 +61,7 @@ told_behind Leaves c = places (reverse c.inner) ++ places (reverse c.among)
 told_behind _ c = []
 
 abbrev pub told_at : Step → Conditions → List Place
-told_at x c = let b = judged_at x.at c in lone_places b.judged.lone ++ (told_behind x.passage b.now ++ ended_places x.at.ended (passed_files x.passage b.now).inner)
+told_at x c = let b = judged_at x.at c in lone_places b.judged.unmatched ++ (told_behind x.passage b.now ++ ended_places x.at.ended (passed_files x.passage b.now).inner)
 
 abbrev pub told_by : List Step → Conditions → List Place
 told_by [] c = []
@@ -130,7 +130,7 @@ behind_files answers s (Breaking parts outer u misfit behind) = behind_files ans
 behind_files answers s (Including parts entering included leaving behind) = behind_files answers (around_behind (behind_parts answers s parts)) behind
 
 -- a `#` that is handed on there, as one that is kept or as one that does not fit
-abbrev pub sign_as : Handed → At → Sign
+abbrev pub sign_as : Forwarded → At → Sign
 sign_as h sign = record { place = sign.token.place; handed = h }
 
 -- before the end of a file it is handed on with that
@@ -147,7 +147,7 @@ end_sign (Breaking parts outer u misfit behind) = end_sign behind
 end_sign (Including parts entering included leaving behind) = end_sign behind
 
 -- the end of a file is kept, but where it cuts a conditional directive it does not fit
-abbrev pub end_handed : Files → Handed
+abbrev pub end_handed : Files → Forwarded
 end_handed (Alone parts) = handed.Kept
 end_handed (HashLast parts sign) = handed.Kept
 end_handed (HashThen parts sign behind) = end_handed behind
@@ -159,7 +159,7 @@ end_handed (CutHashThen parts outer u sign is_between behind) = end_handed behin
 end_handed (Breaking parts outer u misfit behind) = end_handed behind
 end_handed (Including parts entering included leaving behind) = end_handed behind
 
-abbrev pub handed_end : Files → Spelled → List Handing
+abbrev pub handed_end : Files → SourceToken → List Handing
 handed_end files end = handed_sign (end_sign files) ++ record { handed = end_handed files; token = end } ∷ []
 
 -- the tokens that are handed on: of each file those that its own conditionals keep, and those that cut a directive, with the end of each included one
@@ -310,7 +310,7 @@ abbrev pub opens : Inclusion → Passage
 opens (Opens name) = Enters
 opens (OpensNone why) = Stays
 
-abbrev pub asked_passage : Asked → Sources → Choices → State → Passage
+abbrev pub asked_passage : Request → Sources → Choices → State → Passage
 asked_passage (Include text unit) sources o s = opens (inclusion sources o.directories text s.nesting)
 asked_passage End sources o s = Stays
 asked_passage Nothing sources o s = Stays

@@ -5,11 +5,11 @@ use Rattle.inf_scanner.specs.declared.tokens.Place.{Place}
 use Rattle.inf_scanner.specs.declared.tokens.TokenKind.TheVariants as kind
 use Rattle.inf_machine.specs.Machine.{fits}
 use Rattle.inf_grammar.specs.Language.{grammar, known}
-use Rattle.inf_unit.specs.Tokens.{Spelled, is_mark}
+use Rattle.inf_unit.specs.Tokens.{SourceToken, is_mark}
 use Rattle.inf_conditionals.specs.Atoms.{atom_of}
 use Rattle.inf_conditionals.specs.Condition.{Condition, condition_begun, condition_took, is_whole}
-use Rattle.inf_conditionals.specs.declared.judged.Handed.{Handed}
-use Rattle.inf_conditionals.specs.declared.judged.Handed.TheVariants as handed
+use Rattle.inf_conditionals.specs.declared.judged.Forwarded.{Forwarded}
+use Rattle.inf_conditionals.specs.declared.judged.Forwarded.TheVariants as handed
 use Rattle.inf_conditionals.specs.declared.judged.Sign.{Sign}
 use Rattle.inf_conditionals.specs.declared.words.ConditionalWord.TheVariants as word
 use Rattle.inf_conditionals.specs.Open.{most_levels}
@@ -24,7 +24,7 @@ use Rattle.inf_conditional_laws.specs.KeptSides.{AddsNone, Answers, AreParts, Ar
 pub data Unfinished : Type 0 where
   Unnamed : (is_inner if_declared : Bool) (first : First) (before : Parts) → Unfinished
   Named : (is_inner if_declared : Bool) (first : First) (before : Parts) (name : At) (behind : Parts) → Unfinished
-  Asked : (is_inner wanted : Bool) (first : First) (within : Parts) → Unfinished
+  Request : (is_inner wanted : Bool) (first : First) (within : Parts) → Unfinished
   Turns : (is_inner : Bool) (hashes : List At) (first : First) (within : Parts) → Unfinished
   Closes : (is_inner : Bool) (hashes : List At) (first : First) (within : Parts) → Unfinished
   Fronting : (sign : At) (within : Parts) → Unfinished
@@ -33,7 +33,7 @@ pub data Unfinished : Type 0 where
 abbrev pub begun_tokens : Unfinished → List At
 begun_tokens (Unnamed is_inner if_declared first before) = first_tokens first (all_tokens before)
 begun_tokens (Named is_inner if_declared first before name behind) = first_tokens first (all_tokens before ++ name ∷ all_tokens behind)
-begun_tokens (Asked is_inner wanted first within) = first_tokens first (all_tokens within)
+begun_tokens (Request is_inner wanted first within) = first_tokens first (all_tokens within)
 begun_tokens (Turns is_inner hashes first within) = hashes ++ first_tokens first (all_tokens within)
 begun_tokens (Closes is_inner hashes first within) = hashes ++ first_tokens first (all_tokens within)
 begun_tokens (Fronting sign within) = sign ∷ all_tokens within
@@ -43,7 +43,7 @@ begun_tokens (FrontingWord sign within u) = sign ∷ (all_tokens within ++ drop 
 abbrev pub behind_begun : Answers → Around → Unfinished → Around
 behind_begun answers s (Unnamed is_inner if_declared first before) = behind_parts answers s before
 behind_begun answers s (Named is_inner if_declared first before name behind) = behind_parts answers (behind_name answers before name s) behind
-behind_begun answers s (Asked is_inner wanted first within) = behind_parts answers s within
+behind_begun answers s (Request is_inner wanted first within) = behind_parts answers s within
 behind_begun answers s (Turns is_inner hashes first within) = behind_parts answers (before_parts turned s) within
 behind_begun answers s (Closes is_inner hashes first within) = behind_parts answers (before_parts closed s) within
 behind_begun answers s (Fronting sign within) = behind_parts answers s within
@@ -54,18 +54,18 @@ abbrev pub told_begun : Answers → Around → Unfinished → List Place
 told_begun answers s (Unnamed is_inner if_declared first before) = told_parts answers s before
 told_begun answers s (Named is_inner if_declared first before name behind) =
     told_parts answers s before ++ (missing_in name.ended (behind_parts answers s before) ++ told_parts answers (behind_name answers before name s) behind)
-told_begun answers s (Asked is_inner wanted first within) = told_parts answers s within
+told_begun answers s (Request is_inner wanted first within) = told_parts answers s within
 told_begun answers s (Turns is_inner hashes first within) = told_parts answers (before_parts turned s) within
 told_begun answers s (Closes is_inner hashes first within) = told_parts answers (before_parts closed s) within
 told_begun answers s (Fronting sign within) = told_parts answers s within
 told_begun answers s (FrontingWord sign within u) = told_parts answers s within ++ told_begun answers (behind_parts answers s within) u
 
 -- the kept tokens of a condition so far, of which the grammar takes each, and none is the last
-abbrev pub GoOn : List Spelled → Condition → Type 0
+abbrev pub GoOn : List SourceToken → Condition → Type 0
 GoOn [] k = Unit {0}
 GoOn (t ∷ tokens) k = (fits grammar known (atom_of t) k.stack ≡ true) × ((is_whole (condition_took t k) ≡ false) × GoOn tokens (condition_took t k))
 
-abbrev pub condition_so : First → List Spelled → Condition
+abbrev pub condition_so : First → List SourceToken → Condition
 condition_so first tokens = condition_behind tokens (condition_took (placed_word first) condition_begun)
 
 -- Some may stand before the `#` of a word that ends a side that is left out.
@@ -97,7 +97,7 @@ IsBegun answers is_within s declared (Named is_inner if_declared first before na
     × ((AreParts answers true s now before × AddsNone answers s before)
     × ((name.token.kind ≡ kind.Name)
     × (AreParts answers true y (declared_behind name (declared_tokens (all_tokens before) now)) behind × (kept_sides answers y behind ≡ []))))))
-IsBegun answers is_within s declared (Asked is_inner wanted first within) =
+IsBegun answers is_within s declared (Request is_inner wanted first within) =
     IsFirst true is_inner is_within (asking wanted) first
     × (NoneInsideFirst true is_inner first s
     × ((all_kept s ≡ true)
@@ -128,7 +128,7 @@ abbrev pub begun_sign : Unfinished → Option Sign
 begun_sign (Fronting sign within) = Some (record { place = sign.token.place; handed = handed.Kept })
 begun_sign u = None
 
-abbrev pub begun_handed : Unfinished → Handed
+abbrev pub begun_handed : Unfinished → Forwarded
 begun_handed (Fronting sign within) = handed.Kept
 begun_handed u = handed.Unfit
 
@@ -169,7 +169,7 @@ misfit_tokens (Bare t) = t ∷ []
 misfit_tokens (Hashed sign t) = sign ∷ t ∷ []
 
 -- It is handed on as one that does not fit, and what is behind it as one that is kept.
-abbrev pub as_unfit : Spelled → Handing
+abbrev pub as_unfit : SourceToken → Handing
 as_unfit t = record { handed = handed.Unfit; token = t }
 
 abbrev pub handed_misfit : Misfit → List Handing
@@ -189,7 +189,7 @@ told_misfit (Hashed sign t) s = missing_in t.ended s
 abbrev pub IsCutBy : Answers → Around → Unfinished → At → Type 0
 IsCutBy answers s (Unnamed is_inner if_declared first before) t = t.token.kind ≡ kind.Name → ⊥
 IsCutBy answers s (Named is_inner if_declared first before name behind) t = is_mark mark.Semicolon t.token.kind ≡ false
-IsCutBy answers s (Asked is_inner wanted first within) t =
+IsCutBy answers s (Request is_inner wanted first within) t =
     fits grammar known (atom_of t.token) (condition_so first (kept_sides answers s within)).stack ≡ false
 IsCutBy answers s (Turns is_inner hashes first within) t = is_mark mark.Semicolon t.token.kind ≡ false
 IsCutBy answers s (Closes is_inner hashes first within) t = is_mark mark.Semicolon t.token.kind ≡ false

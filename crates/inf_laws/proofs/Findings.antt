@@ -8,9 +8,9 @@ use Rattle.inf_scanner.specs.declared.tokens.Place.{Place}
 use Rattle.inf_names.specs.Symbols.{Table, declare_fault, declare_fault_by, folded, found_in, is_full}
 use Rattle.inf_names.specs.declared.symbols.Found.{Found}
 use Rattle.inf_names.specs.declared.symbols.Found.TheVariants as found
-use Rattle.inf_symbol.specs.Spellings.{Name}
-use Rattle.inf_symbol.specs.Locals.{Headed, Local, Repeated, earlier, local_of, most_locals, no_locals, number_from, number_of, with_local_by, with_locals}
-use Rattle.inf_unit.specs.Messages.{Blame, FileNames}
+use Rattle.inf_sinks.specs.Spellings.{Name}
+use Rattle.inf_sinks.specs.Locals.{Headed, Local, Repeated, earlier, local_of, most_locals, no_locals, number_from, number_of, with_local_by, with_locals}
+use Rattle.inf_unit.specs.Messages.{Diagnostic, FileNames}
 use Rattle.inf_work.specs.Findings.{first_fault, header_fault, local_fault, name_fault}
 use Rattle.inf_laws.specs.Findings.{Finding, HeadersTellTheFirst, IsBefore, IsLeast, IsTold, declared_before, different, first_named, many_locals, repeated_local, repeated_locals, repeated_one, taken_as, taken_name, system_routine, too_many_locals}
 use Rattle.inf_laws.proofs.Choices.{either, either-none}
@@ -58,7 +58,7 @@ abbrev AreBefore : List Finding → List Finding → Type 0
 AreBefore fs gs = (f g : Finding) → Contains fs f → Contains gs g → IsBefore f g
 
 -- two lists, of which the first comes first
-first_before : (b : Blame) (fs gs : List Finding) → IsTold (Some b) fs → AreBefore fs gs → IsTold (Some b) (fs ++ gs)
+first_before : (b : Diagnostic) (fs gs : List Finding) → IsTold (Some b) fs → AreBefore fs gs → IsTold (Some b) (fs ++ gs)
 first_before b fs gs told before =
     let f = told.0 in
     (f, told.1, least f (fs ++ gs) (Contains-append_left fs gs f told.2.is_there) (λ g among. go g (Contains-append_cases fs gs g among)))
@@ -68,7 +68,7 @@ first_before b fs gs told before =
     go g (inr among) = inr (before told.0 g told.2.is_there among)
 
 -- or the second
-second_before : (b : Blame) (fs gs : List Finding) → IsTold (Some b) gs → AreBefore gs fs → IsTold (Some b) (fs ++ gs)
+second_before : (b : Diagnostic) (fs gs : List Finding) → IsTold (Some b) gs → AreBefore gs fs → IsTold (Some b) (fs ++ gs)
 second_before b fs gs told before =
     let f = told.0 in
     (f, told.1, least f (fs ++ gs) (Contains-append_right fs gs f told.2.is_there) (λ g among. go g (Contains-append_cases fs gs g among)))
@@ -77,11 +77,11 @@ second_before b fs gs told before =
     go g (inl among) = inr (before told.0 g told.2.is_there among)
     go g (inr among) = told.2.others_behind g among
 
-told_first : (x y : Option Blame) (fs gs : List Finding) → IsTold x fs → IsTold y gs → AreBefore fs gs → IsTold (first_fault x y) (fs ++ gs)
+told_first : (x y : Option Diagnostic) (fs gs : List Finding) → IsTold x fs → IsTold y gs → AreBefore fs gs → IsTold (first_fault x y) (fs ++ gs)
 told_first None y fs gs none told before = subst (λ l. IsTold y (l ++ gs)) (sym none) told
 told_first (Some b) y fs gs told later before = first_before b fs gs told before
 
-told_second : (x y : Option Blame) (fs gs : List Finding) → IsTold x fs → IsTold y gs → AreBefore gs fs → IsTold (first_fault y x) (fs ++ gs)
+told_second : (x y : Option Diagnostic) (fs gs : List Finding) → IsTold x fs → IsTold y gs → AreBefore gs fs → IsTold (first_fault y x) (fs ++ gs)
 told_second x None fs gs told none before = subst (IsTold x) (sym (append-nil fs) ∙ ap (λ l. fs ++ l) (sym none)) told
 told_second x (Some b) fs gs later told before = second_before b fs gs told before
 
@@ -97,7 +97,7 @@ among_if : (t : Bool) (f g : Finding) → Contains (found_if t f) g → g ≡ f
 among_if true f g among = one_of_one f g among
 among_if false f g among = absurd (one_of_none g among)
 
-choice : (t : Bool) (b : Blame) (y : Option Blame) → first_fault (cond t (Some b) None) y ≡ cond t (Some b) y
+choice : (t : Bool) (b : Diagnostic) (y : Option Diagnostic) → first_fault (cond t (Some b) None) y ≡ cond t (Some b) y
 choice true b y = refl
 choice false b y = refl
 

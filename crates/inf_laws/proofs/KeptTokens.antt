@@ -4,7 +4,7 @@ use Rattle.std.proofs.lemmas.List.{append-nil, map-append}
 use Rattle.inf_scanner.specs.declared.tokens.Place.{Place}
 use Rattle.inf_scanner.specs.declared.tokens.TokenKind.{TokenKind}
 use Rattle.inf_unit.specs.Messages.{FileNames}
-use Rattle.inf_unit.specs.Tokens.{Spelled, is_end}
+use Rattle.inf_unit.specs.Tokens.{SourceToken, is_end}
 use Rattle.inf_unit.proofs.Cases.{of_both}
 use Rattle.inf_machine.specs.declared.symbols.Symbol.{Symbol}
 use Rattle.inf_machine.specs.declared.symbols.Symbol.TheVariants.{Rule}
@@ -18,33 +18,33 @@ use Rattle.inf_grammar.specs.Evaluated.{language_is_decided}
 use Rattle.inf_grammar.specs.Language.{grammar, known}
 use Rattle.inf_grammar.specs.Routines.{is_in_routine}
 use Rattle.inf_grammar.specs.Sources.{is_inside}
-use Rattle.inf_conditionals.specs.declared.judged.Handed.{Handed}
-use Rattle.inf_conditionals.specs.declared.judged.Handed.TheVariants as handed
-use Rattle.inf_conditionals.specs.declared.judged.Judged.{Judged}
+use Rattle.inf_conditionals.specs.declared.judged.Forwarded.{Forwarded}
+use Rattle.inf_conditionals.specs.declared.judged.Forwarded.TheVariants as handed
+use Rattle.inf_conditionals.specs.declared.judged.Filtered.{Filtered}
 use Rattle.inf_conditionals.specs.declared.judged.Sign.{Sign}
-use Rattle.inf_work.specs.Actions.{Work, is_class, piece_begun as work_begun}
+use Rattle.inf_work.specs.Actions.{Compilation, is_class, piece_begun as work_begun}
 use Rattle.inf_reader.specs.Handing.{handed_as, hash, judged_taken, lone_told, sign_taken, token_taken, unfit_in, unit_ended}
 use Rattle.inf_reader.specs.Pieces.{BeginsPiece, IsPiece}
-use Rattle.inf_reader.specs.Reading.{Reading, Stand, bad, between, judged, passed, piece_begun, piece_rule, read_at, skip_of, step, step_in, took}
-use Rattle.inf_reader.specs.declared.mode.Mode.{Mode}
-use Rattle.inf_reader.specs.declared.mode.Mode.TheVariants as mode
+use Rattle.inf_reader.specs.Reading.{Reading, ReaderState, bad, between, judged, passed, piece_begun, piece_rule, read_at, skip_of, step, step_in, took}
+use Rattle.inf_reader.specs.declared.mode.Recovery.{Recovery}
+use Rattle.inf_reader.specs.declared.mode.Recovery.TheVariants as mode
 use Rattle.inf_laws.specs.BadTokens.{skip_behind}
 use Rattle.inf_laws.specs.KeptTokens.{BehindABadToken, BehindAPiece, BehindTheEnd, Given, GoesBehind, GoesOn, InAPiece, IsBad, Kept, KeptTokensAreRead, Seen, Stands, TokensAreHandedOn, Unfit, all_given_to, bad_by, given_as, given_of, given_sign, given_to, given_token, judged_by, kept_by, read_by, rests, seen_atom, skipped, token_in, took_by, unfit_by}
 use Rattle.inf_laws.proofs.BadTokens.{bracketed}
 
 -- What is read is told by the tokens alone
 
-abbrev seen : Spelled → Work → Seen
+abbrev seen : SourceToken → Compilation → Seen
 seen t w = record { token = t; is_class = is_class t w }
 
-judged_reads : (files : FileNames) (t : Spelled) (r : Reading) (w : Work) → (judged files t r w).reading ≡ judged_by (seen t w) r
+judged_reads : (files : FileNames) (t : SourceToken) (r : Reading) (w : Compilation) → (judged files t r w).reading ≡ judged_by (seen t w) r
 judged_reads files t r w = go (fits grammar known (seen_atom (seen t w)) r.stack)
   where
     go : (b : Bool) → (cond b (took files t r w) (bad files t r w)).reading ≡ cond b (took_by (seen_atom (seen t w)) r) (bad_by t.kind r)
     go true = refl
     go false = refl
 
-reads_at : (files : FileNames) (t : Spelled) (stack : List (Symbol Action)) (r : Reading) (w : Work) → (read_at files t stack r w).reading ≡ read_by stack (seen t w) r
+reads_at : (files : FileNames) (t : SourceToken) (stack : List (Symbol Action)) (r : Reading) (w : Compilation) → (read_at files t stack r w).reading ≡ read_by stack (seen t w) r
 reads_at files t [] r w = go (is_end t.kind)
   where
     go : (b : Bool) → (cond b (record { reading = record r { mode = mode.Ended }; work = w }) (judged files t (piece_begun r) (work_begun w))).reading
@@ -53,37 +53,37 @@ reads_at files t [] r w = go (is_end t.kind)
     go false = judged_reads files t (piece_begun r) (work_begun w)
 reads_at files t (symbol ∷ symbols) r w = judged_reads files t r w
 
-step_reads : (m : Mode) (files : FileNames) (t : Spelled) (r : Reading) (w : Work) → (step_in m files t r w).reading ≡ kept_by m (seen t w) r
+step_reads : (m : Recovery) (files : FileNames) (t : SourceToken) (r : Reading) (w : Compilation) → (step_in m files t r w).reading ≡ kept_by m (seen t w) r
 step_reads mode.Reads files t r w = reads_at files t r.stack r w
 step_reads mode.SkipsRoutine files t r w = refl
 step_reads mode.SkipsDirective files t r w = refl
 step_reads mode.Ended files t r w = refl
 
 -- a token that is passed over needs no grammar
-unfit_step : (m : Mode) (files : FileNames) (t : Spelled) (s : Stand) → s.reading.mode ≡ m → (unfit_in m files t s).reading ≡ unfit_by m t s.reading
+unfit_step : (m : Recovery) (files : FileNames) (t : SourceToken) (s : ReaderState) → s.reading.mode ≡ m → (unfit_in m files t s).reading ≡ unfit_by m t s.reading
 unfit_step mode.Reads files t s e = refl
 unfit_step mode.SkipsRoutine files t s e = ap (λ m. (step_in m files t s.reading s.work).reading) e
 unfit_step mode.SkipsDirective files t s e = ap (λ m. (step_in m files t s.reading s.work).reading) e
 unfit_step mode.Ended files t s e = ap (λ m. (step_in m files t s.reading s.work).reading) e
 
-handed_reads : (h : Handed) (files : FileNames) (t : Spelled) (s : Stand) → (handed_as h files t s).reading ≡ all_given_to (given_as h t s.work) s.reading
+handed_reads : (h : Forwarded) (files : FileNames) (t : SourceToken) (s : ReaderState) → (handed_as h files t s).reading ≡ all_given_to (given_as h t s.work) s.reading
 handed_reads handed.Kept files t s = step_reads s.reading.mode files t s.reading s.work
 handed_reads handed.Unfit files t s = unfit_step s.reading.mode files t s refl
 handed_reads handed.Condition files t s = refl
 
-sign_reads : (o : Option Sign) (files : FileNames) (s : Stand) → (sign_taken o files s).reading ≡ all_given_to (given_sign o s.work) s.reading
+sign_reads : (o : Option Sign) (files : FileNames) (s : ReaderState) → (sign_taken o files s).reading ≡ all_given_to (given_sign o s.work) s.reading
 sign_reads None files s = refl
 sign_reads (Some sign) files s = handed_reads sign.handed files (hash sign.place) s
 
-token_reads : (o : Option Handed) (files : FileNames) (t : Spelled) (s : Stand) → (token_taken o files t s).reading ≡ all_given_to (given_token o t s.work) s.reading
+token_reads : (o : Option Forwarded) (files : FileNames) (t : SourceToken) (s : ReaderState) → (token_taken o files t s).reading ≡ all_given_to (given_token o t s.work) s.reading
 token_reads None files t s = refl
 token_reads (Some h) files t s = handed_reads h files t s
 
-lone_reading : (o : Option Place) (files : FileNames) (s : Stand) → (lone_told o files s).reading ≡ s.reading
+lone_reading : (o : Option Place) (files : FileNames) (s : ReaderState) → (lone_told o files s).reading ≡ s.reading
 lone_reading None files s = refl
 lone_reading (Some place) files s = refl
 
-ended_reading : (o : Option Place) (files : FileNames) (s : Stand) → (unit_ended o files s).reading ≡ s.reading
+ended_reading : (o : Option Place) (files : FileNames) (s : ReaderState) → (unit_ended o files s).reading ≡ s.reading
 ended_reading None files s = refl
 ended_reading (Some place) files s = refl
 
@@ -95,8 +95,8 @@ pub tokens_are_handed_on : TokensAreHandedOn
 tokens_are_handed_on files t j s =
     let signed = sign_taken j.sign files s in
     let told = token_taken j.token files t signed in
-    ended_reading j.ended files (lone_told j.lone files told)
-    ∙ lone_reading j.lone files told
+    ended_reading j.ended files (lone_told j.unmatched files told)
+    ∙ lone_reading j.unmatched files told
     ∙ token_reads j.token files t signed
     ∙ ap (λ (r : Reading). all_given_to (given_token j.token t signed.work) r) (sign_reads j.sign files s)
     ∙ sym (given_both (given_sign j.sign s.work) (given_token j.token t signed.work) s.reading)
@@ -209,11 +209,11 @@ first (Unfit t) r fresh =
 
 -- A further token
 
-pub skipped_more : (m : Mode) (behind : List Given) (g : Given) → skipped m (behind ++ g ∷ []) ≡ passed (skipped m behind) (token_in g).kind
+pub skipped_more : (m : Recovery) (behind : List Given) (g : Given) → skipped m (behind ++ g ∷ []) ≡ passed (skipped m behind) (token_in g).kind
 skipped_more m [] g = refl
 skipped_more m (x ∷ behind) g = skipped_more (passed m (token_in x).kind) behind g
 
-skips_on : (m : Mode) (g : Given) (r : Reading) → r ≡ between m → rests (between m) ≡ false → given_to g r ≡ between (passed m (token_in g).kind)
+skips_on : (m : Recovery) (g : Given) (r : Reading) → r ≡ between m → rests (between m) ≡ false → given_to g r ≡ between (passed m (token_in g).kind)
 skips_on mode.Reads g r e on = cc
 skips_on mode.Ended g r e on = cc
 skips_on mode.SkipsRoutine (Kept t) r e on = ap (λ (x : Reading). given_to (Kept t) x) e

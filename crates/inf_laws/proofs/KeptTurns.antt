@@ -2,17 +2,17 @@
 use Rattle.std.proofs.Common.{◌≡◌, ℕ, zero, suc, List, [], ◌∷◌, ◌++◌, cond, Bool, true, false, refl, sym, ap, subst, ◌∙◌}
 use Rattle.std.proofs.lemmas.List.{append-nil}
 use Rattle.inf_scanner.specs.declared.tokens.Place.{Place}
-use Rattle.inf_token.specs.Files.{Sources}
+use Rattle.inf_files.specs.Files.{Sources}
 use Rattle.inf_sources.specs.Inclusions.{Inclusion, Opens, OpensNone, inclusion}
 use Rattle.inf_sources.specs.declared.open_files.Included.{Included}
 use Rattle.inf_sources.specs.declared.open_files.Included.TheVariants as answer
-use Rattle.inf_unit.specs.Directives.{Asked, End, Include, Nothing}
+use Rattle.inf_unit.specs.Directives.{Request, End, Include, Nothing}
 use Rattle.inf_unit.specs.Messages.{FileNames}
 use Rattle.inf_conditionals.specs.Judging.{judged}
 use Rattle.inf_reader.specs.Handing.{said_told, site_of}
 use Rattle.inf_reader.specs.Reading.{Reading, is_mode_ended}
 use Rattle.inf_session.specs.Choices.{Choices}
-use Rattle.inf_session.specs.Session.{State, answered, asked_nothing, followed, has_ended, heeded, included_by, is_resting, left, none_included, piece_closed, rested, stand_of, stepped, token_of, turn}
+use Rattle.inf_session.specs.Session.{State, answered, asked_nothing, followed, has_ended, carried_out, included_by, is_resting, left, none_included, piece_closed, rested, stand_of, stepped, token_of, turn}
 use Rattle.inf_laws.specs.KeptTokens.{Stands, all_given_to}
 use Rattle.inf_laws.specs.KeptTurns.{StayInFile, TurnsReadPieces, given_by, given_in, turned}
 use Rattle.inf_laws.proofs.KeptTokens.{given_both, kept_tokens_are_read, tokens_are_handed_on}
@@ -29,13 +29,13 @@ included_reading : (sources : Sources) (o : Choices) (unit : Place) (text : List
 included_reading sources o unit text (Opens name) s = refl
 included_reading sources o unit text (OpensNone why) s = none_reading unit text why s
 
-answered_reading : (a : Asked) (sources : Sources) (o : Choices) (s : State) → (answered a sources o s).reading ≡ s.reading
+answered_reading : (a : Request) (sources : Sources) (o : Choices) (s : State) → (answered a sources o s).reading ≡ s.reading
 answered_reading (Include text unit) sources o s = included_reading sources o unit text (inclusion sources o.directories text s.nesting) s
 answered_reading End sources o s = refl
 answered_reading Nothing sources o s = refl
 
-pub heeded_reading : (sources : Sources) (o : Choices) (s : State) → is_mode_ended s.reading.mode ≡ false → (heeded sources o s).reading ≡ s.reading
-heeded_reading sources o s going =
+pub carried_out_reading : (sources : Sources) (o : Choices) (s : State) → is_mode_ended s.reading.mode ≡ false → (carried_out sources o s).reading ≡ s.reading
+carried_out_reading sources o s going =
     of_both (λ (x : State). x.reading ≡ s.reading) s.work.report.counts.is_over s
     (cond (is_mode_ended s.reading.mode) (left s) (answered s.work.asked sources o (asked_nothing s)))
     (λ _. refl)
@@ -47,7 +47,7 @@ rested_reading s =
     (λ _. of_both (λ (x : State). x.reading ≡ s.reading) (is_resting s) (piece_closed s) s (λ _. refl) (λ _. refl))
 
 pub turn_reading : (sources : Sources) (o : Choices) (s : State) → is_mode_ended (stepped s).reading.mode ≡ false → (turn sources o s).reading ≡ (stepped s).reading
-turn_reading sources o s going = rested_reading (heeded sources o (stepped s)) ∙ heeded_reading sources o (stepped s) going
+turn_reading sources o s going = rested_reading (carried_out sources o (stepped s)) ∙ carried_out_reading sources o (stepped s) going
 
 -- By what is handed on
 

@@ -8,7 +8,7 @@ use Rattle.inf_scanner.specs.declared.tokens.TokenKind.TheVariants as kind
 use Rattle.inf_machine.specs.Machine.{fits}
 use Rattle.inf_grammar.specs.Language.{grammar, known}
 use Rattle.inf_output.specs.Output.{Out}
-use Rattle.inf_unit.specs.Tokens.{Spelled, is_end, is_mark}
+use Rattle.inf_unit.specs.Tokens.{SourceToken, is_end, is_mark}
 use Rattle.inf_unit.proofs.Cases.{of_both}
 use Rattle.inf_conditionals.specs.Atoms.{atom_of}
 use Rattle.inf_conditionals.specs.Condition.{Condition, condition_begun, condition_took, is_whole, verdict_of}
@@ -16,9 +16,9 @@ use Rattle.inf_conditionals.specs.Open.{Conditions, closed, closed_by, ended_by,
 use Rattle.inf_conditionals.specs.Said.{too_much, told_by}
 use Rattle.inf_conditionals.specs.Words.{awaits_of, word_of}
 use Rattle.inf_conditionals.specs.declared.condition.Verdict.{Verdict}
-use Rattle.inf_conditionals.specs.declared.judged.Handed.{Handed}
-use Rattle.inf_conditionals.specs.declared.judged.Handed.TheVariants as handed
-use Rattle.inf_conditionals.specs.declared.judged.Judged.{Judged}
+use Rattle.inf_conditionals.specs.declared.judged.Forwarded.{Forwarded}
+use Rattle.inf_conditionals.specs.declared.judged.Forwarded.TheVariants as handed
+use Rattle.inf_conditionals.specs.declared.judged.Filtered.{Filtered}
 use Rattle.inf_conditionals.specs.declared.judged.Sign.{Sign}
 use Rattle.inf_conditionals.specs.declared.judged.Site.{Site}
 use Rattle.inf_conditionals.specs.declared.open.Conditional.{Conditional}
@@ -30,10 +30,10 @@ use Rattle.inf_conditionals.specs.declared.pending.Effect.TheVariants as effect
 use Rattle.inf_conditionals.specs.declared.pending.Pending.{Pending}
 use Rattle.inf_conditionals.specs.declared.words.ConditionalWord.{ConditionalWord}
 use Rattle.inf_conditionals.specs.declared.words.ConditionalWord.TheVariants as word
-use Rattle.inf_conditionals.specs.Judging.{Behind, asked, asked_first, asking, at_front, awaited, awaiting, begun, behind_front, behind_sign, closing, decided, effected, effected_by, given_up, held, in_side, is_none_pending, judged, judged_by, kept, lone, named, none_handed, offered, offered_condition, offered_to, passed, passed_by, saying, taken, tokens_counted, turning, unfit, went_on, word_passed}
+use Rattle.inf_conditionals.specs.Judging.{Behind, asked, asked_first, asking, at_front, awaited, awaiting, begun, behind_front, behind_sign, closing, decided, effected, effected_by, given_up, held, in_side, is_none_pending, judged, judged_by, kept, unmatched, named, none_handed, offered, offered_condition, offered_to, passed, passed_by, saying, taken, tokens_counted, turning, unfit, went_on, word_passed}
 
 -- whether something is handed on
-abbrev pub gives : Option Handed → Bool
+abbrev pub gives : Option Forwarded → Bool
 gives None = false
 gives (Some handed.Kept) = true
 gives (Some handed.Unfit) = true
@@ -43,7 +43,7 @@ abbrev pub gives_sign : Option Sign → Bool
 gives_sign None = false
 gives_sign (Some sign) = gives (Some sign.handed)
 
-abbrev pub gives_some : Judged → Bool
+abbrev pub gives_some : Filtered → Bool
 gives_some j = gives_sign j.sign || gives j.token
 
 -- a `#` at the front of a directive waits behind all others
@@ -102,12 +102,12 @@ effect_fine : (e : Effect) (is_quiet : Bool) (p : Pending) (place : Option Place
 effect_fine (effect.Opens is_kept) is_quiet p place c proper = record { proper = proper; clear = inl refl }
 effect_fine effect.Nothing is_quiet p place c proper = record { proper = proper; clear = inl refl }
 effect_fine effect.Turns is_quiet p place c proper =
-    of_both (λ (b : Behind). Fine (ended_at place b)) (is_second (latest c)) (lone is_quiet p.place c)
+    of_both (λ (b : Behind). Fine (ended_at place b)) (is_second (latest c)) (unmatched is_quiet p.place c)
     (passed (record (turned c) { left_out = Some (record { is_inner = not (is_none_open c.inner); levels = 0 }) }))
     (λ _. record { proper = proper; clear = inl refl })
     (λ _. record { proper = subst (λ ps. AreProper ps) (sym (turned_pending c.inner c)) proper; clear = inl refl })
 effect_fine effect.Closes is_quiet p place c proper =
-    of_both (λ (b : Behind). Fine (ended_at place b)) (is_none_open (latest c)) (lone is_quiet p.place c) (passed (closed c))
+    of_both (λ (b : Behind). Fine (ended_at place b)) (is_none_open (latest c)) (unmatched is_quiet p.place c) (passed (closed c))
     (λ _. record { proper = proper; clear = inl refl })
     (λ _. record { proper = subst (λ ps. AreProper ps) (sym (closed_pending c.inner c)) proper; clear = inl refl })
 
@@ -116,7 +116,7 @@ effected_fine e is_quiet p c proper = effect_fine e is_quiet p (cond is_quiet No
 
 -- Words
 
-begun_fine : (w : ConditionalWord) (t : Spelled) (place : Place) (is_inner : Bool) (c : Conditions) → AreProper c.pending → AllKept c → Fine (begun w t place is_inner c)
+begun_fine : (w : ConditionalWord) (t : SourceToken) (place : Place) (is_inner : Bool) (c : Conditions) → AreProper c.pending → AllKept c → Fine (begun w t place is_inner c)
 begun_fine word.Ifdef t place is_inner c proper all = record { proper = (tt, proper); clear = inl refl }
 begun_fine word.Ifndef t place is_inner c proper all = record { proper = (tt, proper); clear = inl refl }
 begun_fine word.Ifnot t place is_inner c proper all = record { proper = (tt, proper); clear = inl refl }
@@ -130,7 +130,7 @@ begun_fine word.Iffalse t place is_inner c proper all =
     (passed (asking place is_inner false (condition_took (record t { place = place }) condition_begun) c)) (unfit c)
     (λ _. record { proper = (tt, proper); clear = inl refl }) (λ _. unfit_fine c all)
 
-front_fine : (w : Option ConditionalWord) (t : Spelled) (p : Pending) (c : Conditions) → c.pending ≡ [] → AllKept c → Fine (behind_front w t p c)
+front_fine : (w : Option ConditionalWord) (t : SourceToken) (p : Pending) (c : Conditions) → c.pending ≡ [] → AllKept c → Fine (behind_front w t p c)
 front_fine None t p c e all = record { proper = none_proper c.pending e; clear = inr (e, all) }
 front_fine (Some w) t p c e all = begun_fine w t p.place p.is_inner c (none_proper c.pending e) all
 
@@ -146,7 +146,7 @@ named_fine (kind.Mark m) bytes if_declared o p c proper all = unfit_fine c all
 named_fine (kind.Bad b) bytes if_declared o p c proper all = unfit_fine c all
 named_fine kind.End bytes if_declared o p c proper all = unfit_fine c all
 
-went_fine : (wanted is_quiet : Bool) (o : Out) (t : Spelled) (k : Condition) (p : Pending) (c : Conditions) → AreProper c.pending → Fine (went_on wanted is_quiet o t k p c)
+went_fine : (wanted is_quiet : Bool) (o : Out) (t : SourceToken) (k : Condition) (p : Pending) (c : Conditions) → AreProper c.pending → Fine (went_on wanted is_quiet o t k p c)
 went_fine wanted is_quiet o t k p c proper =
     of_both Fine (is_whole k) (decided (verdict_of c.declared o k) wanted is_quiet k p c)
     (taken (asking p.place p.is_inner wanted k (saying is_quiet (too_much c.longest t k) (tokens_counted is_quiet k c))))
@@ -154,14 +154,14 @@ went_fine wanted is_quiet o t k p c proper =
     effected_fine (effect.Opens (cond wanted v.is_true (not v.is_true))) is_quiet p (saying is_quiet (told_by p.place k v.finding) c) proper)
     (λ _. record { proper = (tt, proper); clear = inl refl })
 
-asked_fine : (conditions : List Condition) (wanted is_quiet : Bool) (o : Out) (t : Spelled) (p : Pending) (c : Conditions) → AreProper c.pending → AllKept c → Fine (asked conditions wanted is_quiet o t p c)
+asked_fine : (conditions : List Condition) (wanted is_quiet : Bool) (o : Out) (t : SourceToken) (p : Pending) (c : Conditions) → AreProper c.pending → AllKept c → Fine (asked conditions wanted is_quiet o t p c)
 asked_fine [] wanted is_quiet o t p c proper all = unfit_fine c all
 asked_fine (k ∷ conditions) wanted is_quiet o t p c proper all =
     let here = record c { conditions = conditions } in
     of_both Fine (fits grammar known (atom_of t) k.stack) (went_on wanted is_quiet o t (condition_took t k) p here) (unfit here)
     (λ _. went_fine wanted is_quiet o t (condition_took t k) p here proper) (λ _. unfit_fine here all)
 
-awaited_fine : (a : Awaits) (is_quiet : Bool) (o : Out) (t : Spelled) (p : Pending) (c : Conditions) → IsLast a c.pending → AreProper c.pending → AllKept c → Fine (awaited a is_quiet o t p c)
+awaited_fine : (a : Awaits) (is_quiet : Bool) (o : Out) (t : SourceToken) (p : Pending) (c : Conditions) → IsLast a c.pending → AreProper c.pending → AllKept c → Fine (awaited a is_quiet o t p c)
 awaited_fine awaits.Word is_quiet o t p c last proper all = front_fine (word_of t) t p c last all
 awaited_fine (awaits.Name if_declared) is_quiet o t p c last proper all = named_fine t.kind t.bytes if_declared o p c proper all
 awaited_fine (awaits.Condition wanted) is_quiet o t p c last proper all = asked_fine c.conditions wanted is_quiet o t p c proper all
@@ -174,44 +174,44 @@ held_proper : (is_front : Bool) (place : Place) (c : Conditions) → (is_front �
 held_proper true place c front proper = (front refl, proper)
 held_proper false place c front proper = proper
 
-word_fine : (w : Option ConditionalWord) (t : Spelled) (c : Conditions) → c.pending ≡ [] → AllKept c → Fine (at_front w t c)
+word_fine : (w : Option ConditionalWord) (t : SourceToken) (c : Conditions) → c.pending ≡ [] → AllKept c → Fine (at_front w t c)
 word_fine None t c e all = kept_fine c e all
 word_fine (Some w) t c e all = begun_fine w t t.place false c (none_proper c.pending e) all
 
-to_fine : (pending : List Pending) (is_front is_quiet : Bool) (o : Out) (t : Spelled) (c : Conditions) → c.pending ≡ pending → AreProper pending → AllKept c → Fine (offered_to pending is_front is_quiet o t c)
+to_fine : (pending : List Pending) (is_front is_quiet : Bool) (o : Out) (t : SourceToken) (c : Conditions) → c.pending ≡ pending → AreProper pending → AllKept c → Fine (offered_to pending is_front is_quiet o t c)
 to_fine [] is_front is_quiet o t c e proper all =
     of_both Fine is_front (at_front (word_of t) t c) (kept c) (λ _. word_fine (word_of t) t c e all) (λ _. kept_fine c e all)
 to_fine (p ∷ pending) is_front is_quiet o t c e proper all = awaited_fine p.awaits is_quiet o t p (record c { pending = pending }) proper.0 proper.1 all
 
-offered_fine : (is_front is_quiet : Bool) (o : Out) (t : Spelled) (c : Conditions) → (is_front ≡ true → c.pending ≡ []) → AreProper c.pending → AllKept c → Fine (offered is_front is_quiet o t c)
+offered_fine : (is_front is_quiet : Bool) (o : Out) (t : SourceToken) (c : Conditions) → (is_front ≡ true → c.pending ≡ []) → AreProper c.pending → AllKept c → Fine (offered is_front is_quiet o t c)
 offered_fine is_front is_quiet o t c front proper all =
     of_both Fine (is_mark mark.Hash t.kind) (passed (held is_front t.place c)) (offered_to c.pending is_front is_quiet o t c)
     (λ _. passed_fine (held is_front t.place c) (held_proper is_front t.place c front proper))
     (λ _. to_fine c.pending is_front is_quiet o t c refl proper all)
 
 -- with a `#` before it that was held back
-abbrev signed : Place → Handed → Behind → Behind
+abbrev signed : Place → Forwarded → Behind → Behind
 signed place h b = record b { judged = record b.judged { sign = Some (record { place = place; handed = h }) } }
 
-signed_fine : (place : Place) (h : Handed) (is_quiet : Bool) (o : Out) (t : Spelled) (c : Conditions) → c.pending ≡ [] → AllKept c → Fine (signed place h (offered false is_quiet o t c))
+signed_fine : (place : Place) (h : Forwarded) (is_quiet : Bool) (o : Out) (t : SourceToken) (c : Conditions) → c.pending ≡ [] → AllKept c → Fine (signed place h (offered false is_quiet o t c))
 signed_fine place h is_quiet o t c e all =
     of_both (λ (b : Behind). Fine (signed place h b)) (is_mark mark.Hash t.kind) (passed (held false t.place c)) (offered_to c.pending false is_quiet o t c)
     (λ _. record { proper = none_proper c.pending e; clear = inr (e, all) })
     (λ _. subst (λ ps. Fine (signed place h (offered_to ps false is_quiet o t c))) (sym e) (record { proper = none_proper c.pending e; clear = inr (e, all) }))
 
-sign_fine : (w : Option ConditionalWord) (place : Place) (is_quiet : Bool) (o : Out) (t : Spelled) (c : Conditions) → AreProper c.pending → AllKept c → Fine (behind_sign w place is_quiet o t c)
+sign_fine : (w : Option ConditionalWord) (place : Place) (is_quiet : Bool) (o : Out) (t : SourceToken) (c : Conditions) → AreProper c.pending → AllKept c → Fine (behind_sign w place is_quiet o t c)
 sign_fine (Some w) place is_quiet o t c proper all = begun_fine w t place true (record c { sign = None }) proper all
 sign_fine None place is_quiet o t c proper all = signed_fine place _ is_quiet o t (given_up (record c { sign = None })) refl all
 
 -- A token of a side that is left out
 
-passed_proper : (w : Option ConditionalWord) (t : Spelled) (side : LeftOut) (c : Conditions) → AreProper c.pending → AreProper (passed_by w t side c).pending
+passed_proper : (w : Option ConditionalWord) (t : SourceToken) (side : LeftOut) (c : Conditions) → AreProper c.pending → AreProper (passed_by w t side c).pending
 passed_proper None t side c proper = proper
 passed_proper (Some w) t side c proper =
     of_both (λ (x : Conditions). AreProper x.pending) _ (awaiting _ false (awaits.End effect.Nothing) (record (ended_by w c) { left_out = None; sign = None })) _
     (λ _. (tt, subst (λ ps. AreProper ps) (sym (ended_pending w c)) proper)) (λ _. proper)
 
-side_fine : (is_quiet : Bool) (o : Out) (t : Spelled) (side : LeftOut) (c : Conditions) → AreProper c.pending → Fine (in_side is_quiet o t side c)
+side_fine : (is_quiet : Bool) (o : Out) (t : SourceToken) (side : LeftOut) (c : Conditions) → AreProper c.pending → Fine (in_side is_quiet o t side c)
 side_fine is_quiet o t side c proper =
     let here = record c { left_out = None; sign = None } in
     of_both Fine (is_end t.kind) (offered false is_quiet o t here) (passed (passed_by (word_of t) t side c))
@@ -225,11 +225,11 @@ none_waits true [] e = refl
 none_waits true (p ∷ pending) e = cc
 none_waits false pending e = cc
 
-by_fine : (left : Option LeftOut) (sign : Option Place) (site : Site) (o : Out) (t : Spelled) (c : Conditions) → c.left_out ≡ left → AreProper c.pending → Fine (judged_by left sign site o t c)
+by_fine : (left : Option LeftOut) (sign : Option Place) (site : Site) (o : Out) (t : SourceToken) (c : Conditions) → c.left_out ≡ left → AreProper c.pending → Fine (judged_by left sign site o t c)
 by_fine (Some side) sign site o t c e proper = side_fine site.is_quiet o t side c proper
 by_fine None (Some place) site o t c e proper = sign_fine (word_of t) place site.is_quiet o t c proper e
 by_fine None None site o t c e proper =
     offered_fine (site.is_between && is_none_pending c.pending) site.is_quiet o t c (none_waits site.is_between c.pending) proper e
 
-pub judged_fine : (site : Site) (o : Out) (t : Spelled) (c : Conditions) → AreProper c.pending → Fine (judged site o t c)
+pub judged_fine : (site : Site) (o : Out) (t : SourceToken) (c : Conditions) → AreProper c.pending → Fine (judged site o t c)
 judged_fine site o t c proper = by_fine c.left_out c.sign site o t c refl proper

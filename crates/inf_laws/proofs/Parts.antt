@@ -1,7 +1,7 @@
 -- The parts of a reading are the pieces of its files.
 use Rattle.std.proofs.Common.{◌≡◌, ◌⊎◌, inl, inr, ℕ, zero, suc, List, [], ◌∷◌, ◌++◌, ◌&&◌, ◌||◌, map, cond, Bool, true, false, Option, Some, None, refl, sym, ap, subst, ◌∙◌, append_assoc}
 use Rattle.std.proofs.lemmas.List.{append-nil, map-append}
-use Rattle.inf_token.specs.Files.{Sources}
+use Rattle.inf_files.specs.Files.{Sources}
 use Rattle.inf_scanner.specs.declared.tokens.Mark.TheVariants as mark
 use Rattle.inf_scanner.specs.declared.tokens.Place.{Place}
 use Rattle.inf_scanner.specs.declared.tokens.TokenKind.TheVariants as kind
@@ -16,13 +16,13 @@ use Rattle.inf_sources.specs.Cursors.{Cursor}
 use Rattle.inf_sources.specs.Inclusions.{Inclusion, Opens, OpensNone, inclusion}
 use Rattle.inf_sources.specs.declared.open_files.Included.{Included}
 use Rattle.inf_sources.specs.declared.open_files.Included.TheVariants as answer
-use Rattle.inf_unit.specs.Directives.{Asked, End, Include, Nothing}
+use Rattle.inf_unit.specs.Directives.{Request, End, Include, Nothing}
 use Rattle.inf_unit.specs.Messages.{FileNames}
-use Rattle.inf_unit.specs.Tokens.{Spelled, is_end}
+use Rattle.inf_unit.specs.Tokens.{SourceToken, is_end}
 use Rattle.inf_unit.proofs.Cases.{of_both}
-use Rattle.inf_conditionals.specs.declared.judged.Handed.{Handed}
-use Rattle.inf_conditionals.specs.declared.judged.Handed.TheVariants as handed
-use Rattle.inf_conditionals.specs.declared.judged.Judged.{Judged}
+use Rattle.inf_conditionals.specs.declared.judged.Forwarded.{Forwarded}
+use Rattle.inf_conditionals.specs.declared.judged.Forwarded.TheVariants as handed
+use Rattle.inf_conditionals.specs.declared.judged.Filtered.{Filtered}
 use Rattle.inf_conditionals.specs.declared.judged.Sign.{Sign}
 use Rattle.inf_conditionals.specs.declared.open.Conditional.{Conditional}
 use Rattle.inf_conditionals.specs.declared.open.LeftOut.{LeftOut}
@@ -30,13 +30,13 @@ use Rattle.inf_conditionals.specs.declared.pending.Pending.{Pending}
 use Rattle.inf_conditionals.specs.Ends.{file_left, file_left_to, side_kept}
 use Rattle.inf_conditionals.specs.Judging.{Behind, is_none_pending, judged, may_part}
 use Rattle.inf_conditionals.specs.Open.{Conditions}
-use Rattle.inf_work.specs.Actions.{Work, is_class}
+use Rattle.inf_work.specs.Actions.{Compilation, is_class}
 use Rattle.inf_reader.specs.Handing.{hash, is_empty, reads, said_told, sign_taken, site_of}
-use Rattle.inf_reader.specs.Reading.{Reading, Stand, between, is_mode_ended, passed, piece_rule}
-use Rattle.inf_reader.specs.declared.mode.Mode.{Mode}
-use Rattle.inf_reader.specs.declared.mode.Mode.TheVariants as mode
+use Rattle.inf_reader.specs.Reading.{Reading, ReaderState, between, is_mode_ended, passed, piece_rule}
+use Rattle.inf_reader.specs.declared.mode.Recovery.{Recovery}
+use Rattle.inf_reader.specs.declared.mode.Recovery.TheVariants as mode
 use Rattle.inf_session.specs.Choices.{Choices}
-use Rattle.inf_session.specs.Session.{State, answered, asked_nothing, file_closed, has_ended, heeded, included_by, is_parted, is_resting, left, left_by, none_included, piece_closed, rested, stand_of, start, stepped, token_of, turn}
+use Rattle.inf_session.specs.Session.{State, answered, asked_nothing, file_closed, has_ended, carried_out, included_by, is_parted, is_resting, left, left_by, none_included, piece_closed, rested, stand_of, start, stepped, token_of, turn}
 use Rattle.inf_laws.specs.KeptTokens.{Given, Kept, Seen, Stands, Unfit, all_given_to, given_as, given_of, given_sign, given_to, given_token, rests, seen_atom, skipped, token_in}
 use Rattle.inf_laws.specs.KeptTurns.{given_by, given_in, turned}
 use Rattle.inf_laws.specs.Parts.{IsOfOnePiece, PartsArePieces, PartsEndWithPieces, StayInPart}
@@ -79,7 +79,7 @@ goes_inside : (r : Reading) → r.mode ≡ mode.Reads → (r.stack ≡ [] → �
 goes_inside r is some =
     ap (λ m. (reads m && is_empty r.stack) || is_mode_ended m) is ∙ ap (λ b. b || false) (empty_not r.stack some)
 
-passed_hash : (m : Mode) → rests (between (passed m (kind.Mark mark.Hash))) ≡ false
+passed_hash : (m : Recovery) → rests (between (passed m (kind.Mark mark.Hash))) ≡ false
 passed_hash mode.Reads = refl
 passed_hash mode.SkipsRoutine = refl
 passed_hash mode.SkipsDirective = refl
@@ -93,7 +93,7 @@ hash_goes before h place r is (Inside tokens e at some) = goes_inside r at.reads
 hash_goes before h place r is (Whole tokens e piece at) =
     let l = last_kept before h tokens e in
     let token : l.1.token ≡ hash place = ap token_in (sym l.3) ∙ is in
-    let atom : seen_atom l.1 ≡ mark_atom mark.Hash = ap (λ (t : Spelled). seen_atom (record { token = t; is_class = l.1.is_class })) token in
+    let atom : seen_atom l.1 ≡ mark_atom mark.Hash = ap (λ (t : SourceToken). seen_atom (record { token = t; is_class = l.1.is_class })) token in
     let atoms : map seen_atom tokens ≡ map seen_atom l.0 ++ mark_atom mark.Hash ∷ [] =
     ap (map seen_atom) l.2 ∙ map-append seen_atom l.0 (l.1 ∷ []) ∙ ap (λ a. map seen_atom l.0 ++ a ∷ []) atom in
     absurd (no_piece_ends_with_a_hash (map seen_atom l.0) piece.events (subst (λ xs. IsText grammar (Rule piece_rule ∷ []) xs piece.events) atoms piece.is_text))
@@ -103,11 +103,11 @@ hash_goes before h place r is (Skips tokens wrong behind e begun bad at) =
     ap rests at
     ∙ ap (λ gs. rests (between (skipped m gs))) l.1
     ∙ ap (λ x. rests (between x)) (skipped_more m l.0 h)
-    ∙ ap (λ (t : Spelled). rests (between (passed (skipped m l.0) t.kind))) is
+    ∙ ap (λ (t : SourceToken). rests (between (passed (skipped m l.0) t.kind))) is
     ∙ passed_hash (skipped m l.0)
 hash_goes before h place r is (Ended t e ends at) =
     let same : token_in h ≡ t.token = ap token_in (last_one before h (Kept t) e) in
-    absurd (no_end (sym ends ∙ ap (λ (x : Spelled). is_end x.kind) (sym same ∙ is)))
+    absurd (no_end (sym ends ∙ ap (λ (x : SourceToken). is_end x.kind) (sym same ∙ is)))
 
 -- Where a part stands behind some of its tokens
 
@@ -122,11 +122,11 @@ one_more before g r (Some_yet now on) = next g before r now on
 same_goes : (before : List Given) (r : Reading) → Goes before r → Goes (before ++ []) r
 same_goes before r goes = subst (λ gs. Goes gs r) (sym (append-nil before)) goes
 
-sign_goes : (o : Option Sign) (w : Work) (before : List Given) (r : Reading) → Goes before r → Goes (before ++ given_sign o w) (all_given_to (given_sign o w) r)
+sign_goes : (o : Option Sign) (w : Compilation) (before : List Given) (r : Reading) → Goes before r → Goes (before ++ given_sign o w) (all_given_to (given_sign o w) r)
 sign_goes None w before r goes = same_goes before r goes
 sign_goes (Some sign) w before r goes = go sign.handed
   where
-    go : (h : Handed) → Goes (before ++ given_as h (hash sign.place) w) (all_given_to (given_as h (hash sign.place) w) r)
+    go : (h : Forwarded) → Goes (before ++ given_as h (hash sign.place) w) (all_given_to (given_as h (hash sign.place) w) r)
     go handed.Kept =
         let h = Kept (record { token = hash sign.place; is_class = is_class (hash sign.place) w }) in
         let now = one_more before h r goes in Some_yet now (hash_goes before h sign.place (given_to h r) refl now)
@@ -157,7 +157,7 @@ one_comes before signed g r goes =
       | inr going ↦ Still (Some_yet now going)
     ]
 
-token_comes : (o : Option Handed) (t : Spelled) (w : Work) (before signed : List Given) (r : Reading) → Goes (before ++ signed) r → Comes before (signed ++ given_token o t w) (all_given_to (given_token o t w) r)
+token_comes : (o : Option Forwarded) (t : SourceToken) (w : Compilation) (before signed : List Given) (r : Reading) → Goes (before ++ signed) r → Comes before (signed ++ given_token o t w) (all_given_to (given_token o t w) r)
 token_comes None t w before signed r goes = Still (subst (λ gs. Goes (before ++ gs) r) (sym (append-nil signed)) goes)
 token_comes (Some handed.Kept) t w before signed r goes = one_comes before signed (Kept (record { token = t; is_class = is_class t w })) r goes
 token_comes (Some handed.Unfit) t w before signed r goes = one_comes before signed (Unfit t) r goes
@@ -177,8 +177,8 @@ step_comes before s goes =
 
 -- The conditionals behind a turn
 
-heeded_same : (sources : Sources) (o : Choices) (s : State) → ((heeded sources o s).conditions.pending ≡ s.conditions.pending) × ((heeded sources o s).conditions.left_out ≡ s.conditions.left_out)
-heeded_same sources o s =
+carried_out_same : (sources : Sources) (o : Choices) (s : State) → ((carried_out sources o s).conditions.pending ≡ s.conditions.pending) × ((carried_out sources o s).conditions.left_out ≡ s.conditions.left_out)
+carried_out_same sources o s =
     of_both Same s.work.report.counts.is_over s (cond (is_mode_ended s.reading.mode) (left s) (answered s.work.asked sources o (asked_nothing s))) (λ _. (refl, refl))
     (λ _. of_both Same (is_mode_ended s.reading.mode) (left s) (answered s.work.asked sources o (asked_nothing s)) (λ _. left_same s.nesting.waiting) (λ _. asked_same s.work.asked))
   where
@@ -202,7 +202,7 @@ heeded_same sources o s =
     included_same unit text (Opens name) = (refl, refl)
     included_same unit text (OpensNone why) = none_same unit text why
 
-    asked_same : (a : Asked) → Same (answered a sources o (asked_nothing s))
+    asked_same : (a : Request) → Same (answered a sources o (asked_nothing s))
     asked_same (Include text unit) = included_same unit text (inclusion sources o.directories text s.nesting)
     asked_same End = (refl, refl)
     asked_same Nothing = (refl, refl)
@@ -218,10 +218,10 @@ rested_left s all =
     (λ _. of_both (λ (x : State). x.conditions.left_out ≡ None) (is_resting s) (piece_closed s) s (λ _. ap side_kept all) (λ _. all))
 
 turn_pending : (sources : Sources) (o : Choices) (s : State) → (turn sources o s).conditions.pending ≡ (stepped s).conditions.pending
-turn_pending sources o s = rested_pending (heeded sources o (stepped s)) ∙ (heeded_same sources o (stepped s)).0
+turn_pending sources o s = rested_pending (carried_out sources o (stepped s)) ∙ (carried_out_same sources o (stepped s)).0
 
 turn_left : (sources : Sources) (o : Choices) (s : State) → (stepped s).conditions.left_out ≡ None → (turn sources o s).conditions.left_out ≡ None
-turn_left sources o s all = rested_left (heeded sources o (stepped s)) ((heeded_same sources o (stepped s)).1 ∙ all)
+turn_left sources o s all = rested_left (carried_out sources o (stepped s)) ((carried_out_same sources o (stepped s)).1 ∙ all)
 
 abbrev Proper : State → Type 0
 Proper s = AreProper s.conditions.pending
@@ -237,16 +237,16 @@ all_proper sources o zero s proper = proper
 all_proper sources o (suc n) s proper = all_proper sources o n (turn sources o s) (turn_proper sources o s proper)
 
 -- where something is handed on
-none_signed : (o : Option Sign) (w : Work) → gives_sign o ≡ false → given_sign o w ≡ []
+none_signed : (o : Option Sign) (w : Compilation) → gives_sign o ≡ false → given_sign o w ≡ []
 none_signed None w e = refl
 none_signed (Some sign) w e = go sign.handed e
   where
-    go : (h : Handed) → gives (Some h) ≡ false → given_as h (hash sign.place) w ≡ []
+    go : (h : Forwarded) → gives (Some h) ≡ false → given_as h (hash sign.place) w ≡ []
     go handed.Kept e = cc
     go handed.Unfit e = cc
     go handed.Condition e = refl
 
-none_given : (o : Option Handed) (t : Spelled) (w : Work) → gives o ≡ false → given_token o t w ≡ []
+none_given : (o : Option Forwarded) (t : SourceToken) (w : Compilation) → gives o ≡ false → given_token o t w ≡ []
 none_given None t w e = refl
 none_given (Some handed.Kept) t w e = cc
 none_given (Some handed.Unfit) t w e = cc
@@ -256,7 +256,7 @@ or_parts : (a b : Bool) → (a || b) ≡ false → (a ≡ false) × (b ≡ false
 or_parts true b e = cc
 or_parts false b e = (refl, e)
 
-nothing_given : (files : FileNames) (j : Judged) (t : Spelled) (s : Stand) → gives_some j ≡ false → given_of files j t s ≡ []
+nothing_given : (files : FileNames) (j : Filtered) (t : SourceToken) (s : ReaderState) → gives_some j ≡ false → given_of files j t s ≡ []
 nothing_given files j t s e =
     let parts = or_parts (gives_sign j.sign) (gives j.token) e in
     let w = (sign_taken j.sign files s).work in
@@ -301,9 +301,9 @@ left_ends : (s : State) (waiting : List Cursor) → is_mode_ended s.reading.mode
 left_ends s [] e empty = inl e
 left_ends s (c ∷ waiting) e empty = inr (ap (λ stack. record { mode = mode.Reads; stack = stack }) empty)
 
-heeded_ends : (sources : Sources) (o : Choices) (s : State) → is_mode_ended s.reading.mode ≡ true → s.reading.stack ≡ []
-    → (is_mode_ended (heeded sources o s).reading.mode ≡ true) ⊎ ((heeded sources o s).reading ≡ between mode.Reads)
-heeded_ends sources o s e empty =
+carried_out_ends : (sources : Sources) (o : Choices) (s : State) → is_mode_ended s.reading.mode ≡ true → s.reading.stack ≡ []
+    → (is_mode_ended (carried_out sources o s).reading.mode ≡ true) ⊎ ((carried_out sources o s).reading ≡ between mode.Reads)
+carried_out_ends sources o s e empty =
     of_both (λ (x : State). (is_mode_ended x.reading.mode ≡ true) ⊎ (x.reading ≡ between mode.Reads)) s.work.report.counts.is_over s
     (cond (is_mode_ended s.reading.mode) (left s) (answered s.work.asked sources o (asked_nothing s)))
     (λ _. inl e)
@@ -316,14 +316,14 @@ now_rests given r (Inside tokens e at some) rest_now = absurd (no_end (sym rest_
 now_rests given r (Whole tokens e piece at) rest_now = inl at
 now_rests given r (Skips tokens wrong behind e begun bad at) rest_now = go (skipped (skip_behind (map seen_atom tokens)) (wrong ∷ behind)) at
   where
-    go : (m : Mode) → r ≡ between m → (r ≡ between mode.Reads) ⊎ ((is_mode_ended r.mode ≡ true) × (r.stack ≡ []))
+    go : (m : Recovery) → r ≡ between m → (r ≡ between mode.Reads) ⊎ ((is_mode_ended r.mode ≡ true) × (r.stack ≡ []))
     go mode.Reads same = inl same
     go mode.Ended same = inr (ap (λ (x : Reading). is_mode_ended x.mode) same, ap (λ (x : Reading). x.stack) same)
     go mode.SkipsRoutine same = absurd (no_end (sym rest_now ∙ ap rests same))
     go mode.SkipsDirective same = absurd (no_end (sym rest_now ∙ ap rests same))
 now_rests given r (Ended t e ends at) rest_now = inr (ap (λ (x : Reading). is_mode_ended x.mode) at, ap (λ (x : Reading). x.stack) at)
 
-going_on : (m : Mode) → m ≡ mode.Reads → is_mode_ended m ≡ false
+going_on : (m : Recovery) → m ≡ mode.Reads → is_mode_ended m ≡ false
 going_on m e = ap is_mode_ended e
 
 rests_parts : (sources : Sources) (o : Choices) (s : State) (given : List Given) → Now given (stepped s).reading → rests (stepped s).reading ≡ true → IsClear (stepped s) → is_parted (turn sources o s) ≡ true
@@ -332,9 +332,9 @@ rests_parts sources o s given now rest_now clear =
     let all = turn_left sources o s clear.1 in
     elim (now_rests given (stepped s).reading now rest_now) [
       | inl fresh ↦ clear_parts (turn sources o s) (turn_reading sources o s (ap (λ (r : Reading). is_mode_ended r.mode) fresh) ∙ fresh) none all
-      | inr ended ↦ elim (heeded_ends sources o (stepped s) ended.0 ended.1) [
-        | inl over ↦ ended_parts (turn sources o s) (ap (λ (r : Reading). is_mode_ended r.mode) (rested_reading (heeded sources o (stepped s))) ∙ over)
-        | inr fresh ↦ clear_parts (turn sources o s) (rested_reading (heeded sources o (stepped s)) ∙ fresh) none all
+      | inr ended ↦ elim (carried_out_ends sources o (stepped s) ended.0 ended.1) [
+        | inl over ↦ ended_parts (turn sources o s) (ap (λ (r : Reading). is_mode_ended r.mode) (rested_reading (carried_out sources o (stepped s))) ∙ over)
+        | inr fresh ↦ clear_parts (turn sources o s) (rested_reading (carried_out sources o (stepped s)) ∙ fresh) none all
       ]
     ]
 

@@ -7,24 +7,24 @@ use Rattle.inf_scanner.specs.declared.tokens.Mark.TheVariants as mark
 use Rattle.inf_scanner.specs.declared.tokens.TokenKind.{TokenKind}
 use Rattle.inf_scanner.specs.declared.tokens.TokenKind.TheVariants as kind
 use Rattle.inf_unit.specs.Messages.{FileNames}
-use Rattle.inf_unit.specs.Tokens.{Spelled, is_end, is_mark}
+use Rattle.inf_unit.specs.Tokens.{SourceToken, is_end, is_mark}
 use Rattle.inf_reader.specs.Handing.{skips, unfit_in}
-use Rattle.inf_reader.specs.Reading.{Stand, passed, passed_mark, step_in}
-use Rattle.inf_reader.specs.declared.mode.Mode.{Mode}
-use Rattle.inf_reader.specs.declared.mode.Mode.TheVariants as mode
+use Rattle.inf_reader.specs.Reading.{ReaderState, passed, passed_mark, step_in}
+use Rattle.inf_reader.specs.declared.mode.Recovery.{Recovery}
+use Rattle.inf_reader.specs.declared.mode.Recovery.TheVariants as mode
 use Rattle.inf_laws.specs.KeptTokens.{Given, Kept, Unfit, skipped, token_in}
 use Rattle.inf_laws.specs.Skipping.{at, Lack, PassesTo, PassedTokensDoNothing, DirectivesAreSkipped, RoutinesAreSkipped, SourcesEnd}
 
 -- One token
 
-steps_over : (m : Mode) (files : FileNames) (t : Spelled) (s : Stand) → s.reading.mode ≡ m → skips m ≡ true
+steps_over : (m : Recovery) (files : FileNames) (t : SourceToken) (s : ReaderState) → s.reading.mode ≡ m → skips m ≡ true
     → step_in m files t s.reading s.work ≡ at (passed m t.kind) s
 steps_over mode.SkipsRoutine files t s e is = refl
 steps_over mode.SkipsDirective files t s e is = refl
 steps_over mode.Reads files t s e is = cc
 steps_over mode.Ended files t s e is = cc
 
-unfit_steps : (m : Mode) (files : FileNames) (t : Spelled) (s : Stand) → s.reading.mode ≡ m → skips m ≡ true
+unfit_steps : (m : Recovery) (files : FileNames) (t : SourceToken) (s : ReaderState) → s.reading.mode ≡ m → skips m ≡ true
     → unfit_in m files t s ≡ step_in s.reading.mode files t s.reading s.work
 unfit_steps mode.SkipsRoutine files t s e is = refl
 unfit_steps mode.SkipsDirective files t s e is = refl
@@ -45,7 +45,7 @@ mark_is_no_end m kind.End e = cc
 mark_is_no_end m _ e = refl
 
 -- From this mode a mark leads to the next, and every other token but the end leads nowhere.
-record Passes (m : Mark) (before after : Mode) : Type 0 where
+record Passes (m : Mark) (before after : Recovery) : Type 0 where
   stays : (k : TokenKind) → is_end k ≡ false → is_mark m k ≡ false → passed before k ≡ before
   leaves : (k : TokenKind) → is_mark m k ≡ true → passed before k ≡ after
 
@@ -67,7 +67,7 @@ in_directive = record {
       ∙ ap (λ b. cond b mode.Reads mode.SkipsDirective) is;
 }
 
-module _ (m : Mark) (before after : Mode) (passes : Passes m before after) where
+module _ (m : Mark) (before after : Recovery) (passes : Passes m before after) where
   -- a first token that is neither the mark nor the end
   first_stays : (g : Given) (given : List Given) → Lack m (g ∷ given) → passed before (token_in g).kind ≡ before
   first_stays g given lack =

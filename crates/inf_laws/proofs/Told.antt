@@ -2,18 +2,18 @@
 use Rattle.std.proofs.Common.{◌≡◌, ◌⊎◌, inl, inr, append_assoc, List, [], ◌∷◌, ◌++◌, map, cond, Bool, true, false, refl, sym, ap, subst, ◌∙◌}
 use Rattle.std.proofs.lemmas.List.{append-nil}
 use Rattle.inf_unit.specs.Messages.{FileNames}
-use Rattle.inf_unit.specs.Tokens.{Spelled, is_end}
+use Rattle.inf_unit.specs.Tokens.{SourceToken, is_end}
 use Rattle.inf_unit.proofs.Cases.{of_both}
 use Rattle.inf_machine.specs.declared.symbols.Symbol.{Symbol}
 use Rattle.inf_machine.specs.Machine.{fits}
 use Rattle.inf_syntax.specs.declared.actions.Action.{Action}
 use Rattle.inf_grammar.specs.Language.{grammar, known}
 use Rattle.inf_conditionals.specs.Atoms.{atom_as}
-use Rattle.inf_work.specs.Actions.{Work, is_class, piece_begun as work_begun}
+use Rattle.inf_work.specs.Actions.{Compilation, is_class, piece_begun as work_begun}
 use Rattle.inf_reader.specs.Handing.{unfit_in}
 use Rattle.inf_reader.specs.Pieces.{BeginsPiece, at_hand, at_hand_by, work_by}
-use Rattle.inf_reader.specs.Reading.{Reading, Stand, bad, between, judged, piece_begun, read_at, step_in, took}
-use Rattle.inf_reader.specs.declared.mode.Mode.TheVariants as mode
+use Rattle.inf_reader.specs.Reading.{Reading, ReaderState, bad, between, judged, piece_begun, read_at, step_in, took}
+use Rattle.inf_reader.specs.declared.mode.Recovery.TheVariants as mode
 use Rattle.inf_laws.specs.KeptTokens.{Given, GoesBehind, Kept, Seen, Unfit, all_given_to, given_to, rests, seen_atom}
 use Rattle.inf_laws.specs.Skipping.{given_at}
 use Rattle.inf_laws.specs.Told.{IsAt, TokensAreTakenOrTold, UnfitTokensAreTold}
@@ -49,7 +49,7 @@ open_at tokens r (Skips others wrong behind e begun is_bad at) reads on =
     let same = ap (λ (x : Reading). x.mode) (sym at) ∙ reads in
     absurd (let never : true ≡ false = sym (ap rests at ∙ ap (λ m. rests (between m)) same) ∙ on in cc)
 
-some_at : (t : Seen) (tokens : List Seen) (s : Stand) → IsAt (t ∷ tokens) s → rests s.reading ≡ false → At (t ∷ tokens) s.reading
+some_at : (t : Seen) (tokens : List Seen) (s : ReaderState) → IsAt (t ∷ tokens) s → rests s.reading ≡ false → At (t ∷ tokens) s.reading
 some_at t tokens s at on =
     open_at (t ∷ tokens) s.reading
     (subst (λ (r : Reading). Now (map Kept (t ∷ tokens)) r) (sym at.is_read)
@@ -64,30 +64,30 @@ open_stack stack r reads e on empty =
 
 -- The token
 
-module _ (files : FileNames) (tokens : List Seen) (t : Seen) (r : Reading) (w : Work) (at : At tokens r) (is_seen : t.is_class ≡ is_class t.token w) where
+module _ (files : FileNames) (tokens : List Seen) (t : Seen) (r : Reading) (w : Compilation) (at : At tokens r) (is_seen : t.is_class ≡ is_class t.token w) where
   as_seen : (b : Bool) → fits grammar known (atom_as (is_class t.token w) t.token) r.stack ≡ b → fits grammar known (seen_atom t) r.stack ≡ b
   as_seen b f = ap (λ c. fits grammar known (atom_as c t.token) r.stack) is_seen ∙ f
 
   takes : BeginsPiece (map seen_atom (tokens ++ t ∷ [])) → judged files t.token r w ≡ took files t.token r w
   takes begun =
-      of_both (λ (x : Stand). x ≡ took files t.token r w) (fits grammar known (atom_as (is_class t.token w) t.token) r.stack) (took files t.token r w) (bad files t.token r w)
+      of_both (λ (x : ReaderState). x ≡ took files t.token r w) (fits grammar known (atom_as (is_class t.token w) t.token) r.stack) (took files t.token r w) (bad files t.token r w)
       (λ _. refl)
       (λ out. absurd (stops tokens r t at (as_seen false out) begun))
 
   tells : (BeginsPiece (map seen_atom (tokens ++ t ∷ [])) → ⊥) → judged files t.token r w ≡ bad files t.token r w
   tells none =
-      of_both (λ (x : Stand). x ≡ bad files t.token r w) (fits grammar known (atom_as (is_class t.token w) t.token) r.stack) (took files t.token r w) (bad files t.token r w)
+      of_both (λ (x : ReaderState). x ≡ bad files t.token r w) (fits grammar known (atom_as (is_class t.token w) t.token) r.stack) (took files t.token r w) (bad files t.token r w)
       (λ f. absurd (none (begins (tokens ++ t ∷ []) _ (goes tokens r t at (as_seen true f)))))
       (λ _. refl)
 
 -- how it comes to be judged
-comes : (files : FileNames) (t : Spelled) (stack : List (Symbol Action)) (r : Reading) (w : Work) → (is_end t.kind ≡ false) ⊎ (stack ≡ [] → ⊥)
+comes : (files : FileNames) (t : SourceToken) (stack : List (Symbol Action)) (r : Reading) (w : Compilation) → (is_end t.kind ≡ false) ⊎ (stack ≡ [] → ⊥)
     → read_at files t stack r w ≡ judged files t (at_hand_by stack r) (work_by stack w)
 comes files t [] r w (inl going) = ap (λ b. cond b (record { reading = record r { mode = mode.Ended }; work = w }) (judged files t (piece_begun r) (work_begun w))) going
 comes files t [] r w (inr some) = absurd (some refl)
 comes files t (symbol ∷ symbols) r w going = refl
 
-class_stays : (t : Spelled) (stack : List (Symbol Action)) (w : Work) → is_class t w ≡ is_class t (work_by stack w)
+class_stays : (t : SourceToken) (stack : List (Symbol Action)) (w : Compilation) → is_class t w ≡ is_class t (work_by stack w)
 class_stays t [] w = refl
 class_stays t (symbol ∷ symbols) w = refl
 
@@ -97,14 +97,14 @@ is_at_hand : (stack : List (Symbol Action)) (r : Reading) → (stack ≡ [] → 
 is_at_hand [] r some = absurd (some refl)
 is_at_hand (symbol ∷ symbols) r some = refl
 
-hand_at : (tokens : List Seen) (s : Stand) → IsAt tokens s → (tokens ≡ []) ⊎ (rests s.reading ≡ false) → At tokens (at_hand s.reading)
+hand_at : (tokens : List Seen) (s : ReaderState) → IsAt tokens s → (tokens ≡ []) ⊎ (rests s.reading ≡ false) → At tokens (at_hand s.reading)
 hand_at [] s at is_open = subst (λ (r : Reading). At [] (at_hand r)) (sym at.is_read) no_token
 hand_at (t ∷ tokens) s at (inl none) = cc
 hand_at (t ∷ tokens) s at (inr on) =
     subst (λ (r : Reading). At (t ∷ tokens) r) (sym (is_at_hand s.reading.stack s.reading (open_stack s.reading.stack s.reading at.reads refl on)))
     (some_at t tokens s at on)
 
-goes_by : (t : Spelled) (s : Stand) → s.reading.mode ≡ mode.Reads → (is_end t.kind ≡ false) ⊎ (rests s.reading ≡ false) → (is_end t.kind ≡ false) ⊎ (s.reading.stack ≡ [] → ⊥)
+goes_by : (t : SourceToken) (s : ReaderState) → s.reading.mode ≡ mode.Reads → (is_end t.kind ≡ false) ⊎ (rests s.reading ≡ false) → (is_end t.kind ≡ false) ⊎ (s.reading.stack ≡ [] → ⊥)
 goes_by t s reads (inl going) = inl going
 goes_by t s reads (inr on) = inr (open_stack s.reading.stack s.reading reads refl on)
 

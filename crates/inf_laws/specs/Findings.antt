@@ -6,10 +6,10 @@ use Rattle.inf_names.specs.Symbols.{Table, declare_fault, found_in}
 use Rattle.inf_names.specs.declared.symbols.Found.{Found}
 use Rattle.inf_names.specs.declared.symbols.Found.TheVariants as found
 use Rattle.inf_report.specs.Messages.{Declared, SystemName, TooMany}
-use Rattle.inf_report.specs.declared.messages.Countable.TheVariants as countable
-use Rattle.inf_symbol.specs.Spellings.{Name}
-use Rattle.inf_symbol.specs.Locals.{with_locals, no_locals}
-use Rattle.inf_unit.specs.Messages.{FileNames, Blame, location}
+use Rattle.inf_report.specs.declared.messages.FixedLimit.TheVariants as countable
+use Rattle.inf_sinks.specs.Spellings.{Name}
+use Rattle.inf_sinks.specs.Locals.{with_locals, no_locals}
+use Rattle.inf_unit.specs.Messages.{FileNames, Diagnostic, location}
 use Rattle.inf_work.specs.Findings.{header_fault, name_fault}
 
 -- What a rule finds: at which token of the unit, counted from 0, the unit's first; the number of the kind of its message; and
@@ -17,7 +17,7 @@ use Rattle.inf_work.specs.Findings.{header_fault, name_fault}
 pub record Finding : Type 0 where
   pub token : ℕ
   pub number : ℕ
-  pub blame : Blame
+  pub blame : Diagnostic
 
 -- by token, then by number
 abbrev pub IsBefore : Finding → Finding → Type 0
@@ -30,7 +30,7 @@ pub record IsLeast (f : Finding) (all : List Finding) : Type 0 where
   pub others_behind : (g : Finding) → Contains all g → (g ≡ f) ⊎ IsBefore f g
 
 -- Nothing is told where nothing was found, and else what the least finding says.
-abbrev pub IsTold : Option Blame → List Finding → Type 0
+abbrev pub IsTold : Option Diagnostic → List Finding → Type 0
 IsTold None all = all ≡ []
 IsTold (Some b) all = (f : Finding) × (f.blame ≡ b) × IsLeast f all
 

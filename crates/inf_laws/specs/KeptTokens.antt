@@ -1,30 +1,30 @@
 -- What reading makes of the tokens that conditionals hand on: of those of a piece the bad one is the first with which they begin none.
 use Rattle.std.specs.Prelude.{◌≡◌, ℕ, List, [], ◌∷◌, ◌++◌, map, Bool, true, false, ◌&&◌, ◌||◌, Option, Some, None, if◌then◌else◌}
 use Rattle.inf_unit.specs.Messages.{FileNames}
-use Rattle.inf_unit.specs.Tokens.{Spelled, is_end}
+use Rattle.inf_unit.specs.Tokens.{SourceToken, is_end}
 use Rattle.inf_scanner.specs.declared.tokens.TokenKind.{TokenKind}
 use Rattle.inf_syntax.specs.declared.actions.Action.{Action}
 use Rattle.inf_machine.specs.declared.symbols.Symbol.{Symbol}
 use Rattle.inf_machine.specs.Machine.{fits, taken}
 use Rattle.inf_grammar.specs.Language.{grammar, known}
 use Rattle.inf_conditionals.specs.Atoms.{atom_as}
-use Rattle.inf_conditionals.specs.declared.judged.Handed.{Handed}
-use Rattle.inf_conditionals.specs.declared.judged.Handed.TheVariants as handed
-use Rattle.inf_conditionals.specs.declared.judged.Judged.{Judged}
+use Rattle.inf_conditionals.specs.declared.judged.Forwarded.{Forwarded}
+use Rattle.inf_conditionals.specs.declared.judged.Forwarded.TheVariants as handed
+use Rattle.inf_conditionals.specs.declared.judged.Filtered.{Filtered}
 use Rattle.inf_conditionals.specs.declared.judged.Sign.{Sign}
-use Rattle.inf_work.specs.Actions.{Work, is_class}
+use Rattle.inf_work.specs.Actions.{Compilation, is_class}
 use Rattle.inf_reader.specs.Handing.{hash, is_empty, judged_taken, reads, sign_taken}
 use Rattle.inf_reader.specs.Pieces.{BeginsPiece, IsPiece}
-use Rattle.inf_reader.specs.Reading.{Reading, Stand, between, is_mode_ended, passed, piece_begun, skip_of}
-use Rattle.inf_reader.specs.declared.mode.Mode.{Mode}
-use Rattle.inf_reader.specs.declared.mode.Mode.TheVariants as mode
+use Rattle.inf_reader.specs.Reading.{Reading, ReaderState, between, is_mode_ended, passed, piece_begun, skip_of}
+use Rattle.inf_reader.specs.declared.mode.Recovery.{Recovery}
+use Rattle.inf_reader.specs.declared.mode.Recovery.TheVariants as mode
 use Rattle.inf_laws.specs.BadTokens.{skip_behind}
 
 -- What is handed on
 
 -- a token, and whether it is the name of a class that was declared before it
 pub record Seen : Type 0 where
-  pub token : Spelled
+  pub token : SourceToken
   pub is_class : Bool
 
 -- how the grammar sees it
@@ -35,27 +35,27 @@ seen_atom t = atom_as t.is_class t.token
 -- directives, and of sides that are left out, are not handed on.
 pub data Given : Type 0 where
   Kept : (token : Seen) → Given
-  Unfit : (token : Spelled) → Given
+  Unfit : (token : SourceToken) → Given
 
-abbrev pub token_in : Given → Spelled
+abbrev pub token_in : Given → SourceToken
 token_in (Kept t) = t.token
 token_in (Unfit t) = t
 
 -- what is handed on of a token, by what becomes of it: first a `#` that was held back before it
-abbrev pub given_as : Handed → Spelled → Work → List Given
+abbrev pub given_as : Forwarded → SourceToken → Compilation → List Given
 given_as handed.Kept t w = Kept (record { token = t; is_class = is_class t w }) ∷ []
 given_as handed.Unfit t w = Unfit t ∷ []
 given_as handed.Condition t w = []
 
-abbrev pub given_sign : Option Sign → Work → List Given
+abbrev pub given_sign : Option Sign → Compilation → List Given
 given_sign None w = []
 given_sign (Some sign) w = given_as sign.handed (hash sign.place) w
 
-abbrev pub given_token : Option Handed → Spelled → Work → List Given
+abbrev pub given_token : Option Forwarded → SourceToken → Compilation → List Given
 given_token None t w = []
 given_token (Some h) t w = given_as h t w
 
-abbrev pub given_of : FileNames → Judged → Spelled → Stand → List Given
+abbrev pub given_of : FileNames → Filtered → SourceToken → ReaderState → List Given
 given_of files j t s = given_sign j.sign s.work ++ given_token j.token t (sign_taken j.sign files s).work
 
 -- Reading alone
@@ -75,13 +75,13 @@ abbrev pub read_by : List (Symbol Action) → Seen → Reading → Reading
 read_by [] t r = if is_end t.token.kind then record r { mode = mode.Ended } else judged_by t (piece_begun r)
 read_by (_ ∷ _) t r = judged_by t r
 
-abbrev pub kept_by : Mode → Seen → Reading → Reading
+abbrev pub kept_by : Recovery → Seen → Reading → Reading
 kept_by mode.Reads t r = read_by r.stack t r
 kept_by mode.Ended t r = r
 kept_by skip t r = record r { mode = passed skip t.token.kind }
 
 -- one that does not fit its conditional directive is bad, and among those that are passed over one of them
-abbrev pub unfit_by : Mode → Spelled → Reading → Reading
+abbrev pub unfit_by : Recovery → SourceToken → Reading → Reading
 unfit_by mode.Reads t r = bad_by t.kind r
 unfit_by mode.Ended t r = r
 unfit_by skip t r = record r { mode = passed skip t.kind }
@@ -97,7 +97,7 @@ all_given_to (g ∷ given) r = all_given_to given (given_to g r)
 
 -- How reading goes on depends on nothing else: neither on what there is to tell, nor on what was compiled, but for which names are those of classes.
 abbrev pub TokensAreHandedOn : Type 0
-TokensAreHandedOn = (files : FileNames) (t : Spelled) (j : Judged) (s : Stand)
+TokensAreHandedOn = (files : FileNames) (t : SourceToken) (j : Filtered) (s : ReaderState)
     → (judged_taken files t j s).reading ≡ all_given_to (given_of files j t s) s.reading
 
 -- Pieces
@@ -121,7 +121,7 @@ IsBad tokens (Kept t) = BeginsPiece (map seen_atom (tokens ++ t ∷ [])) → ⊥
 IsBad tokens (Unfit t) = Unit {0}
 
 -- how reading goes on behind tokens that are passed over
-abbrev pub skipped : Mode → List Given → Mode
+abbrev pub skipped : Recovery → List Given → Recovery
 skipped m [] = m
 skipped m (g ∷ given) = skipped (passed m (token_in g).kind) given
 

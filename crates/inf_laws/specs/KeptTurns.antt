@@ -1,10 +1,10 @@
 -- The tokens that the turns of a whole reading hand on, with the files that include one another.
 use Rattle.std.specs.Prelude.{◌≡◌, ℕ, zero, suc, List, [], ◌++◌, false}
-use Rattle.inf_token.specs.Files.{Sources}
+use Rattle.inf_files.specs.Files.{Sources}
 use Rattle.inf_conditionals.specs.Judging.{judged}
 use Rattle.inf_reader.specs.Handing.{said_told, site_of}
 use Rattle.inf_reader.specs.Reading.{between, is_mode_ended}
-use Rattle.inf_reader.specs.declared.mode.Mode.TheVariants as mode
+use Rattle.inf_reader.specs.declared.mode.Recovery.TheVariants as mode
 use Rattle.inf_session.specs.Choices.{Choices}
 use Rattle.inf_session.specs.Session.{State, stand_of, stepped, token_of, turn}
 use Rattle.inf_laws.specs.KeptTokens.{Given, GoesOn, Stands, given_of}

@@ -6,32 +6,32 @@ use Rattle.inf_scanner.specs.declared.tokens.Mark.TheVariants as mark
 use Rattle.inf_scanner.specs.declared.tokens.TokenKind.{TokenKind}
 use Rattle.inf_unit.specs.Messages.{FileNames}
 use Rattle.inf_unit.specs.Tokens.{is_end, is_mark}
-use Rattle.inf_conditionals.specs.declared.judged.Handed.TheVariants as handed
+use Rattle.inf_conditionals.specs.declared.judged.Forwarded.TheVariants as handed
 use Rattle.inf_reader.specs.Handing.{handed_as, skips}
-use Rattle.inf_reader.specs.Reading.{Stand, passed}
-use Rattle.inf_reader.specs.declared.mode.Mode.{Mode}
-use Rattle.inf_reader.specs.declared.mode.Mode.TheVariants as mode
+use Rattle.inf_reader.specs.Reading.{ReaderState, passed}
+use Rattle.inf_reader.specs.declared.mode.Recovery.{Recovery}
+use Rattle.inf_reader.specs.declared.mode.Recovery.TheVariants as mode
 use Rattle.inf_laws.specs.KeptTokens.{Given, Kept, Unfit, skipped, token_in}
 
 -- One token
 
 -- what is read, and what was compiled, behind one that is handed on
-abbrev pub given_at : FileNames → Given → Stand → Stand
+abbrev pub given_at : FileNames → Given → ReaderState → ReaderState
 given_at files (Kept t) s = handed_as handed.Kept files t.token s
 given_at files (Unfit t) s = handed_as handed.Unfit files t s
 
 -- the same, but for how the next token is read
-abbrev pub at : Mode → Stand → Stand
+abbrev pub at : Recovery → ReaderState → ReaderState
 at m s = record s { reading = record s.reading { mode = m } }
 
 -- One that is passed over changes nothing else: nothing is told of it, and nothing is compiled.
 abbrev pub PassedTokensDoNothing : Type 0
-PassedTokensDoNothing = (files : FileNames) (g : Given) (s : Stand) → skips s.reading.mode ≡ true
+PassedTokensDoNothing = (files : FileNames) (g : Given) (s : ReaderState) → skips s.reading.mode ≡ true
     → given_at files g s ≡ at (passed s.reading.mode (token_in g).kind) s
 
 -- the end of a source ends what is passed over
 abbrev pub SourcesEnd : Type 0
-SourcesEnd = (m : Mode) (token : TokenKind) → is_end token ≡ true → passed m token ≡ mode.Ended
+SourcesEnd = (m : Recovery) (token : TokenKind) → is_end token ≡ true → passed m token ≡ mode.Ended
 
 -- The tokens of a piece
 
@@ -40,7 +40,7 @@ abbrev pub Lack : Mark → List Given → Type 0
 Lack m given = list_all (λ g. not (is_mark m (token_in g).kind || is_end (token_in g).kind)) given ≡ true
 
 -- from here tokens are passed over in one way up to a mark, which these lack, and in another way behind it
-pub record PassesTo (before after : Mode) (inside : List Given) (m : Given) : Type 0 where
+pub record PassesTo (before after : Recovery) (inside : List Given) (m : Given) : Type 0 where
   pub stays : (n : ℕ) → n ≤ length inside → skipped before (take n inside) ≡ before
   pub ends : (behind : List Given) → skipped before (inside ++ m ∷ behind) ≡ skipped after behind
 

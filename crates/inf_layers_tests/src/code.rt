@@ -2,7 +2,7 @@
 
 use crate::expecting::expect;
 use inf_area::{AddFault, Area, AreaName, Fixup, PagedArea, Refs, Target};
-use inf_assembler::{CloseFault, GrowFault, RoutineKind, Setting};
+use inf_assembler::{CloseFault, GrowFault, Limit, RoutineKind};
 use inf_cells::Scale;
 use inf_code::code::{Code, CodeLimits};
 use inf_opcode::{Branch, Destination, Instruction, Label, Opcode, Operand};
@@ -38,12 +38,12 @@ enum Addition {
 enum Step {
     Adds(Addition),
     /// This is refused, as it would pass a limit.
-    Refuses(Addition, Setting),
+    Refuses(Addition, Limit),
     /// The end of a routine is refused for this.
     Fails(CloseFault),
     GivesUp,
     /// Code begins, or would pass this limit.
-    Begins(Option<Setting>),
+    Begins(Option<Limit>),
     /// Behind the first routine the finished ones have so many bytes.
     Len(usize),
     /// With the first routine there are so many bytes, and so many references.
@@ -374,7 +374,7 @@ const LIMITED: [(&str, usize, usize, &[Step]); 13] = [
         &[
             Adds(Open(1)),
             Adds(Call(1)),
-            Refuses(Close, Setting::Code),
+            Refuses(Close, Limit::Code),
             Counts(8, 5),
         ],
     ),
@@ -388,13 +388,13 @@ const LIMITED: [(&str, usize, usize, &[Step]); 13] = [
         "the first routine takes bytes",
         7,
         4,
-        &[Begins(Some(Setting::Code)), Refuses(Open(0), Setting::Code)],
+        &[Begins(Some(Limit::Code)), Refuses(Open(0), Limit::Code)],
     ),
     (
         "the first routine takes a reference",
         9,
         4,
-        &[Begins(Some(Setting::Refs)), Refuses(Open(0), Setting::Refs)],
+        &[Begins(Some(Limit::Refs)), Refuses(Open(0), Limit::Refs)],
     ),
     (
         "the end of a routine takes a byte",
@@ -404,7 +404,7 @@ const LIMITED: [(&str, usize, usize, &[Step]); 13] = [
             Adds(Open(1)),
             Adds(Call(1)),
             Leaves(Some(3), Some(0), Some(94)),
-            Refuses(Close, Setting::Code),
+            Refuses(Close, Limit::Code),
             Len(0),
         ],
     ),
@@ -425,7 +425,7 @@ const LIMITED: [(&str, usize, usize, &[Step]); 13] = [
         8,
         100,
         &[
-            Refuses(Open(0), Setting::Code),
+            Refuses(Open(0), Limit::Code),
             Begins(None),
             Adds(Open(0)),
             Leaves(Some(3), None, Some(95)),
@@ -474,7 +474,7 @@ const LIMITED: [(&str, usize, usize, &[Step]); 13] = [
             Adds(Open(1)),
             Adds(Call(1)),
             Leaves(Some(3), None, None),
-            Refuses(Close, Setting::Code),
+            Refuses(Close, Limit::Code),
             Leaves(Some(3), Some(5), Some(0)),
         ],
     ),

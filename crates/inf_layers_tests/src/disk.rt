@@ -1,7 +1,7 @@
 use crate::expecting::expect;
 use inf_disk::disk::{DiskFiles, OutputSink, StoryPlace, StorySink};
-use inf_symbol::sinks::{Sink, SinkFault, write_whole};
-use inf_token::files::{Files, OpenFault, ReadFault};
+use inf_files::files::{Files, OpenFault, ReadFault};
+use inf_sinks::sinks::{Sink, SinkFault, write_whole};
 use std::io::{self, ErrorKind};
 use std::process::Abort;
 use std::rt;

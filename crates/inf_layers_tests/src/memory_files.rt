@@ -1,8 +1,8 @@
 ghost use Rattle.std.specs.Prelude.{◌≡◌, ◌<◌, ◌+◌, is_ok, length, if◌then◌else◌};
 
 use crate::expecting::expect;
-use inf_token::files::{Files, OpenFault};
-use inf_token::memory_files::MemoryFiles;
+use inf_files::files::{Files, OpenFault};
+use inf_files::memory_files::MemoryFiles;
 use std::alloc::Global;
 use std::collections::BTreeMap;
 use std::process::Abort;

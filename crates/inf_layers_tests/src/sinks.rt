@@ -1,8 +1,8 @@
 ghost use Rattle.std.specs.Prelude.{None};
 
 use crate::expecting::expect;
-use inf_symbol::memory_sink::MemorySink;
-use inf_symbol::sinks::{Sink, SinkFault, write_whole};
+use inf_sinks::memory_sink::MemorySink;
+use inf_sinks::sinks::{Sink, SinkFault, write_whole};
 use std::process::Abort;
 
 /// Takes one byte a write.

@@ -3,7 +3,7 @@ use Rattle.std.proofs.Common.{◌≡◌, ◌≤◌, ◌<◌, ◌⊎◌, inl, inr
 use Rattle.std.specs.Prelude.{slice_get, IsSome}
 use Rattle.std.specs.List.{list_any}
 use Rattle.std.proofs.lemmas.Bool.{cond-false, ne_eqb, or_left, or_right, or_cases, le-leb}
-use Rattle.inf_token.specs.Files.{Closes, Opening, Sources, Openings, Rose, opened}
+use Rattle.inf_files.specs.Files.{Closes, Opening, Sources, Openings, Rose, opened}
 use Rattle.inf_lexer.specs.Entering.{ClosedAgain, Enters, IsEntered, Leaves, first_there, has_one_too_many, is_absent, with_opened, with_closed}
 use Rattle.inf_lexer.specs.Names.{Nest, behind_sign, candidates, has_sign, name_beside, name_in, names_in, number_of}
 use Rattle.inf_lexer.specs.Readers.{Reader}

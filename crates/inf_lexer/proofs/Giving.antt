@@ -3,7 +3,7 @@ use Rattle.std.proofs.Common.{◌≡◌, ℕ, suc, ◌+◌, ◌-◌, ◌≤◌, 
 use Rattle.std.specs.Prelude.{slice_get, slice_set}
 use Rattle.std.proofs.lemmas.List.{length-set, drop-take, drop-drop, take-append-le}
 use Rattle.std.proofs.Math.Seq.{get_or-append_seam}
-use Rattle.inf_token.specs.Files.{Opening, Openings, Sources, GivesInnermost, opened, after_bytes}
+use Rattle.inf_files.specs.Files.{Opening, Openings, Sources, GivesInnermost, opened, after_bytes}
 use Rattle.inf_lexer.specs.Unread.{innermost_place, innermost, unread_of, unread, Gave, View, ReadsOn}
 
 -- no bytes

@@ -1,7 +1,7 @@
 -- What each token takes of its source, with any reader.
 use Rattle.std.proofs.Common.{◌≡◌, ◌⊎◌, inl, inr, ℕ, ◌+◌, ◌<◌, List, [], ◌∷◌, ◌++◌, length, Bool, true, false, refl, sym, ap, ◌∙◌, arith, append-nil, length-append}
 use Rattle.inf_characters.specs.declared.characters.CharSet.{CharSet}
-use Rattle.inf_token.specs.Files.{Sources, Openings}
+use Rattle.inf_files.specs.Files.{Sources, Openings}
 use Rattle.inf_lexer.specs.Readers.{Took}
 use Rattle.inf_lexer.specs.Unread.{View, Heard}
 use Rattle.inf_scanner.proofs.TokenLaws.{runs_are_short, tokens_take_bytes}

@@ -1,6 +1,6 @@
 //! The tokens of an open source, one after another.
 ghost use Rattle.std.specs.Prelude.{◌≡◌, ◌+◌, ◌-◌, ◌<◌, ◌≤◌, ◌⊎◌, [], false, true, length, min, is_err, IsTrue, IsErrOf, IfOk, OnOk, Err};
-ghost use Rattle.inf_token.specs.Files.{Rose, last_count};
+ghost use Rattle.inf_files.specs.Files.{Rose, last_count};
 ghost use Rattle.inf_lexer.specs.Unread.{Along, Ends, Heard, StillGives, to_come, unread};
 ghost use Rattle.inf_scanner.specs.Scanning.{Found, begun, find, is_quoted, sight};
 ghost use Rattle.inf_scanner.specs.Tokens.{Read, next_token};
@@ -8,9 +8,9 @@ ghost use Rattle.inf_lexer.specs.Readers.{StaysUnfinished, Took, at_front, read_
 
 use crate::faults::LexFault;
 use crate::window::Window;
+use inf_files::files::Files;
 use inf_scanner::{Ending, Place, Seen, State, Token, Turn, kind_of};
 use inf_text::CharSet;
-use inf_token::files::Files;
 use std::alloc::{AllocError, Global};
 use std::marker::Model;
 

@@ -2,7 +2,7 @@
 ghost use Rattle.std.specs.Prelude.{◌≡◌, ◌+◌, ◌<◌, ◌≤◌, ◌⊎◌, ◌∷◌, [], true, false, length, map, min, if◌then◌else◌, slice_get, nat_le, is_ok, IsTrue, IsErrOf, IfOk, OnErr, Err};
 ghost use Rattle.std.specs.Option.{option_copied};
 ghost use Rattle.std.specs.String.{string_bytes};
-ghost use Rattle.inf_token.specs.Files.{Rose, Closes, last_count};
+ghost use Rattle.inf_files.specs.Files.{Rose, Closes, last_count};
 ghost use Rattle.inf_lexer.specs.Names.{can_name, candidates, innermost_name, left, name_in, number_of};
 ghost use Rattle.inf_lexer.specs.Entering.{Enters, Leaves, WasTooMany, is_absent, is_of_opening};
 
@@ -11,8 +11,8 @@ use crate::include_names::{fit_name, name_beside, name_in, without_sign};
 use crate::lexer::Lexer;
 use arrayvec::ArrayVec;
 use indexmap::IndexSet;
+use inf_files::files::{Files, OpenFault};
 use inf_text::CharSet;
-use inf_token::files::{Files, OpenFault};
 use std::alloc::Global;
 use std::marker::Model;
 

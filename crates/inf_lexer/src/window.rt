@@ -1,10 +1,10 @@
 //! A source seen through a window.
 ghost use Rattle.std.specs.Prelude.{◌≡◌, ◌+◌, ◌-◌, ◌<◌, ◌≤◌, ◌^◌, ◌⊎◌, ◌∷◌, [], drop, length, min, false, true, IsTrue, IsErr, IfOk, IfErr};
-ghost use Rattle.inf_token.specs.Files.{Rose, last_count};
+ghost use Rattle.inf_files.specs.Files.{Rose, last_count};
 ghost use Rattle.inf_lexer.specs.Unread.{Ends, ReadsOn, StillGives};
 
 use crate::faults::LexFault;
-use inf_token::files::Files;
+use inf_files::files::Files;
 use std::marker::Model;
 
 /// The most bytes that a source may have.

@@ -1,10 +1,10 @@
 //! A reader of files that gives few bytes, pauses, fails or does not end.
 ghost use Rattle.std.specs.Prelude.{◌≡◌, ◌<◌, ◌≤◌, None, [], false, length, IfOk};
 
-use inf_token::failures::Failures;
-use inf_token::files::{Files, OpenFault, ReadFault};
-use inf_token::given_bytes::GivenBytes;
-use inf_token::memory_files::MemoryFiles;
+use inf_files::failures::Failures;
+use inf_files::files::{Files, OpenFault, ReadFault};
+use inf_files::given_bytes::GivenBytes;
+use inf_files::memory_files::MemoryFiles;
 
 /// How a reader gives its bytes.
 #[derive(Clone, Copy)]

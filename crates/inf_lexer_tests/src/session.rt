@@ -1,9 +1,9 @@
 //! What commands do.
 use crate::metered::{Metered, Pace};
 use crate::words::{bytes_of, number, word};
+use inf_files::memory_files::MemoryFiles;
 use inf_lexer::{EnterFault, LexFault, Lexer, Stack, Token, TokenKind};
 use inf_text::CharSet;
-use inf_token::memory_files::MemoryFiles;
 use std::alloc::{AllocError, Global};
 use std::collections::BTreeMap;
 use std::str;

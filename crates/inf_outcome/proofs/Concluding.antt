@@ -1,9 +1,9 @@
 -- What is written up to the end of a compilation, or up to where it was given up.
 use Rattle.std.proofs.Common.{◌≡◌, ◌⊎◌, ℕ, zero, ◌+◌, ◌-◌, ◌<◌, ◌≤◌, List, [], ◌∷◌, ◌++◌, length, length-append, map, min, reverse, get_or, unwrap_or, cond, drop, Bool, true, false, Option, Some, None, arith, Result, Ok, Err, IfOk, IfErr, OnErr, inl, inr, refl, sym, ap, subst, ◌∙◌, append_assoc}
-use Rattle.inf_token.specs.Files.{Opening, Openings, Sources, last_count, opened}
-use Rattle.inf_token.specs.declared.files.Files.{Ghosts as Files}
+use Rattle.inf_files.specs.Files.{Opening, Openings, Sources, last_count, opened}
+use Rattle.inf_files.specs.declared.files.Files.{Ghosts as Files}
 use Rattle.inf_characters.specs.declared.characters.CharSet.{CharSet}
-use Rattle.inf_symbol.specs.Sinks.{Takes}
+use Rattle.inf_sinks.specs.Sinks.{Takes}
 use Rattle.inf_lexer.specs.Readers.{Reader, at_front}
 use Rattle.inf_lexer.specs.Unread.{View, innermost, innermost_place, unread as unread_now, unread_of}
 use Rattle.inf_sources.specs.Calls.{IsUnreadable, Kept, Went, given_all, given_to}
@@ -12,11 +12,11 @@ use Rattle.inf_sources.specs.Inclusions.{Nesting, main_opened}
 use Rattle.inf_sources.specs.Open.{AllGiven, AreNested, AreTracked, Each, Fits, IsCounted, IsFrontOf, IsGiven, IsNested, Open, closed_to, cursor_of, cursors_at, files_of, nesting, opened_since, rest_of}
 use Rattle.inf_sources.proofs.Places.{files_are, innermost_of, last_of}
 use Rattle.inf_conditionals.specs.Open.{Conditions, no_conditions}
-use Rattle.inf_reader.specs.Reading.{Stand}
+use Rattle.inf_reader.specs.Reading.{ReaderState}
 use Rattle.inf_reader.specs.Standing.{standing}
 use Rattle.inf_session.specs.Choices.{Choices, most_quoted}
 use Rattle.inf_session.specs.Delivered.{Delivers, TakesFront}
-use Rattle.inf_session.specs.Ending.{Ending, finished}
+use Rattle.inf_session.specs.Ending.{Outcome, finished}
 use Rattle.inf_session.specs.Faults.{Caused, IfRead}
 use Rattle.inf_session.specs.Leading.{CutsShort, GivenUp, IsFront, OpensAll, StopsAtInclusion, StopsFor, StopsInToken, Writes}
 use Rattle.inf_session.specs.Session.{IsRead, State, begun_with, has_ended, run, start, stepped}
@@ -110,11 +110,11 @@ if_ok_both (Err fault) P Q p q = tt
 
 -- A main source that is there
 
-outcome_of : (x : Option (List ℕ)) (s : Sources) (o : Choices) (serial name : List ℕ) (e : Ending) → (x ≡ None → ⊥) → IsCompiled s o serial name e → IsOutcomeOf x s o serial name e
+outcome_of : (x : Option (List ℕ)) (s : Sources) (o : Choices) (serial name : List ℕ) (e : Outcome) → (x ≡ None → ⊥) → IsCompiled s o serial name e → IsOutcomeOf x s o serial name e
 outcome_of None s o serial name e there c = absurd (there refl)
 outcome_of (Some source) s o serial name e there c = c
 
-compiled_of : (x : Option (List ℕ)) (s : Sources) (o : Choices) (serial name : List ℕ) (e : Ending) → (x ≡ None → ⊥) → IsOutcomeOf x s o serial name e → IsCompiled s o serial name e
+compiled_of : (x : Option (List ℕ)) (s : Sources) (o : Choices) (serial name : List ℕ) (e : Outcome) → (x ≡ None → ⊥) → IsOutcomeOf x s o serial name e → IsCompiled s o serial name e
 compiled_of None s o serial name e there c = absurd (there refl)
 compiled_of (Some source) s o serial name e there c = c
 
@@ -209,7 +209,7 @@ begins_of s o serial name was before after there begun k = record {
   takes = k.takes;
   begins = λ e outcome.
       let c = compiled_of (s name) s o serial name e there outcome in
-      subst (λ (x : Ending). IsFront k.front x.messages) (sym c.is_ending)
+      subst (λ (x : Outcome). IsFront k.front x.messages) (sym c.is_ending)
       (k.begins c.final (subst (λ (x : State). IsRead s o x c.final) (sym begun) c.is_read));
 }
 
@@ -221,12 +221,12 @@ begun_is s o name old now x files at going none unquoted =
     let front = begun_with o main.names in
     let stands : standing x.progress ≡ front = at ∙ ap (λ (n : Nesting). begun_with o n.names) files in
     ap (λ (n : Nesting). made n x.conditionals (standing x.progress) x.is_over x.quoted) files
-    ∙ ap (λ (p : Stand). made main x.conditionals p x.is_over x.quoted) stands
+    ∙ ap (λ (p : ReaderState). made main x.conditionals p x.is_over x.quoted) stands
     ∙ ap (λ (b : Bool). made main x.conditionals front b x.quoted) going
     ∙ ap (λ (c : Conditions). made main c front false x.quoted) none
     ∙ ap (λ (n : ℕ). made main (no_conditions o.settings) front false n) unquoted
   where
-    made : Nesting → Conditions → Stand → Bool → ℕ → State
+    made : Nesting → Conditions → ReaderState → Bool → ℕ → State
     made n c p b q = record { nesting = n; conditions = c; reading = p.reading; work = p.work; told = []; is_over = b; quoted = q }
 
 -- Where reading was given up

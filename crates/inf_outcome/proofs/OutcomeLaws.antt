@@ -1,14 +1,14 @@
 -- One outcome.
 use Rattle.std.proofs.Common.{◌≡◌, ℕ, List, Option, Some, None, sym, ap, ◌∙◌}
-use Rattle.inf_token.specs.Files.{Sources}
+use Rattle.inf_files.specs.Files.{Sources}
 use Rattle.inf_session.specs.Choices.{Choices}
 use Rattle.inf_outcome.specs.OutcomeLaws.{OutcomesAreUnique}
-use Rattle.inf_session.specs.Ending.{Ending}
+use Rattle.inf_session.specs.Ending.{Outcome}
 use Rattle.inf_outcome.specs.Outcome.{IsCompiled, IsOutcomeOf, ending_of}
 use Rattle.inf_session.specs.Session.{State, has_ended, start}
 use Rattle.inf_session.proofs.Leadings.{same_end}
 
-same_final : (s : Sources) (o : Choices) (serial name : List ℕ) (e f : Ending) → IsCompiled s o serial name e → IsCompiled s o serial name f → e ≡ f
+same_final : (s : Sources) (o : Choices) (serial name : List ℕ) (e f : Outcome) → IsCompiled s o serial name e → IsCompiled s o serial name f → e ≡ f
 same_final s o serial name e f a b =
     let final : a.final ≡ b.final =
     sym a.is_read.leads
@@ -16,7 +16,7 @@ same_final s o serial name e f a b =
     ∙ b.is_read.leads in
     a.is_ending ∙ ap (λ (x : State). ending_of serial x) final ∙ sym b.is_ending
 
-same_outcome : (x : Option (List ℕ)) (s : Sources) (o : Choices) (serial name : List ℕ) (e f : Ending) → IsOutcomeOf x s o serial name e → IsOutcomeOf x s o serial name f → e ≡ f
+same_outcome : (x : Option (List ℕ)) (s : Sources) (o : Choices) (serial name : List ℕ) (e f : Outcome) → IsOutcomeOf x s o serial name e → IsOutcomeOf x s o serial name f → e ≡ f
 same_outcome None s o serial name e f a b = a ∙ sym b
 same_outcome (Some source) s o serial name e f a b = same_final s o serial name e f a b
 

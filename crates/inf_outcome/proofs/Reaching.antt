@@ -4,7 +4,7 @@ use Rattle.std.proofs.Common.{◌≡◌, ◌⊎◌, inl, inr, ℕ, zero, suc, �
 use Rattle.std.proofs.lemmas.Bool.{leb-false}
 use Rattle.inf_scanner.proofs.TokenLaws.{tokens_take_bytes}
 use Rattle.inf_scanner.specs.declared.tokens.Place.{Place}
-use Rattle.inf_token.specs.Files.{Sources}
+use Rattle.inf_files.specs.Files.{Sources}
 use Rattle.inf_lexer.specs.Entering.{first_there}
 use Rattle.inf_lexer.specs.Names.{can_name, candidates}
 use Rattle.inf_sources.specs.Cursors.{Cursor, read}
@@ -12,13 +12,13 @@ use Rattle.inf_sources.specs.Inclusions.{Inclusion, Nesting, Opens, OpensNone, b
 use Rattle.inf_sources.specs.declared.open_files.Included.{Included}
 use Rattle.inf_sources.specs.declared.open_files.Included.TheVariants as included
 use Rattle.inf_unit.proofs.Cases.{of_both}
-use Rattle.inf_unit.specs.Directives.{Asked, Nothing, Include, End}
+use Rattle.inf_unit.specs.Directives.{Request, Nothing, Include, End}
 use Rattle.inf_conditionals.specs.Judging.{judged}
 use Rattle.inf_reader.specs.Handing.{said_told, site_of}
 use Rattle.inf_reader.specs.Reading.{is_mode_ended}
 use Rattle.inf_session.specs.Choices.{Choices}
-use Rattle.inf_session.specs.Ending.{Ending, missing}
-use Rattle.inf_session.specs.Session.{State, answered, asked_nothing, file_closed, followed, has_ended, heeded, included_by, is_resting, left, left_by, none_included, piece_closed, rested, run, stand_of, start, stepped, token_of, turn}
+use Rattle.inf_session.specs.Ending.{Outcome, missing}
+use Rattle.inf_session.specs.Session.{State, answered, asked_nothing, file_closed, followed, has_ended, carried_out, included_by, is_resting, left, left_by, none_included, piece_closed, rested, run, stand_of, start, stepped, token_of, turn}
 use Rattle.inf_session.proofs.Leadings.{run_going, run_sum}
 use Rattle.inf_session.proofs.Stepping.{end_ends}
 use Rattle.inf_outcome.specs.Outcome.{IsOutcomeOf, ending_of}
@@ -77,16 +77,16 @@ included_goes was sources o unit text (Opens name) s e same less =
 included_goes was sources o unit text (OpensNone why) s e same less =
     inr (subst (λ (n : Nesting). Moves was n) (sym (none_stays unit text why s)) (Stays same less))
 
-answered_goes : (was : Nesting) (a : Asked) (sources : Sources) (o : Choices) (s : State) → s.nesting.waiting ≡ was.waiting → length s.nesting.cursor.rest < length was.cursor.rest
+answered_goes : (was : Nesting) (a : Request) (sources : Sources) (o : Choices) (s : State) → s.nesting.waiting ≡ was.waiting → length s.nesting.cursor.rest < length was.cursor.rest
     → Goes was (answered a sources o s)
 answered_goes was (Include text unit) sources o s same less = included_goes was sources o unit text (inclusion sources o.directories text s.nesting) s refl same less
 answered_goes was End sources o s same less = inl refl
 answered_goes was Nothing sources o s same less = inr (Stays same less)
 
 -- what is asked is done, behind a token that takes something or ends the file
-heeded_goes : (was : Nesting) (sources : Sources) (o : Choices) (s : State) → s.nesting.waiting ≡ was.waiting
-    → (is_mode_ended s.reading.mode ≡ true) ⊎ (length s.nesting.cursor.rest < length was.cursor.rest) → Goes was (heeded sources o s)
-heeded_goes was sources o s same took =
+carried_out_goes : (was : Nesting) (sources : Sources) (o : Choices) (s : State) → s.nesting.waiting ≡ was.waiting
+    → (is_mode_ended s.reading.mode ≡ true) ⊎ (length s.nesting.cursor.rest < length was.cursor.rest) → Goes was (carried_out sources o s)
+carried_out_goes was sources o s same took =
     of_both (Goes was) s.work.report.counts.is_over s _ (λ over. inl (over_ends s over))
     (λ _. of_both (Goes was) (is_mode_ended s.reading.mode) (left s) (answered s.work.asked sources o (asked_nothing s)) (λ e. left_goes was s.nesting.waiting s (sym same) e)
     (λ reads. elim took as (λ _. Goes was (answered s.work.asked sources o (asked_nothing s))) [
@@ -118,7 +118,7 @@ stepped_takes s =
 
 turn_goes : (sources : Sources) (o : Choices) (s : State) → Goes s.nesting (turn sources o s)
 turn_goes sources o s =
-    elim (rested_goes s.nesting (heeded sources o (stepped s)) (heeded_goes s.nesting sources o (stepped s) refl (stepped_takes s))) as (λ _. Goes s.nesting (turn sources o s)) [
+    elim (rested_goes s.nesting (carried_out sources o (stepped s)) (carried_out_goes s.nesting sources o (stepped s) refl (stepped_takes s))) as (λ _. Goes s.nesting (turn sources o s)) [
       | inl e ↦ inl e
       | inr m ↦ inr m
     ]
@@ -203,14 +203,14 @@ reach sources o (suc room) n = by_rest sources o (suc room) (λ inner is m. subs
 
 -- An outcome
 
-outcome_by : (x : Option (List ℕ)) (sources : Sources) (o : Choices) (serial name : List ℕ) → (e : Ending) × IsOutcomeOf x sources o serial name e
+outcome_by : (x : Option (List ℕ)) (sources : Sources) (o : Choices) (serial name : List ℕ) → (e : Outcome) × IsOutcomeOf x sources o serial name e
 outcome_by None sources o serial name = (missing name, refl)
 outcome_by (Some source) sources o serial name = by (reach sources o 15 (suc (length first.nesting.cursor.rest)) first (omega arith) (omega arith))
   where
     first : State
     first = start sources o name
 
-    by : Reaches sources o first [] → (e : Ending) × IsOutcomeOf (Some source) sources o serial name e
+    by : Reaches sources o first [] → (e : Outcome) × IsOutcomeOf (Some source) sources o serial name e
     by (turns, inl e) = (
       ending_of serial (run sources o turns first),
       record { final = run sources o turns first; is_read = record { turns = turns; leads = refl; ends = e }; is_ending = refl },

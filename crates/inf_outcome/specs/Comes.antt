@@ -1,8 +1,8 @@
 -- What a compilation writes, answers and opens.
 use Rattle.std.specs.Prelude.{◌≡◌, ℕ, ◌+◌, ◌-◌, ◌<◌, ◌≤◌, ◌⊎◌, List, [], ◌∷◌, get_or, slice_get, unwrap_or, length, map, drop, false, Option, Some, None, min}
-use Rattle.inf_token.specs.Files.{Opening, Openings, Rose, Sources, last_count, opened}
-use Rattle.inf_token.specs.declared.files.Files.{Ghosts as Files}
-use Rattle.inf_symbol.specs.Sinks.{Takes}
+use Rattle.inf_files.specs.Files.{Opening, Openings, Rose, Sources, last_count, opened}
+use Rattle.inf_files.specs.declared.files.Files.{Ghosts as Files}
+use Rattle.inf_sinks.specs.Sinks.{Takes}
 use Rattle.inf_session.specs.Choices.{Choices}
 use Rattle.inf_lexer.specs.Unread.{unread_of}
 use Rattle.inf_session.specs.Leading.{IsFront, StopsAtInclusion}
@@ -10,7 +10,7 @@ use Rattle.inf_sources.specs.Cursors.{Cursor, Unfinished}
 use Rattle.inf_sources.specs.Inclusions.{Nesting, innermost_name}
 use Rattle.inf_sources.specs.Open.{Each, IsFrontOf, IsGiven, IsNested, Open, nesting, opened_since}
 use Rattle.inf_session.specs.Delivered.{Delivers}
-use Rattle.inf_session.specs.Ending.{Ending}
+use Rattle.inf_session.specs.Ending.{Outcome}
 use Rattle.inf_outcome.specs.Outcome.{IsOutcome, ending_of}
 use Rattle.inf_session.specs.Session.{IsRead, State, has_ended, run, start, stepped}
 use Rattle.inf_session.specs.declared.compiled.Compiled.{Compiled}
@@ -66,7 +66,7 @@ OpenedPart sources o name old new = (new ≡ old) ⊎ OpenedSome sources o name 
 
 -- What was written, answered and opened is what comes of the main source of this name.
 pub record Comes (sources : Sources) (o : Choices) (serial name : List ℕ) (old new : Openings) (before after : Option (List ℕ)) (c : Compiled) : Type 0 where
-  pub ending : Ending
+  pub ending : Outcome
   pub is_outcome : IsOutcome sources o serial name ending
   pub delivers : Delivers ending c before after
   pub opened : OpenedBy (sources name) sources o name old new
@@ -75,7 +75,7 @@ pub record Comes (sources : Sources) (o : Choices) (serial name : List ℕ) (old
 pub record Begins (sources : Sources) (o : Choices) (serial name : List ℕ) (before after : Option (List ℕ)) : Type 0 where
   pub front : List ℕ
   pub takes : Takes before after front
-  pub begins : (e : Ending) → IsOutcome sources o serial name e → IsFront front e.messages
+  pub begins : (e : Outcome) → IsOutcome sources o serial name e → IsFront front e.messages
 
 -- Reading went on from here to its end, and story, status and messages are those of its ending; these files are still open.
 pub record Concludes (sources : Sources) (o : Choices) (serial : List ℕ) (s : State) (start now : Openings) (f : Open) (before after : Option (List ℕ)) (c : Compiled) : Type 0 where

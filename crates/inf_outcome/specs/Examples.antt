@@ -5,7 +5,7 @@ use Rattle.inf_characters.specs.declared.characters.CharSet.TheVariants as set
 use Rattle.inf_link.specs.Header.{number_bytes}
 use Rattle.inf_link.specs.StoryLaws.{HasAt}
 use Rattle.inf_settings.specs.Settings.{defaults}
-use Rattle.inf_token.specs.Files.{Sources}
+use Rattle.inf_files.specs.Files.{Sources}
 use Rattle.inf_session.specs.Choices.{Choices}
 use Rattle.inf_outcome.specs.Outcome.{IsOutcome}
 use Rattle.inf_session.specs.declared.compiled.Status.TheVariants as status

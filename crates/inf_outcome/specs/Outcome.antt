@@ -1,24 +1,24 @@
 -- What comes of a compilation: the lines of its messages, its story or none, and its status.
 use Rattle.std.specs.Prelude.{◌≡◌, ℕ, List, ◌++◌, Option, Some, None}
-use Rattle.inf_token.specs.Files.{Sources}
+use Rattle.inf_files.specs.Files.{Sources}
 use Rattle.inf_session.specs.Choices.{Choices}
-use Rattle.inf_session.specs.Ending.{Ending, finished, missing}
+use Rattle.inf_session.specs.Ending.{Outcome, finished, missing}
 use Rattle.inf_session.specs.Session.{IsRead, State, start}
 
 -- The ending of a compilation whose reading ended so: the messages that were written before come first.
-abbrev pub ending_of : List ℕ → State → Ending
+abbrev pub ending_of : List ℕ → State → Outcome
 ending_of serial s = let e = finished serial s.nesting.names s.work in record e { messages = s.told ++ e.messages }
 
 -- What comes of a main source that is there: reading ends, and this is the ending.
-pub record IsCompiled (sources : Sources) (o : Choices) (serial name : List ℕ) (e : Ending) : Type 0 where
+pub record IsCompiled (sources : Sources) (o : Choices) (serial name : List ℕ) (e : Outcome) : Type 0 where
   pub final : State
   pub is_read : IsRead sources o (start sources o name) final
   pub is_ending : e ≡ ending_of serial final
 
-abbrev pub IsOutcomeOf : Option (List ℕ) → Sources → Choices → List ℕ → List ℕ → Ending → Type 0
+abbrev pub IsOutcomeOf : Option (List ℕ) → Sources → Choices → List ℕ → List ℕ → Outcome → Type 0
 IsOutcomeOf None sources o serial name e = e ≡ missing name
 IsOutcomeOf (Some source) sources o serial name e = IsCompiled sources o serial name e
 
 -- The outcome of the main source of a name, among these sources and with these choices; the story has this serial number.
-abbrev pub IsOutcome : Sources → Choices → List ℕ → List ℕ → Ending → Type 0
+abbrev pub IsOutcome : Sources → Choices → List ℕ → List ℕ → Outcome → Type 0
 IsOutcome sources o serial name e = IsOutcomeOf (sources name) sources o serial name e

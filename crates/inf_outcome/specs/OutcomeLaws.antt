@@ -1,13 +1,13 @@
 -- What is known of outcomes: there is one for all sources, choices, serial numbers and names, and just one.
 use Rattle.std.specs.Prelude.{◌≡◌, ℕ, List}
-use Rattle.inf_token.specs.Files.{Sources}
+use Rattle.inf_files.specs.Files.{Sources}
 use Rattle.inf_session.specs.Choices.{Choices}
-use Rattle.inf_session.specs.Ending.{Ending}
+use Rattle.inf_session.specs.Ending.{Outcome}
 use Rattle.inf_outcome.specs.Outcome.{IsOutcome}
 
 abbrev pub OutcomesAreUnique : Type 0
 OutcomesAreUnique =
-    (sources : Sources) (o : Choices) (serial name : List ℕ) (e f : Ending) → IsOutcome sources o serial name e → IsOutcome sources o serial name f → e ≡ f
+    (sources : Sources) (o : Choices) (serial name : List ℕ) (e f : Outcome) → IsOutcome sources o serial name e → IsOutcome sources o serial name f → e ≡ f
 
 abbrev pub OutcomesExist : Type 0
-OutcomesExist = (sources : Sources) (o : Choices) (serial name : List ℕ) → (e : Ending) × IsOutcome sources o serial name e
+OutcomesExist = (sources : Sources) (o : Choices) (serial name : List ℕ) → (e : Outcome) × IsOutcome sources o serial name e

@@ -1,6 +1,6 @@
 //! The compilation of a main source with the files that it includes.
 ghost use Rattle.std.specs.Prelude.{◌≡◌, ℕ, ◌<◌, List, [], None, false, IsTrue, IfOk, IfErr, OnErr, length};
-ghost use Rattle.inf_token.specs.Files.{Rose};
+ghost use Rattle.inf_files.specs.Files.{Rose};
 ghost use Rattle.inf_sources.specs.Calls.{Honestly, IsUnreadable, Kept, StaysFit, Went};
 ghost use Rattle.inf_sources.specs.Open.{opened_since};
 ghost use Rattle.inf_session.specs.Choices.{chosen};
@@ -11,6 +11,7 @@ ghost use Rattle.inf_session.specs.Session.{run};
 ghost use Rattle.inf_session.specs.Faults.{Caused, IfRead};
 ghost use Rattle.inf_outcome.specs.Comes.{Begins, Comes, Concludes, Heard, IsUnread, OpenedPart, Stops};
 
+use inf_files::files::Files;
 use inf_lexer::EnterFault;
 use inf_session::compiled::{Compiled, Status, written};
 use inf_session::ending::no_file;
@@ -18,9 +19,8 @@ use inf_session::faults::{Fault, unread};
 use inf_session::session::Session;
 use inf_session::setup::Setup;
 use inf_settings::setting::Setting;
+use inf_sinks::sinks::Sink;
 use inf_sources::open_files::OpenFiles;
-use inf_symbol::sinks::Sink;
-use inf_token::files::Files;
 use std::alloc::Global;
 
 /// Compiles the main source of this name with what it includes, and writes all messages, each as soon as it is found. The serial

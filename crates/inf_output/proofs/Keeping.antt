@@ -7,7 +7,7 @@ use Rattle.inf_opcode.specs.declared.opcodes.Opcode.{Opcode}
 use Rattle.inf_assembler.specs.declared.routines.CloseFault.{CloseFault}
 use Rattle.inf_assembler.specs.declared.routines.CloseFault.TheVariants as close_fault
 use Rattle.inf_assembler.specs.declared.routines.RoutineKind.{RoutineKind}
-use Rattle.inf_assembler.specs.declared.routines.Setting.{Setting as CodeSetting}
+use Rattle.inf_assembler.specs.declared.routines.Limit.{Limit as CodeLimit}
 use Rattle.inf_code.specs.Code.{Routines, begun_unless, fault_closed, full_begun, full_opened}
 use Rattle.inf_names.specs.declared.meanings.Meaning.{Meaning}
 use Rattle.inf_names.specs.declared.symbols.DeclareFault.{DeclareFault}
@@ -93,7 +93,7 @@ grown_same : (item : Item) (r : Routines) → (grown item r).limits ≡ r.limits
 grown_same (Instruction parts) r = refl
 grown_same (Mark label) r = refl
 
-fitted_keeps : (full : Option CodeSetting) (item : Item) → Keeps (fitted full item)
+fitted_keeps : (full : Option CodeLimit) (item : Item) → Keeps (fitted full item)
 fitted_keeps None item o = (refl, bounded o (grown_same item o.code))
 fitted_keeps (Some limit) item o = (refl, refl)
 
@@ -122,18 +122,18 @@ together_keeps o = (refl, refl)
 
 -- Routines
 
-opened_by_keeps : (full : Option CodeSetting) (locals : ℕ) (is_lost : Bool) → Keeps (opened_by full locals is_lost)
+opened_by_keeps : (full : Option CodeLimit) (locals : ℕ) (is_lost : Bool) → Keeps (opened_by full locals is_lost)
 opened_by_keeps None locals is_lost o = (refl, refl)
 opened_by_keeps (Some limit) locals is_lost o = (refl, refl)
 
 pub opened_keeps : (locals : ℕ) (is_lost : Bool) → Keeps (opened locals is_lost)
 opened_keeps locals is_lost o = opened_by_keeps (full_opened is_lost o.code) locals is_lost o
 
-begun_same : (full : Option CodeSetting) (r : Routines) → (begun_unless full r).limits ≡ r.limits
+begun_same : (full : Option CodeLimit) (r : Routines) → (begun_unless full r).limits ≡ r.limits
 begun_same None r = refl
 begun_same (Some limit) r = refl
 
-begun_by_keeps : (full : Option CodeSetting) → Keeps (begun_by full)
+begun_by_keeps : (full : Option CodeLimit) → Keeps (begun_by full)
 begun_by_keeps None o = (refl, bounded o (begun_same (full_begun o.code) o.code))
 begun_by_keeps (Some limit) o = (refl, bounded o (begun_same (full_begun o.code) o.code))
 

@@ -19,8 +19,8 @@ use Rattle.inf_opcode.specs.Opcodes.{row_of}
 use Rattle.inf_assembler.specs.declared.routines.CloseFault.{CloseFault}
 use Rattle.inf_assembler.specs.declared.routines.CloseFault.TheVariants as close_fault
 use Rattle.inf_assembler.specs.declared.routines.RoutineKind.{RoutineKind}
-use Rattle.inf_assembler.specs.declared.routines.Setting.{Setting as CodeSetting}
-use Rattle.inf_assembler.specs.declared.routines.Setting.TheVariants as code_setting
+use Rattle.inf_assembler.specs.declared.routines.Limit.{Limit as CodeLimit}
+use Rattle.inf_assembler.specs.declared.routines.Limit.TheVariants as code_setting
 use Rattle.inf_code.specs.Code.{Routines, begun as code_begun, code_left, fault_closed, full_begun, full_label, full_opened, full_with, labels_left, references_left, with_item, with_closed, with_label as with_mark, with_none_open, with_opened}
 use Rattle.inf_names.specs.declared.meanings.Meaning.{Meaning}
 use Rattle.inf_names.specs.declared.meanings.Meaning.TheVariants as meaning
@@ -129,7 +129,7 @@ table_passed limit past = record past { tables = Some (first_table past.tables l
 -- Items
 
 -- the first limit that an item in the open routine would pass, and the routines with it
-abbrev pub full_item : Item → Routines → Option CodeSetting
+abbrev pub full_item : Item → Routines → Option CodeLimit
 full_item (Instruction parts) routines = full_with parts routines
 full_item (Mark label) routines = full_label routines
 
@@ -139,7 +139,7 @@ grown (Mark label) routines = record routines { opened = with_mark label routine
 
 -- An item is laid: into the code that is kept apart, if there is such code, and else into the open routine. From the first item on that would pass
 -- a limit nothing is laid any more.
-abbrev pub fitted : Option CodeSetting → Item → Code
+abbrev pub fitted : Option CodeLimit → Item → Code
 fitted None item o = record o { code = grown item o.code }
 fitted (Some limit) item o = passed item o
 
@@ -173,12 +173,12 @@ items_of (Some items) = items
 -- Routines
 
 -- another routine is open, unless that passes a limit; its labels are counted from 0
-abbrev pub passed_limit : CodeSetting → Past → Past
+abbrev pub passed_limit : CodeLimit → Past → Past
 passed_limit code_setting.Labels past = record past { labels = None }
 passed_limit code_setting.Code past = record past { code = None }
 passed_limit code_setting.Refs past = record past { refs = None }
 
-abbrev pub opened_by : Option CodeSetting → ℕ → Bool → Code
+abbrev pub opened_by : Option CodeLimit → ℕ → Bool → Code
 opened_by None locals is_lost o = record o { code = with_opened locals is_lost o.code; next = 0 }
 opened_by (Some limit) locals is_lost o =
     let code = with_none_open o.code in
@@ -188,7 +188,7 @@ abbrev pub opened : ℕ → Bool → Code
 opened locals is_lost o = opened_by (full_opened is_lost o.code) locals is_lost o
 
 -- Code begins with the first routine of the story, unless it has begun. Where that would pass a limit it does not begin, and the limit is passed.
-abbrev pub begun_by : Option CodeSetting → Code
+abbrev pub begun_by : Option CodeLimit → Code
 begun_by None o = record o { code = code_begun o.code }
 begun_by (Some limit) o = record o { code = code_begun o.code; past = Some (passed_limit limit (past_of o)) }
 

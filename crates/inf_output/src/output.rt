@@ -15,7 +15,7 @@ use crate::strings::Strings;
 use crate::veneer::Veneer;
 use arrayvec::ArrayVec;
 use inf_area::{AreaName, Target};
-use inf_assembler::{CloseFault, GrowFault, RoutineKind, Setting as CodeSetting};
+use inf_assembler::{CloseFault, GrowFault, Limit as CodeLimit, RoutineKind};
 use inf_code::code::Code;
 use inf_names::meanings::Meaning;
 use inf_names::symbols::{DeclareFault, Found, ReferFault, Symbols};
@@ -129,16 +129,16 @@ impl Past {
     }
 
     /// A limit is passed.
-    fn passed(self, limit: CodeSetting) -> Past
+    fn passed(self, limit: CodeLimit) -> Past
         ensures { result ≡ passed_limit limit self }
     {
         match limit {
-            CodeSetting::Labels => Past {
+            CodeLimit::Labels => Past {
                 labels: None,
                 ..self
             },
-            CodeSetting::Code => Past { code: None, ..self },
-            CodeSetting::Refs => Past { refs: None, ..self },
+            CodeLimit::Code => Past { code: None, ..self },
+            CodeLimit::Refs => Past { refs: None, ..self },
         }
     }
 
@@ -468,7 +468,7 @@ impl Output {
         let labels = self.rest().labels;
         let fault = self.close_code(kind)?;
         if labels.is_none() {
-            self.past = Some(self.rest().passed(CodeSetting::Labels));
+            self.past = Some(self.rest().passed(CodeLimit::Labels));
         }
         Ok(fault)
     }

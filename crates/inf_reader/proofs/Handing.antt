@@ -3,44 +3,44 @@ use Rattle.std.proofs.Common.{◌≡◌, ℕ, List, Bool, true, false, Option, S
 use Rattle.inf_scanner.specs.declared.tokens.Place.{Place}
 use Rattle.inf_scanner.specs.declared.tokens.TokenKind.TheVariants as kind
 use Rattle.inf_unit.specs.Messages.{FileNames}
-use Rattle.inf_unit.specs.Tokens.{Spelled}
-use Rattle.inf_conditionals.specs.declared.judged.Handed.{Handed}
-use Rattle.inf_conditionals.specs.declared.judged.Handed.TheVariants as handed
-use Rattle.inf_conditionals.specs.declared.judged.Judged.{Judged}
+use Rattle.inf_unit.specs.Tokens.{SourceToken}
+use Rattle.inf_conditionals.specs.declared.judged.Forwarded.{Forwarded}
+use Rattle.inf_conditionals.specs.declared.judged.Forwarded.TheVariants as handed
+use Rattle.inf_conditionals.specs.declared.judged.Filtered.{Filtered}
 use Rattle.inf_conditionals.proofs.Ending.{is_on}
 use Rattle.inf_reader.specs.Handing.{handed_as, judged_taken, lone_told, sign_taken, token_taken, unfit_in, unit_ended}
-use Rattle.inf_reader.specs.Reading.{Stand}
-use Rattle.inf_reader.specs.declared.mode.Mode.{Mode}
-use Rattle.inf_reader.specs.declared.mode.Mode.TheVariants as mode
+use Rattle.inf_reader.specs.Reading.{ReaderState}
+use Rattle.inf_reader.specs.declared.mode.Recovery.{Recovery}
+use Rattle.inf_reader.specs.declared.mode.Recovery.TheVariants as mode
 use Rattle.inf_reader.proofs.Turns.{end_at}
 
-abbrev end_of : List ℕ → Place → Spelled
+abbrev end_of : List ℕ → Place → SourceToken
 end_of bytes place = record { kind = kind.End; bytes = bytes; place = place }
 
-unfit_end : (m : Mode) (files : FileNames) (bytes : List ℕ) (place : Place) (s : Stand) → s.reading.mode ≡ m → (unfit_in m files (end_of bytes place) s).reading.mode ≡ mode.Ended
+unfit_end : (m : Recovery) (files : FileNames) (bytes : List ℕ) (place : Place) (s : ReaderState) → s.reading.mode ≡ m → (unfit_in m files (end_of bytes place) s).reading.mode ≡ mode.Ended
 unfit_end mode.Reads files bytes place s e = refl
 unfit_end mode.SkipsRoutine files bytes place s e = end_at s.reading.mode files kind.End bytes place s.reading s.work refl refl
 unfit_end mode.SkipsDirective files bytes place s e = end_at s.reading.mode files kind.End bytes place s.reading s.work refl refl
 unfit_end mode.Ended files bytes place s e = end_at s.reading.mode files kind.End bytes place s.reading s.work refl refl
 
-end_handed : (h : Handed) (files : FileNames) (bytes : List ℕ) (place : Place) (s : Stand) → is_on h ≡ true → (handed_as h files (end_of bytes place) s).reading.mode ≡ mode.Ended
+end_handed : (h : Forwarded) (files : FileNames) (bytes : List ℕ) (place : Place) (s : ReaderState) → is_on h ≡ true → (handed_as h files (end_of bytes place) s).reading.mode ≡ mode.Ended
 end_handed handed.Condition files bytes place s on = let never : false ≡ true = on in cc
 end_handed handed.Kept files bytes place s on = end_at s.reading.mode files kind.End bytes place s.reading s.work refl refl
 end_handed handed.Unfit files bytes place s on = unfit_end s.reading.mode files bytes place s refl
 
-lone_mode : (lone : Option Place) (files : FileNames) (s : Stand) → (lone_told lone files s).reading.mode ≡ s.reading.mode
+lone_mode : (unmatched : Option Place) (files : FileNames) (s : ReaderState) → (lone_told unmatched files s).reading.mode ≡ s.reading.mode
 lone_mode None files s = refl
 lone_mode (Some place) files s = refl
 
-ended_mode : (ended : Option Place) (files : FileNames) (s : Stand) → (unit_ended ended files s).reading.mode ≡ s.reading.mode
+ended_mode : (ended : Option Place) (files : FileNames) (s : ReaderState) → (unit_ended ended files s).reading.mode ≡ s.reading.mode
 ended_mode None files s = refl
 ended_mode (Some place) files s = refl
 
-pub end_taken : (files : FileNames) (bytes : List ℕ) (place : Place) (j : Judged) (h : Handed) (s : Stand) → j.token ≡ Some h → is_on h ≡ true
+pub end_taken : (files : FileNames) (bytes : List ℕ) (place : Place) (j : Filtered) (h : Forwarded) (s : ReaderState) → j.token ≡ Some h → is_on h ≡ true
     → (judged_taken files (end_of bytes place) j s).reading.mode ≡ mode.Ended
 end_taken files bytes place j h s e on =
-    let told = lone_told j.lone files (token_taken j.token files (end_of bytes place) (sign_taken j.sign files s)) in
+    let told = lone_told j.unmatched files (token_taken j.token files (end_of bytes place) (sign_taken j.sign files s)) in
     ended_mode j.ended files told
-    ∙ lone_mode j.lone files (token_taken j.token files (end_of bytes place) (sign_taken j.sign files s))
+    ∙ lone_mode j.unmatched files (token_taken j.token files (end_of bytes place) (sign_taken j.sign files s))
     ∙ ap (λ o. (token_taken o files (end_of bytes place) (sign_taken j.sign files s)).reading.mode) e
     ∙ end_handed h files bytes place (sign_taken j.sign files s) on

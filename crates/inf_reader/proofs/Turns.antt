@@ -3,32 +3,32 @@ use Rattle.std.proofs.Common.{◌≡◌, ℕ, List, [], ◌∷◌, cond, true, r
 use Rattle.inf_scanner.specs.declared.tokens.Place.{Place}
 use Rattle.inf_scanner.specs.declared.tokens.TokenKind.{TokenKind}
 use Rattle.inf_scanner.specs.declared.tokens.TokenKind.TheVariants as kind
-use Rattle.inf_unit.specs.Tokens.{Spelled, is_end}
+use Rattle.inf_unit.specs.Tokens.{SourceToken, is_end}
 use Rattle.inf_syntax.specs.declared.actions.Action.{Action}
 use Rattle.inf_machine.specs.declared.symbols.Symbol.{Symbol}
-use Rattle.inf_work.specs.Actions.{Work}
+use Rattle.inf_work.specs.Actions.{Compilation}
 use Rattle.inf_unit.specs.Messages.{FileNames}
 use Rattle.inf_reader.specs.Reading.{Reading, bad, took, judged, read_at, step_in}
-use Rattle.inf_reader.specs.declared.mode.Mode.{Mode}
-use Rattle.inf_reader.specs.declared.mode.Mode.TheVariants as mode
+use Rattle.inf_reader.specs.declared.mode.Recovery.{Recovery}
+use Rattle.inf_reader.specs.declared.mode.Recovery.TheVariants as mode
 use Rattle.inf_conditionals.proofs.Misfits.{end_fits_nothing}
 
 -- The end of the source ends the reading
 
 -- it fits nowhere, so in a piece it is the bad token
-end_in_piece : (files : FileNames) (bytes : List ℕ) (place : Place) (r : Reading) (w : Work)
+end_in_piece : (files : FileNames) (bytes : List ℕ) (place : Place) (r : Reading) (w : Compilation)
     → (judged files (record { kind = kind.End; bytes = bytes; place = place }) r w).reading.mode ≡ mode.Ended
 end_in_piece files bytes place r w =
-    let t : Spelled = record { kind = kind.End; bytes = bytes; place = place } in
+    let t : SourceToken = record { kind = kind.End; bytes = bytes; place = place } in
     ap (λ b. (cond b (took files t r w) (bad files t r w)).reading.mode) (end_fits_nothing r.stack)
 
-end_read : (files : FileNames) (bytes : List ℕ) (place : Place) (stack : List (Symbol Action)) (r : Reading) (w : Work)
+end_read : (files : FileNames) (bytes : List ℕ) (place : Place) (stack : List (Symbol Action)) (r : Reading) (w : Compilation)
     → (read_at files (record { kind = kind.End; bytes = bytes; place = place }) stack r w).reading.mode ≡ mode.Ended
 end_read files bytes place [] r w = refl
 end_read files bytes place (symbol ∷ stack) r w =
     end_in_piece files bytes place r w
 
-pub end_at : (m : Mode) (files : FileNames) (k : TokenKind) (bytes : List ℕ) (place : Place) (r : Reading) (w : Work) → is_end k ≡ true → r.mode ≡ m
+pub end_at : (m : Recovery) (files : FileNames) (k : TokenKind) (bytes : List ℕ) (place : Place) (r : Reading) (w : Compilation) → is_end k ≡ true → r.mode ≡ m
     → (step_in m files (record { kind = k; bytes = bytes; place = place }) r w).reading.mode ≡ mode.Ended
 end_at mode.Reads files kind.End bytes place r w h e = end_read files bytes place r.stack r w
 end_at mode.SkipsRoutine files kind.End bytes place r w h e = refl

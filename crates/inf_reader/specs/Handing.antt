@@ -6,20 +6,20 @@ use Rattle.inf_scanner.specs.declared.tokens.TokenKind.TheVariants as kind
 use Rattle.inf_machine.specs.declared.symbols.Symbol.{Symbol}
 use Rattle.inf_syntax.specs.declared.actions.Action.{Action}
 use Rattle.inf_unit.specs.Messages.{FileNames}
-use Rattle.inf_unit.specs.Tokens.{Spelled}
+use Rattle.inf_unit.specs.Tokens.{SourceToken}
 use Rattle.inf_conditionals.specs.Ends.{with_lone}
 use Rattle.inf_conditionals.specs.Said.{Said, with_right, with_said}
-use Rattle.inf_conditionals.specs.declared.judged.Handed.{Handed}
-use Rattle.inf_conditionals.specs.declared.judged.Handed.TheVariants as handed
-use Rattle.inf_conditionals.specs.declared.judged.Judged.{Judged}
+use Rattle.inf_conditionals.specs.declared.judged.Forwarded.{Forwarded}
+use Rattle.inf_conditionals.specs.declared.judged.Forwarded.TheVariants as handed
+use Rattle.inf_conditionals.specs.declared.judged.Filtered.{Filtered}
 use Rattle.inf_conditionals.specs.declared.judged.Sign.{Sign}
 use Rattle.inf_conditionals.specs.declared.judged.Site.{Site}
 use Rattle.inf_grammar.specs.Routines.{closings}
 use Rattle.inf_work.specs.Actions.{begun_at}
 use Rattle.inf_work.specs.Parts.{closed_ahead}
-use Rattle.inf_reader.specs.Reading.{Reading, Stand, bad, step}
-use Rattle.inf_reader.specs.declared.mode.Mode.{Mode}
-use Rattle.inf_reader.specs.declared.mode.Mode.TheVariants as mode
+use Rattle.inf_reader.specs.Reading.{Reading, ReaderState, bad, step}
+use Rattle.inf_reader.specs.declared.mode.Recovery.{Recovery}
+use Rattle.inf_reader.specs.declared.mode.Recovery.TheVariants as mode
 
 -- Where a token comes to the reading
 
@@ -27,11 +27,11 @@ abbrev pub is_empty : List (Symbol Action) → Bool
 is_empty [] = true
 is_empty (_ ∷ _) = false
 
-abbrev pub reads : Mode → Bool
+abbrev pub reads : Recovery → Bool
 reads mode.Reads = true
 reads _ = false
 
-abbrev pub skips : Mode → Bool
+abbrev pub skips : Recovery → Bool
 skips mode.SkipsRoutine = true
 skips mode.SkipsDirective = true
 skips _ = false
@@ -43,43 +43,43 @@ site_of r = record { is_between = reads r.mode && is_empty r.stack; is_quiet = s
 -- What is handed on
 
 -- a `#` at a place
-abbrev pub hash : Place → Spelled
+abbrev pub hash : Place → SourceToken
 hash place = record { kind = kind.Mark mark.Hash; bytes = codes "#"; place = place }
 
 -- a token that does not fit a conditional is the bad one of the piece at hand, and where one was told it is passed over
-abbrev pub unfit_in : Mode → FileNames → Spelled → Stand → Stand
+abbrev pub unfit_in : Recovery → FileNames → SourceToken → ReaderState → ReaderState
 unfit_in mode.Reads files t s = bad files t s.reading s.work
 unfit_in _ files t s = step files t s.reading s.work
 
 -- one that a condition takes is not handed on
-abbrev pub handed_as : Handed → FileNames → Spelled → Stand → Stand
+abbrev pub handed_as : Forwarded → FileNames → SourceToken → ReaderState → ReaderState
 handed_as handed.Kept files t s = step files t s.reading s.work
 handed_as handed.Unfit files t s = unfit_in s.reading.mode files t s
 handed_as handed.Condition files t s = s
 
-abbrev pub sign_taken : Option Sign → FileNames → Stand → Stand
+abbrev pub sign_taken : Option Sign → FileNames → ReaderState → ReaderState
 sign_taken None files s = s
 sign_taken (Some sign) files s = handed_as sign.handed files (hash sign.place) s
 
-abbrev pub token_taken : Option Handed → FileNames → Spelled → Stand → Stand
+abbrev pub token_taken : Option Forwarded → FileNames → SourceToken → ReaderState → ReaderState
 token_taken None files t s = s
 token_taken (Some h) files t s = handed_as h files t s
 
 -- What there is to tell of a condition comes before anything else that its token does; the actions of one with which nothing is wrong appear.
-abbrev pub said_told : Option Said → FileNames → Stand → Stand
+abbrev pub said_told : Option Said → FileNames → ReaderState → ReaderState
 said_told said files s =
     record s { work = record s.work { report = with_said files said s.work.report; output = with_right said s.work.output } }
 
-abbrev pub lone_told : Option Place → FileNames → Stand → Stand
+abbrev pub lone_told : Option Place → FileNames → ReaderState → ReaderState
 lone_told None files s = s
 lone_told (Some place) files s = record s { work = record s.work { report = with_lone files place s.work.report } }
 
 -- A conditional directive is a unit. Before it the statements are closed that are over, whatever the next token is.
-abbrev pub unit_ended : Option Place → FileNames → Stand → Stand
+abbrev pub unit_ended : Option Place → FileNames → ReaderState → ReaderState
 unit_ended None files s = s
 unit_ended (Some place) files s = record s { work = begun_at files place (closed_ahead (closings s.reading.stack) s.work) }
 
 -- first the `#` before the token, then the token, and then a conditional directive that has ended: one that has no conditional to
 -- end or to turn is told
-abbrev pub judged_taken : FileNames → Spelled → Judged → Stand → Stand
-judged_taken files t j s = unit_ended j.ended files (lone_told j.lone files (token_taken j.token files t (sign_taken j.sign files s)))
+abbrev pub judged_taken : FileNames → SourceToken → Filtered → ReaderState → ReaderState
+judged_taken files t j s = unit_ended j.ended files (lone_told j.unmatched files (token_taken j.token files t (sign_taken j.sign files s)))

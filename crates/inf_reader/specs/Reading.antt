@@ -11,59 +11,59 @@ use Rattle.inf_report.specs.Messages.{Location, Message, kind_of}
 use Rattle.inf_report.specs.declared.messages.Kind.{Kind}
 use Rattle.inf_report.specs.declared.messages.Kind.TheVariants as weight
 use Rattle.inf_unit.specs.Messages.{FileNames, Reported, location, with_error, with_fatal}
-use Rattle.inf_unit.specs.Tokens.{Spelled, is_end, is_mark}
+use Rattle.inf_unit.specs.Tokens.{SourceToken, is_end, is_mark}
 use Rattle.inf_syntax.specs.declared.actions.Action.{Action}
 use Rattle.inf_machine.specs.declared.symbols.Symbol.{Symbol}
 use Rattle.inf_machine.specs.declared.symbols.Symbol.TheVariants.{Rule}
 use Rattle.inf_machine.specs.Machine.{fits, taken}
 use Rattle.inf_grammar.specs.Routines.{is_in_routine}
 use Rattle.inf_grammar.specs.Language.{grammar, known}
-use Rattle.inf_work.specs.Actions.{Work, cut, is_class, no_work, piece_begun as work_begun, took as work_took}
+use Rattle.inf_work.specs.Actions.{Compilation, cut, is_class, no_work, piece_begun as work_begun, took as work_took}
 use Rattle.inf_work.specs.Acting.{all_acted}
 use Rattle.inf_conditionals.specs.Atoms.{atom_as}
 use Rattle.inf_reader.specs.Tests.{complaint_of}
-use Rattle.inf_reader.specs.declared.mode.Mode.{Mode}
-use Rattle.inf_reader.specs.declared.mode.Mode.TheVariants as mode
+use Rattle.inf_reader.specs.declared.mode.Recovery.{Recovery}
+use Rattle.inf_reader.specs.declared.mode.Recovery.TheVariants as mode
 
 -- What is read: how, and what of the piece at hand is still to come.
 pub record Reading : Type 0 where
-  pub mode : Mode
+  pub mode : Recovery
   pub stack : List (Symbol Action)
 
 -- between the pieces of a source
-abbrev pub between : Mode → Reading
+abbrev pub between : Recovery → Reading
 between m = record { mode = m; stack = [] }
 
 -- what was read, and what was compiled
-pub record Stand : Type 0 where
+pub record ReaderState : Type 0 where
   pub reading : Reading
-  pub work : Work
+  pub work : Compilation
 
 -- before the first token of sources in a character set
-abbrev pub begun_stand : CharSet → Settings → Stand
+abbrev pub begun_stand : CharSet → Settings → ReaderState
 begun_stand set settings = record { reading = between mode.Reads; work = no_work set settings }
 
-abbrev pub is_mode_ended : Mode → Bool
+abbrev pub is_mode_ended : Recovery → Bool
 is_mode_ended mode.Ended = true
 is_mode_ended _ = false
 
 -- nothing is read after the end of the source or a fatal message
-abbrev pub has_ended_at : Stand → Bool
+abbrev pub has_ended_at : ReaderState → Bool
 has_ended_at s = s.work.report.counts.is_over || is_mode_ended s.reading.mode
 
 -- Bad pieces
 
 -- Where reading stands behind a token that is passed over: it goes on behind the next semicolon, in a routine
 -- behind the first one after the next closing bracket.
-abbrev pub passed_mark : Mode → TokenKind → Mode
+abbrev pub passed_mark : Recovery → TokenKind → Recovery
 passed_mark mode.SkipsRoutine token = if is_mark mark.CloseBracket token then mode.SkipsDirective else mode.SkipsRoutine
 passed_mark _ token = if is_mark mark.Semicolon token then mode.Reads else mode.SkipsDirective
 
-abbrev pub passed : Mode → TokenKind → Mode
+abbrev pub passed : Recovery → TokenKind → Recovery
 passed skip token = if is_end token then mode.Ended else passed_mark skip token
 
 -- the piece that stands so is in a routine up to where the machine expects the routine's end
-abbrev pub skip_of : List (Symbol Action) → Mode
+abbrev pub skip_of : List (Symbol Action) → Recovery
 skip_of stack = if is_in_routine stack then mode.SkipsRoutine else mode.SkipsDirective
 
 -- Tokens
@@ -78,7 +78,7 @@ with_complaint at m r = with_complaint_of (kind_of m) at m r
 
 -- The bad token of a piece is told, and is the first that is passed over. The unit that it stands in gives nothing, and a
 -- routine that it stands in is never finished: what there is of it and of its locals is left, and nothing reads it.
-abbrev pub bad : FileNames → Spelled → Reading → Work → Stand
+abbrev pub bad : FileNames → SourceToken → Reading → Compilation → ReaderState
 bad files t r w =
     let c = cut files w in
     record {
@@ -87,13 +87,13 @@ bad files t r w =
     }
 
 -- A token that fits is taken: first the actions on the way to it act.
-abbrev pub took : FileNames → Spelled → Reading → Work → Stand
+abbrev pub took : FileNames → SourceToken → Reading → Compilation → ReaderState
 took files t r w =
     let n = taken grammar known (atom_as (is_class t w) t) r.stack in
     record { reading = record { mode = r.mode; stack = n.left }; work = work_took files t (all_acted files t.place n.actions w) }
 
 -- a token of a piece is taken where it fits; else it is the bad one
-abbrev pub judged : FileNames → Spelled → Reading → Work → Stand
+abbrev pub judged : FileNames → SourceToken → Reading → Compilation → ReaderState
 judged files t r w = if fits grammar known (atom_as (is_class t w) t) r.stack then took files t r w else bad files t r w
 
 -- the rule of the pieces
@@ -105,17 +105,17 @@ abbrev pub piece_begun : Reading → Reading
 piece_begun r = record { mode = r.mode; stack = Rule piece_rule ∷ [] }
 
 -- the next token where this is still to come: of a new piece, or of the one at hand
-abbrev pub read_at : FileNames → Spelled → List (Symbol Action) → Reading → Work → Stand
+abbrev pub read_at : FileNames → SourceToken → List (Symbol Action) → Reading → Compilation → ReaderState
 read_at files t [] r w =
     if is_end t.kind then record { reading = record r { mode = mode.Ended }; work = w }
     else judged files t (piece_begun r) (work_begun w)
 read_at files t (_ ∷ _) r w = judged files t r w
 
-abbrev pub step_in : Mode → FileNames → Spelled → Reading → Work → Stand
+abbrev pub step_in : Recovery → FileNames → SourceToken → Reading → Compilation → ReaderState
 step_in mode.Reads files t r w = read_at files t r.stack r w
 step_in mode.Ended files t r w = record { reading = r; work = w }
 step_in skip files t r w = record { reading = record r { mode = passed skip t.kind }; work = w }
 
 -- what a token does
-abbrev pub step : FileNames → Spelled → Reading → Work → Stand
+abbrev pub step : FileNames → SourceToken → Reading → Compilation → ReaderState
 step files t r w = step_in r.mode files t r w

@@ -1,11 +1,11 @@
 -- What the parts of the code's reading stand for.
 use Rattle.inf_work.specs.Works.{work}
-use Rattle.inf_reader.specs.Reading.{Reading, Stand}
+use Rattle.inf_reader.specs.Reading.{Reading, ReaderState}
 use Rattle.inf_reader.specs.declared.reader.Reader.{Reader}
 use Rattle.inf_reader.specs.declared.progress.Progress.{Progress}
 
 abbrev pub reading : Reader → Reading
 reading r = record { mode = r.mode; stack = r.machine }
 
-abbrev pub standing : Progress → Stand
+abbrev pub standing : Progress → ReaderState
 standing p = record { reading = reading p.reader; work = work p.work }

@@ -6,7 +6,7 @@ use Rattle.inf_scanner.specs.declared.tokens.TokenKind.{TokenKind}
 use Rattle.inf_scanner.specs.declared.tokens.TokenKind.TheVariants as kind
 use Rattle.inf_settings.specs.declared.setting.Setting.TheVariants.{QuotedText}
 use Rattle.inf_report.specs.Messages.{Message, Syntax, IllegalCharacter, UnclosedQuote, NumberOutOfRange, UnknownEscape, LongName, NoZscii, Exceeded}
-use Rattle.inf_unit.specs.Tokens.{Spelled, told}
+use Rattle.inf_unit.specs.Tokens.{SourceToken, told}
 
 abbrev pub message_of : BadToken → Message
 message_of bad.Unfit = IllegalCharacter
@@ -24,9 +24,9 @@ abbrev pub fault_of_kind : TokenKind → Option Message
 fault_of_kind (kind.Bad b) = Some (message_of b)
 fault_of_kind _ = None
 
-abbrev pub fault_of : Spelled → Option Message
+abbrev pub fault_of : SourceToken → Option Message
 fault_of t = fault_of_kind t.kind
 
 -- the message of the bad token of a piece: its own fault, or that it fits nowhere
-abbrev pub complaint_of : Spelled → Message
+abbrev pub complaint_of : SourceToken → Message
 complaint_of t = unwrap_or (fault_of t) (Syntax (told t))

@@ -6,21 +6,21 @@ ghost use Rattle.inf_reader.specs.Handing.{hash};
 ghost use Rattle.inf_reader.specs.Reading.{with_complaint};
 ghost use Rattle.inf_reader.specs.Tests.{complaint_of};
 
-use crate::mode::{Mode, passed};
+use crate::mode::{Recovery, passed};
 use crate::reader::Reader;
 use crate::tokens::complaint_of;
 use inf_conditionals::atoms::atom_at;
 use inf_conditionals::ends::tell_lone;
-use inf_conditionals::judged::{Handed, Judged, Site};
+use inf_conditionals::judged::{Filtered, Forwarded, Site};
 use inf_lexer::{Place, Stack};
 use inf_report::messages::{Kind, Location};
 use inf_scanner::{Mark, TokenKind};
 use inf_settings::settings::Settings;
 use inf_syntax::Action;
 use inf_text::CharSet;
-use inf_unit::messages::{Messages, location};
-use inf_unit::tokens::{Spelled, is_end};
-use inf_work::work::Work;
+use inf_unit::messages::{Diagnostics, location};
+use inf_unit::tokens::{SourceToken, is_end};
+use inf_work::work::Compilation;
 use std::alloc::{AllocError, Global};
 
 /// How far a source was read, and what was compiled of it.
@@ -30,7 +30,7 @@ pub struct Progress {
     pub reader: Reader,
     /// The actions on the way to the token at hand.
     actions: Vec<Action>,
-    pub work: Work,
+    pub work: Compilation,
 }
 
 impl Progress {
@@ -48,7 +48,7 @@ impl Progress {
             alloc,
             reader: Reader::new(alloc),
             actions: Vec::new(alloc),
-            work: Work::new(alloc, set, settings)?,
+            work: Compilation::new(alloc, set, settings)?,
         })
     }
 
@@ -56,21 +56,21 @@ impl Progress {
     pub fn has_ended(&self) -> bool
         ensures { result ≡ has_ended_at (standing self.now) }
     {
-        self.work.report.is_over() || matches!(self.reader.mode, Mode::Ended)
+        self.work.report.is_over() || matches!(self.reader.mode, Recovery::Ended)
     }
 
     /// Takes the next token of a source, one of these files.
-    pub fn take(&mut self, files: &Stack, token: &Spelled<'_>) -> Result<(), AllocError>
+    pub fn take(&mut self, files: &Stack, token: &SourceToken<'_>) -> Result<(), AllocError>
         ensures { let before = standing self.old in
             OnOk result (standing self.new ≡ step files.now.names (spelled token.now) before.reading before.work) }
     {
         match self.reader.mode {
-            Mode::Reads => self.read_token(files, token),
-            Mode::SkipsRoutine | Mode::SkipsDirective => {
+            Recovery::Reads => self.read_token(files, token),
+            Recovery::SkipsRoutine | Recovery::SkipsDirective => {
                 self.reader.mode = passed(self.reader.mode, token);
                 Ok(())
             }
-            Mode::Ended => Ok(()),
+            Recovery::Ended => Ok(()),
         }
     }
 
@@ -79,8 +79,12 @@ impl Progress {
         ensures { result ≡ site_of (standing self.now).reading }
     {
         Site {
-            is_between: matches!(self.reader.mode, Mode::Reads) && self.reader.machine.is_done(),
-            is_quiet: matches!(self.reader.mode, Mode::SkipsRoutine | Mode::SkipsDirective),
+            is_between: matches!(self.reader.mode, Recovery::Reads)
+                && self.reader.machine.is_done(),
+            is_quiet: matches!(
+                self.reader.mode,
+                Recovery::SkipsRoutine | Recovery::SkipsDirective
+            ),
         }
     }
 
@@ -88,8 +92,8 @@ impl Progress {
     pub fn take_judged(
         &mut self,
         files: &Stack,
-        token: &Spelled<'_>,
-        judged: Judged,
+        token: &SourceToken<'_>,
+        judged: Filtered,
     ) -> Result<(), AllocError>
         ensures { OnOk result (standing self.new ≡ judged_taken files.now.names (spelled token.now) judged (standing self.old)) }
     {
@@ -99,7 +103,7 @@ impl Progress {
         if let Some(handed) = judged.token {
             self.hand(files, token, handed)?;
         }
-        if let Some(place) = judged.lone {
+        if let Some(place) = judged.unmatched {
             tell_lone(place, files, &mut self.work.report)?;
         }
         if let Some(place) = judged.ended {
@@ -110,19 +114,24 @@ impl Progress {
     }
 
     /// Takes a token that is kept, or one that does not fit; one that a condition took it leaves alone.
-    fn hand(&mut self, files: &Stack, token: &Spelled<'_>, handed: Handed) -> Result<(), AllocError>
+    fn hand(
+        &mut self,
+        files: &Stack,
+        token: &SourceToken<'_>,
+        handed: Forwarded,
+    ) -> Result<(), AllocError>
         ensures { OnOk result (standing self.new ≡ handed_as handed files.now.names (spelled token.now) (standing self.old)) }
     {
         match (handed, self.reader.mode) {
-            (Handed::Unfit, Mode::Reads) => self.bad(files, token),
-            (Handed::Kept | Handed::Unfit, _) => self.take(files, token),
-            (Handed::Condition, _) => Ok(()),
+            (Forwarded::Unfit, Recovery::Reads) => self.bad(files, token),
+            (Forwarded::Kept | Forwarded::Unfit, _) => self.take(files, token),
+            (Forwarded::Condition, _) => Ok(()),
         }
     }
 
     /// A token of a piece, or the end between the pieces.
     #[tactic(auto, using(crate::proofs::Inside::read_first, crate::proofs::Inside::read_inside))]
-    fn read_token(&mut self, files: &Stack, token: &Spelled<'_>) -> Result<(), AllocError>
+    fn read_token(&mut self, files: &Stack, token: &SourceToken<'_>) -> Result<(), AllocError>
         ensures { let before = reading self.old.reader in
             OnOk result (standing self.new
             ≡ read_at files.now.names (spelled token.now) before.stack before (work self.old.work)) }
@@ -131,7 +140,7 @@ impl Progress {
             return self.judge(files, token);
         }
         if is_end(token.kind) {
-            self.reader.mode = Mode::Ended;
+            self.reader.mode = Recovery::Ended;
             return Ok(());
         }
         self.read_first(files, token)
@@ -149,7 +158,7 @@ impl Progress {
     }
 
     /// The first token of a new piece, where none was at hand.
-    fn read_first(&mut self, files: &Stack, token: &Spelled<'_>) -> Result<(), AllocError>
+    fn read_first(&mut self, files: &Stack, token: &SourceToken<'_>) -> Result<(), AllocError>
         requires { (reading self.old.reader).stack ≡ [] }
         ensures { OnOk result (standing self.new
             ≡ judged files.now.names (spelled token.now) (piece_begun (reading self.old.reader)) (work_begun (work self.old.work))) }
@@ -159,7 +168,7 @@ impl Progress {
     }
 
     /// Takes a token of the piece at hand, if it fits; else it is the bad one.
-    fn judge(&mut self, files: &Stack, token: &Spelled<'_>) -> Result<(), AllocError>
+    fn judge(&mut self, files: &Stack, token: &SourceToken<'_>) -> Result<(), AllocError>
         ensures { let before = reading self.old.reader in
             OnOk result (standing self.new
             ≡ judged files.now.names (spelled token.now) before (work self.old.work)) }
@@ -177,7 +186,7 @@ impl Progress {
     }
 
     /// Tells the bad token of a piece, and passes over it.
-    fn bad(&mut self, files: &Stack, token: &Spelled<'_>) -> Result<(), AllocError>
+    fn bad(&mut self, files: &Stack, token: &SourceToken<'_>) -> Result<(), AllocError>
         ensures { let before = reading self.old.reader in
             OnOk result (standing self.new ≡ bad files.now.names (spelled token.now) before (work self.old.work)) }
     {
@@ -188,10 +197,10 @@ impl Progress {
 }
 
 /// A `#` at a place.
-fn hash(place: Place) -> Spelled<'static>
+fn hash(place: Place) -> SourceToken<'static>
     ensures { spelled result ≡ hash place }
 {
-    Spelled {
+    SourceToken {
         kind: TokenKind::Mark(Mark::Hash),
         bytes: b"#",
         place,
@@ -199,7 +208,11 @@ fn hash(place: Place) -> Spelled<'static>
 }
 
 /// Tells what is wrong with a token at a line: a text that is too long ends the compilation.
-fn complain(report: &mut Messages, at: Location<'_>, token: &Spelled<'_>) -> Result<(), AllocError>
+fn complain(
+    report: &mut Diagnostics,
+    at: Location<'_>,
+    token: &SourceToken<'_>,
+) -> Result<(), AllocError>
     ensures { OnOk result (report.new ≡ with_complaint (located at.entry) (complaint_of (spelled token.now)) report.old) }
 {
     let message = complaint_of(token);

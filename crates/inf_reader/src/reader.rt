@@ -4,17 +4,17 @@ ghost use Rattle.inf_grammar.specs.Language.{grammar, known};
 ghost use Rattle.inf_machine.specs.Machine.{fits, taken};
 ghost use Rattle.inf_reader.specs.Reading.{between, passed, skip_of, piece_begun};
 ghost use Rattle.inf_reader.specs.Standing.{reading};
-ghost use Rattle.inf_reader.specs.declared.mode.Mode.TheVariants as mode;
+ghost use Rattle.inf_reader.specs.declared.mode.Recovery.TheVariants as mode;
 
-use crate::mode::{Mode, passed};
+use crate::mode::{Recovery, passed};
 use inf_grammar::{Action, Machine, PIECE};
-use inf_unit::tokens::Spelled;
+use inf_unit::tokens::SourceToken;
 use std::alloc::{AllocError, Global};
 
 /// How the next token is read, and what of the piece at hand is still to come.
 #[derive(Drop)]
 pub struct Reader {
-    pub mode: Mode,
+    pub mode: Recovery,
     pub machine: Machine,
 }
 
@@ -24,7 +24,7 @@ impl Reader {
         ensures { reading result ≡ between mode.Reads }
     {
         Reader {
-            mode: Mode::Reads,
+            mode: Recovery::Reads,
             machine: Machine::new(alloc),
         }
     }
@@ -51,13 +51,13 @@ impl Reader {
     }
 
     /// The piece at hand is bad: it is given up, and its bad token passed over.
-    pub fn give_up(&mut self, token: &Spelled<'_>)
+    pub fn give_up(&mut self, token: &SourceToken<'_>)
         ensures { reading self.new ≡ between (passed (skip_of (reading self.old).stack) token.now.kind) }
     {
         let skip = if self.machine.is_in_routine() {
-            Mode::SkipsRoutine
+            Recovery::SkipsRoutine
         } else {
-            Mode::SkipsDirective
+            Recovery::SkipsDirective
         };
         self.mode = passed(skip, token);
         self.machine.clear();

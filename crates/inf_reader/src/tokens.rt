@@ -6,7 +6,7 @@ ghost use Rattle.inf_report.specs.Meant.{meant};
 use inf_report::messages::Message;
 use inf_scanner::{BadToken, TokenKind};
 use inf_settings::setting::Setting;
-use inf_unit::tokens::{Spelled, told};
+use inf_unit::tokens::{SourceToken, told};
 
 /// What a bad token is blamed for.
 fn message_of(bad: BadToken) -> Message<'static>
@@ -24,7 +24,7 @@ fn message_of(bad: BadToken) -> Message<'static>
 }
 
 /// The message of the bad token of a piece: its own fault, or that it fits nowhere.
-pub fn complaint_of<'t>(token: &Spelled<'t>) -> Message<'t>
+pub fn complaint_of<'t>(token: &SourceToken<'t>) -> Message<'t>
     ensures { meant result ≡ complaint_of (spelled token.now) }
 {
     match token.kind {

@@ -3,8 +3,8 @@ use Rattle.std.proofs.Common.{◌≡◌, ℕ, suc, ◌+◌, ◌≤◌, ◌++◌,
 use Rattle.std.specs.List.{prefix_len}
 use Rattle.inf_characters.specs.Characters.{is_white}
 use Rattle.inf_characters.specs.declared.characters.CharSet.{CharSet}
-use Rattle.inf_symbol.specs.Sinks.{Takes}
-use Rattle.inf_token.specs.Files.{Rose}
+use Rattle.inf_sinks.specs.Sinks.{Takes}
+use Rattle.inf_files.specs.Files.{Rose}
 use Rattle.inf_report.proofs.Writings.{both_whole, failed, goes_on, with_more}
 use Rattle.inf_report.specs.Writing.{TakesPart, Writes}
 use Rattle.inf_report.specs.declared.pieces.ReportFault.{ReportFault}

@@ -1,8 +1,8 @@
 -- Writing one thing behind the other.
 use Rattle.std.proofs.Common.{ℕ, ◌≤◌, ◌++◌, List, length-append, append_assoc, Option, Result, Ok, Err, IsErr, sym, ap, ◌∙◌, inl, inr, arith}
-use Rattle.inf_symbol.specs.Sinks.{Takes}
-use Rattle.inf_symbol.proofs.TakenBytes.{Takes-append}
-use Rattle.inf_token.specs.Files.{Rose}
+use Rattle.inf_sinks.specs.Sinks.{Takes}
+use Rattle.inf_sinks.proofs.TakenBytes.{Takes-append}
+use Rattle.inf_files.specs.Files.{Rose}
 use Rattle.inf_report.specs.Writing.{TakesPart, Writes}
 use Rattle.inf_report.specs.declared.pieces.ReportFault.{ReportFault}
 

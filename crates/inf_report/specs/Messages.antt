@@ -5,8 +5,8 @@ use Rattle.inf_settings.specs.Settings.{name_of}
 use Rattle.inf_report.specs.OwnWords.{Words, shown}
 use Rattle.inf_report.specs.declared.messages.Kind.{Kind}
 use Rattle.inf_report.specs.declared.messages.Kind.TheVariants as kind
-use Rattle.inf_report.specs.declared.messages.Countable.{Countable}
-use Rattle.inf_report.specs.declared.messages.Countable.TheVariants as countable
+use Rattle.inf_report.specs.declared.messages.FixedLimit.{FixedLimit}
+use Rattle.inf_report.specs.declared.messages.FixedLimit.TheVariants as countable
 
 -- a line of a file
 pub record Location : Type 0 where
@@ -43,7 +43,7 @@ pub data Message : Type 0 where
   LabelTwice : (name : List ℕ) → Message
   NothingToLeave : Message
   BranchTooFar : Message
-  TooMany : (what : Countable) → Message
+  TooMany : (what : FixedLimit) → Message
   MisplacedSwitches : Message
   WrongAbbreviation : Message
   WrongVerb : (token : Told) → Message
@@ -81,7 +81,7 @@ told Text = codes "text"
 told End = codes "end of file"
 
 -- what there can be so many of, and no more
-abbrev pub most : Countable → List ℕ
+abbrev pub most : FixedLimit → List ℕ
 most countable.Locals = codes "15 locals"
 most countable.Globals = codes "235 globals"
 most countable.Attributes = codes "48 attributes"

@@ -1,7 +1,7 @@
 -- What writing some bytes to a sink leaves.
 use Rattle.std.specs.Prelude.{◌≡◌, ℕ, ◌<◌, ◌≤◌, List, ◌++◌, length, Option, Result, Ok, Err}
-use Rattle.inf_symbol.specs.Sinks.{Takes}
-use Rattle.inf_token.specs.Files.{Rose}
+use Rattle.inf_sinks.specs.Sinks.{Takes}
+use Rattle.inf_files.specs.Files.{Rose}
 use Rattle.inf_report.specs.declared.pieces.ReportFault.{ReportFault}
 
 -- A sink took only the front of some bytes.

@@ -40,7 +40,7 @@ pub enum Told<'a> {
 
 /// What there can be so many of, and no more.
 #[derive(Clone, Copy, Debug, PartialEq, Eq)]
-pub enum Countable {
+pub enum FixedLimit {
     /// The locals of a routine.
     Locals,
     /// The global variables.
@@ -101,7 +101,7 @@ pub enum Message<'a> {
     /// A branch or jump over too many bytes.
     BranchTooFar,
     /// One more than there can be.
-    TooMany(Countable),
+    TooMany(FixedLimit),
     /// Switches behind another directive, or unknown ones.
     MisplacedSwitches,
     /// An abbreviation that cannot be.
@@ -153,19 +153,19 @@ impl Kind {
     }
 }
 
-impl Countable {
+impl FixedLimit {
     /// How many there can be, and what they are called.
     fn most(self) -> &'static [u8]
         ensures { result.now ≡ most self }
     {
         match self {
-            Countable::Locals => b"15 locals",
-            Countable::Globals => b"235 globals",
-            Countable::Attributes => b"48 attributes",
-            Countable::Properties => b"60 properties",
-            Countable::Values => b"32 values",
-            Countable::Abbreviations => b"64 abbreviations",
-            Countable::Verbs => b"255 verbs",
+            FixedLimit::Locals => b"15 locals",
+            FixedLimit::Globals => b"235 globals",
+            FixedLimit::Attributes => b"48 attributes",
+            FixedLimit::Properties => b"60 properties",
+            FixedLimit::Values => b"32 values",
+            FixedLimit::Abbreviations => b"64 abbreviations",
+            FixedLimit::Verbs => b"255 verbs",
         }
     }
 }

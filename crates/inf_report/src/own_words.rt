@@ -8,7 +8,7 @@ ghost use Rattle.inf_report.specs.Writing.{Writes};
 
 use crate::pieces::{ReportFault, write_bytes};
 use inf_characters::{CharSet, is_line_end, is_white};
-use inf_symbol::sinks::Sink;
+use inf_sinks::sinks::Sink;
 
 /// A text of the source as its bytes stand between the quotes. A message shows them as they are, but
 /// white space with a line end in it as one space.

@@ -2,7 +2,7 @@
 ghost use Rattle.std.specs.Prelude.{◌++◌};
 ghost use Rattle.inf_report.specs.Writing.{Writes};
 
-use inf_symbol::sinks::{Sink, write_whole};
+use inf_sinks::sinks::{Sink, write_whole};
 use thiserror::Error;
 
 /// Why a line was not written.

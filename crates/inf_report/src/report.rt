@@ -9,7 +9,7 @@ use crate::messages::{Kind, Location, Message};
 use crate::own_words::OwnWords;
 pub use crate::pieces::ReportFault;
 use crate::pieces::write_pieces;
-use inf_symbol::sinks::Sink;
+use inf_sinks::sinks::Sink;
 use itoa::Buffer;
 use std::marker::Model;
 

@@ -3,13 +3,13 @@ ghost use Rattle.std.specs.Prelude.{None};
 
 use crate::expecting::expect;
 use inf_characters::CharSet;
-use inf_report::messages::{Countable, Kind, Location, Message, Told};
+use inf_files::failures::Failures;
+use inf_report::messages::{FixedLimit, Kind, Location, Message, Told};
 use inf_report::own_words::OwnWords;
 use inf_report::report::{Report, ReportFault};
 use inf_settings::setting::Setting;
-use inf_symbol::memory_sink::MemorySink;
-use inf_symbol::sinks::{Sink, SinkFault};
-use inf_token::failures::Failures;
+use inf_sinks::memory_sink::MemorySink;
+use inf_sinks::sinks::{Sink, SinkFault};
 use std::alloc::Global;
 use std::process::Abort;
 use std::test::Fail;
@@ -57,9 +57,9 @@ static ERRORS: [(Message<'static>, &str); 21] = [
     ),
     (Message::LabelMissing(b"L"), "Label \"L\" is missing"),
     (Message::LabelTwice(b"L"), "Label \"L\" is given twice"),
-    (Message::TooMany(Countable::Locals), "More than 15 locals"),
-    (Message::TooMany(Countable::Values), "More than 32 values"),
-    (Message::TooMany(Countable::Verbs), "More than 255 verbs"),
+    (Message::TooMany(FixedLimit::Locals), "More than 15 locals"),
+    (Message::TooMany(FixedLimit::Values), "More than 32 values"),
+    (Message::TooMany(FixedLimit::Verbs), "More than 255 verbs"),
     (
         Message::WrongVerb(Told::Bytes(b"'look'")),
         "Wrong verb: \"'look'\"",

@@ -6,7 +6,7 @@ use Rattle.inf_sources.specs.Quoted.{is_quoted_kind}
 use Rattle.inf_scanner.specs.declared.tokens.BadToken.TheVariants as bad
 use Rattle.inf_scanner.specs.declared.tokens.TokenKind.{TokenKind}
 use Rattle.inf_scanner.specs.declared.tokens.TokenKind.TheVariants as kind
-use Rattle.inf_conditionals.specs.declared.judged.Judged.{Judged}
+use Rattle.inf_conditionals.specs.declared.judged.Filtered.{Filtered}
 use Rattle.inf_conditionals.specs.declared.judged.Site.{Site}
 use Rattle.inf_code.specs.declared.code.CodeLimits.{CodeLimits}
 use Rattle.inf_settings.specs.Settings.{all_settings, number_of}
@@ -14,13 +14,13 @@ use Rattle.inf_settings.specs.declared.setting.Setting.{Setting}
 use Rattle.inf_settings.specs.declared.setting.Setting.TheVariants.{ExpressionNodes, Labels, LowStrings, Objects, PropertyTables, References, Symbols}
 use Rattle.inf_unit.proofs.Cases.{of_both}
 use Rattle.inf_unit.specs.Messages.{FileNames, none_reported, with_full}
-use Rattle.inf_unit.specs.Tokens.{Spelled}
-use Rattle.inf_work.specs.Actions.{Work, left, left_to}
+use Rattle.inf_unit.specs.Tokens.{SourceToken}
+use Rattle.inf_work.specs.Actions.{Compilation, left, left_to}
 use Rattle.inf_output.specs.Limits.{TableBounds, bounds, table_bounds}
 use Rattle.inf_work.specs.Limits.{SameLimits}
 use Rattle.inf_work.specs.Works.{work as work_of}
 use Rattle.inf_work.proofs.Limits.{same_then}
-use Rattle.inf_reader.specs.Reading.{Stand, has_ended_at}
+use Rattle.inf_reader.specs.Reading.{ReaderState, has_ended_at}
 use Rattle.inf_reader.specs.Standing.{standing}
 use Rattle.inf_reader.specs.declared.progress.Progress.{Progress}
 use Rattle.inf_session.specs.Choices.{Choices, chosen, most_quoted}
@@ -49,7 +49,7 @@ kind_within (kind.Bad bad.BadCode) bytes most few = few refl
 kind_within (kind.Bad bad.TooLong) bytes most few = few refl
 kind_within kind.End bytes most few = omega arith
 
-pub quoted_within : (site : Site) (j : Judged) (t : Spelled) (quoted most : ℕ) → (is_quoted_kind t.kind ≡ true → length t.bytes ≤ most) → quoted ≤ most
+pub quoted_within : (site : Site) (j : Filtered) (t : SourceToken) (quoted most : ℕ) → (is_quoted_kind t.kind ≡ true → length t.bytes ≤ most) → quoted ≤ most
     → quoted_behind site j t quoted ≤ most
 quoted_within site j t quoted most few before =
     let longer = cond (nat_lt quoted (quoted_bytes t)) (quoted_bytes t) quoted in
@@ -58,12 +58,12 @@ quoted_within site j t quoted most few before =
 
 -- The limits
 
-left_to_same : (waiting : List Bool) (w : Work) → SameLimits w (left_to waiting w)
+left_to_same : (waiting : List Bool) (w : Compilation) → SameLimits w (left_to waiting w)
 left_to_same [] w = (refl, refl)
 left_to_same (b ∷ waiting) w = (refl, refl)
 
-pub left_same : (before after : Work) → after ≡ left before → SameLimits before after
-left_same before after e = subst (λ (w : Work). SameLimits before w) (sym e) (left_to_same before.waiting before)
+pub left_same : (before after : Compilation) → after ≡ left before → SameLimits before after
+left_same before after e = subst (λ (w : Compilation). SameLimits before w) (sym e) (left_to_same before.waiting before)
 
 pub bounds_then : (a b c : Session) → SameBounds a b → SameBounds b c → SameBounds a c
 bounds_then a b c first second =
@@ -123,10 +123,10 @@ pub bounded_first : (p : Setup) (progress : Progress) (names : FileNames) → st
     × ((bounds progress.work.output ≡ bounds_of (chosen p).settings)
     × ((0 ≤ most_quoted (chosen p)) × ((standing progress).work.report.counts.is_over ≡ false → HasObjects (chosen p).settings)))
 bounded_first p progress names begun = (
-  ap (λ (s : Stand). s.work.output.names.limit) begun,
+  ap (λ (s : ReaderState). s.work.output.names.limit) begun,
   (
-    ap (λ (s : Stand). bounds s.work.output) begun,
-    (omega arith, λ going. first_fits (chosen p) names (ap (λ (s : Stand). s.work.report.counts.is_over) (sym begun) ∙ going)),
+    ap (λ (s : ReaderState). bounds s.work.output) begun,
+    (omega arith, λ going. first_fits (chosen p) names (ap (λ (s : ReaderState). s.work.report.counts.is_over) (sym begun) ∙ going)),
   ),
 )
 

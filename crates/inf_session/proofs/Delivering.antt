@@ -2,10 +2,10 @@
 use Rattle.std.specs.Prelude.{option_map}
 use Rattle.std.proofs.Common.{◌≡◌, ℕ, List, [], ◌++◌, take, drop, take-append-drop, append_assoc, arith, Option, Some, None, Result, Ok, Err, IfOk, refl, sym, subst, ◌∙◌}
 use Rattle.inf_report.specs.Reports.{closing}
-use Rattle.inf_symbol.specs.Sinks.{Takes}
-use Rattle.inf_symbol.specs.declared.sinks.Sink.{Ghosts as Sink}
+use Rattle.inf_sinks.specs.Sinks.{Takes}
+use Rattle.inf_sinks.specs.declared.sinks.Sink.{Ghosts as Sink}
 use Rattle.inf_session.specs.Delivered.{Appends, Delivers, EndsClean, TakesFront}
-use Rattle.inf_session.specs.Ending.{Ending}
+use Rattle.inf_session.specs.Ending.{Outcome}
 use Rattle.inf_session.specs.declared.compiled.Compiled.{Compiled}
 use Rattle.inf_session.specs.declared.compiled.Status.TheVariants as status
 use Rattle.inf_session.proofs.Endings.{IsClean}
@@ -40,7 +40,7 @@ ends_behind m a b c p q = record {
 }
 
 -- of an ending whose messages end so
-pub ends_clean : (e : Ending) (c : Compiled) (old new : Option (List ℕ)) → (e.status ≡ status.Success → IsClean e.messages) → Delivers e c old new
+pub ends_clean : (e : Outcome) (c : Compiled) (old new : Option (List ℕ)) → (e.status ≡ status.Success → IsClean e.messages) → Delivers e c old new
     → c.status ≡ status.Success → EndsClean old new
 ends_clean e c old new clean d is =
     let k = clean (sym d.status ∙ is) in
@@ -51,7 +51,7 @@ mapped_none f None e = refl
 mapped_none f (Some x) e = let never : Some (f x) ≡ None = e in cc
 
 -- of an ending that has no story where it has an error
-pub has_none : (e : Ending) (c : Compiled) (old new : Option (List ℕ)) → (e.status ≡ status.Errors → e.story ≡ None) → Delivers e c old new
+pub has_none : (e : Outcome) (c : Compiled) (old new : Option (List ℕ)) → (e.status ≡ status.Errors → e.story ≡ None) → Delivers e c old new
     → c.status ≡ status.Errors → c.story ≡ None
 has_none e c old new none d is = mapped_none (λ v. v.items) c.story (d.story ∙ none (sym d.status ∙ is))
 

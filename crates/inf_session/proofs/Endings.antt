@@ -11,7 +11,7 @@ use Rattle.inf_link.specs.declared.link.LinkFault.{LinkFault}
 use Rattle.inf_link.specs.declared.link.LinkFault.TheVariants as link_fault
 use Rattle.inf_story.specs.Names.{values_of}
 use Rattle.inf_story.specs.Stories.{too_long}
-use Rattle.inf_work.specs.Actions.{Work, begun_at}
+use Rattle.inf_work.specs.Actions.{Compilation, begun_at}
 use Rattle.inf_unit.proofs.Cases.{of_both}
 use Rattle.inf_unit.specs.Messages.{FileNames, Reported, with_closing, with_fatal}
 use Rattle.inf_unit.specs.Names.{main_of, with_all_undeclared}
@@ -20,8 +20,8 @@ use Rattle.inf_output.specs.Strings.{StringArea}
 use Rattle.inf_tables.specs.declared.tables.Tables.{Tables}
 use Rattle.inf_report.specs.Messages.{StoryTooLong}
 use Rattle.inf_report.specs.Reports.{closing}
-use Rattle.inf_session.specs.declared.ending.Ending.{Ending as CodeEnding}
-use Rattle.inf_session.specs.Ending.{Ending, begun, fields_of, finished, first_line, is_clean, laid, linked, named, refused, seen}
+use Rattle.inf_session.specs.declared.ending.Outcome.{Outcome as CodeOutcome}
+use Rattle.inf_session.specs.Ending.{Outcome, begun, fields_of, finished, first_line, is_clean, laid, linked, named, refused, seen}
 use Rattle.inf_session.specs.Session.{first_place}
 use Rattle.inf_session.specs.declared.compiled.Status.TheVariants as status
 
@@ -31,7 +31,7 @@ most_is_small scale.Four = refl
 most_is_small scale.Eight = refl
 
 -- What a compilation ends with whose last names are told is what it ends with.
-pub told_is_finished : {E : Type 0} (serial : List ℕ) (files : FileNames) (w told : Work) (result : Result CodeEnding E)
+pub told_is_finished : {E : Type 0} (serial : List ℕ) (files : FileNames) (w told : Compilation) (result : Result CodeOutcome E)
     → told ≡ record (begun_at files first_place w) { report = with_all_undeclared files (begun_at files first_place w).output.names.names (begun_at files first_place w).report }
     → IfOk result (λ t. seen t ≡ begun serial files told.output told.report (main_of told.output.names))
     → IfOk result (λ t. seen t ≡ finished serial files w)
@@ -41,7 +41,7 @@ told_is_finished serial files w told result same given =
 -- A story that would be too long for its version, as it is told.
 pub longest_told : {E : Type 0} (serial : List ℕ) (files : FileNames) (main : ℕ) (names : List Value) (code : Routines) (strings : StringArea) (tables : Tables) (r : Reported)
     (s : Scale) (bytes : List ℕ) (most : ℕ) (fault : LinkFault)
-    (result : Result CodeEnding E) → s ≡ code.scale → bytes ≡ strings.bytes → most ≡ most_bytes s → fault ≡ link_fault.StoryTooLong
+    (result : Result CodeOutcome E) → s ≡ code.scale → bytes ≡ strings.bytes → most ≡ most_bytes s → fault ≡ link_fault.StoryTooLong
     → (fault ≡ link_fault.Memory) ⊎ (too_long (record { release = 1; serial = serial; scale = s }) main code.finished bytes tables ≡ Some fault)
     → IfOk result (λ t. seen t ≡ refused (with_fatal (first_line files) (StoryTooLong most) r))
     → IfOk result (λ t. seen t ≡ linked serial files main names code strings tables r (too_long (fields_of serial code) main code.finished strings.bytes tables))
@@ -56,7 +56,7 @@ longest_told serial files main names code strings tables r s bytes most fault re
     ∙ sym (ap (λ o. linked serial files main names code strings tables r o) found))
     given
 
-abbrev HasNone : Ending → Type 0
+abbrev HasNone : Outcome → Type 0
 HasNone e = e.status ≡ status.Errors → e.story ≡ None
 
 linked_none : (serial : List ℕ) (files : FileNames) (main : ℕ) (names : List Value) (code : Routines) (strings : StringArea) (tables : Tables) (r : Reported) (long : Option LinkFault) → HasNone (linked serial files main names code strings tables r long)
@@ -77,7 +77,7 @@ begun_none serial files o r None = λ _. refl
 begun_none serial files o r (Some main) =
     of_both HasNone (is_clean r) (laid serial files main o r) (refused r) (λ _. laid_none serial files main o r) (λ _ _. refl)
 
-pub errors_none : (serial : List ℕ) (files : FileNames) (w : Work) → (finished serial files w).status ≡ status.Errors → (finished serial files w).story ≡ None
+pub errors_none : (serial : List ℕ) (files : FileNames) (w : Compilation) → (finished serial files w).status ≡ status.Errors → (finished serial files w).story ≡ None
 errors_none serial files w =
     let b = begun_at files first_place w in
     begun_none serial files b.output (with_all_undeclared files b.output.names.names b.report) (main_of b.output.names)
@@ -104,7 +104,7 @@ closes_clean r e =
           ∙ ap (λ n. r.lines ++ closing n r.counts.warnings) (eqb-true r.counts.errors 0 both.1);
     }
 
-abbrev EndsSo : Ending → Type 0
+abbrev EndsSo : Outcome → Type 0
 EndsSo e = e.status ≡ status.Success → IsClean e.messages
 
 linked_clean : (serial : List ℕ) (files : FileNames) (main : ℕ) (names : List Value) (code : Routines) (strings : StringArea) (tables : Tables) (r : Reported) → is_clean r ≡ true → (long : Option LinkFault) → EndsSo (linked serial files main names code strings tables r long)
@@ -125,7 +125,7 @@ begun_clean serial files o r None = λ e. cc
 begun_clean serial files o r (Some main) =
     of_both EndsSo (is_clean r) (laid serial files main o r) (refused r) (λ clean. laid_clean serial files main o r clean) (λ _ e. cc)
 
-pub success_clean : (serial : List ℕ) (files : FileNames) (w : Work) → (finished serial files w).status ≡ status.Success → IsClean (finished serial files w).messages
+pub success_clean : (serial : List ℕ) (files : FileNames) (w : Compilation) → (finished serial files w).status ≡ status.Success → IsClean (finished serial files w).messages
 success_clean serial files w =
     let b = begun_at files first_place w in
     begun_clean serial files b.output (with_all_undeclared files b.output.names.names b.report) (main_of b.output.names)

@@ -1,19 +1,19 @@
 -- Where turns lead: what has ended stays, turns follow one another, and what was written is only added to.
 use Rattle.std.proofs.Common.{◌≡◌, ◌⊎◌, inl, inr, ℕ, suc, zero, ◌+◌, ◌<◌, ◌||◌, List, [], ◌∷◌, ◌++◌, Bool, true, false, Option, Some, None, cond, refl, sym, ap, subst, ◌∙◌, append_assoc, append-nil, arith}
-use Rattle.inf_token.specs.Files.{Openings, Sources}
-use Rattle.inf_symbol.specs.Sinks.{Takes}
+use Rattle.inf_files.specs.Files.{Openings, Sources}
+use Rattle.inf_sinks.specs.Sinks.{Takes}
 use Rattle.inf_unit.proofs.Cases.{of_both}
 use Rattle.inf_sources.specs.Cursors.{Cursor}
 use Rattle.inf_sources.specs.Inclusions.{Inclusion, Nesting, Opens, OpensNone, OpensTooMany, inclusion}
 use Rattle.inf_sources.specs.Open.{Open, opened_since}
 use Rattle.inf_sources.specs.declared.open_files.Included.{Included}
 use Rattle.inf_sources.specs.declared.open_files.Included.TheVariants as answer
-use Rattle.inf_unit.specs.Directives.{Asked, Nothing, Include, End}
+use Rattle.inf_unit.specs.Directives.{Request, Nothing, Include, End}
 use Rattle.inf_reader.specs.Reading.{is_mode_ended}
 use Rattle.inf_scanner.specs.declared.tokens.Place.{Place}
 use Rattle.inf_session.specs.Choices.{Choices}
 use Rattle.inf_session.specs.Leading.{CutsShort, GivenUp, IsFront, NotTried, OpensAll, OpensWithin, StopsFor, StopsAtInclusion, Writes, WroteAll}
-use Rattle.inf_session.specs.Session.{State, answered, asked_nothing, file_closed, followed, has_ended, heeded, included_by, is_parted, is_resting, left, left_by, none_included, part, piece_closed, rested, run, stepped, turn}
+use Rattle.inf_session.specs.Session.{State, answered, asked_nothing, file_closed, followed, has_ended, carried_out, included_by, is_parted, is_resting, left, left_by, none_included, part, piece_closed, rested, run, stepped, turn}
 
 -- Fronts
 
@@ -53,13 +53,13 @@ included_told : (sources : Sources) (o : Choices) (unit : Place) (text : List �
 included_told sources o unit text (Opens name) s = refl
 included_told sources o unit text (OpensNone why) s = none_told unit text why s
 
-answered_told : (asked : Asked) (sources : Sources) (o : Choices) (s : State) → SameTold s (answered asked sources o s)
+answered_told : (asked : Request) (sources : Sources) (o : Choices) (s : State) → SameTold s (answered asked sources o s)
 answered_told (Include text unit) sources o s = included_told sources o unit text (inclusion sources o.directories text s.nesting) s
 answered_told End sources o s = refl
 answered_told Nothing sources o s = refl
 
-heeded_told : (sources : Sources) (o : Choices) (s : State) → SameTold s (heeded sources o s)
-heeded_told sources o s =
+carried_out_told : (sources : Sources) (o : Choices) (s : State) → SameTold s (carried_out sources o s)
+carried_out_told sources o s =
     of_both (SameTold s) s.work.report.counts.is_over s _ (λ _. refl)
     (λ _. of_both (SameTold s) (is_mode_ended s.reading.mode) (left s) (answered s.work.asked sources o (asked_nothing s)) (λ _. left_told s)
     (λ _. answered_told s.work.asked sources o (asked_nothing s)))
@@ -69,7 +69,7 @@ rested_told s =
     of_both (SameTold s) (has_ended s) s _ (λ _. refl) (λ _. of_both (SameTold s) (is_resting s) (piece_closed s) s (λ _. refl) (λ _. refl))
 
 followed_told : (sources : Sources) (o : Choices) (s : State) → SameTold s (followed sources o s)
-followed_told sources o s = rested_told (heeded sources o s) ∙ heeded_told sources o s
+followed_told sources o s = rested_told (carried_out sources o s) ∙ carried_out_told sources o s
 
 pub turn_adds : (sources : Sources) (o : Choices) (s : State) → (turn sources o s).told ≡ s.told ++ (followed sources o (stepped s)).work.report.lines
 turn_adds sources o s = ap (λ told. told ++ (followed sources o (stepped s)).work.report.lines) (followed_told sources o (stepped s))

@@ -1,13 +1,13 @@
 -- What has been opened where a turn was given up.
 use Rattle.std.proofs.Common.{◌≡◌, inl, inr, ℕ, List, false, cond, refl, sym, ap, ◌∙◌}
-use Rattle.inf_token.specs.Files.{Openings, Sources}
+use Rattle.inf_files.specs.Files.{Openings, Sources}
 use Rattle.inf_characters.specs.declared.characters.CharSet.{CharSet}
 use Rattle.inf_scanner.specs.declared.tokens.Place.{Place}
 use Rattle.inf_unit.proofs.Cases.{of_both}
-use Rattle.inf_unit.specs.Directives.{Asked, Include}
+use Rattle.inf_unit.specs.Directives.{Request, Include}
 use Rattle.inf_reader.specs.Reading.{is_mode_ended}
-use Rattle.inf_reader.specs.declared.mode.Mode.{Mode}
-use Rattle.inf_reader.specs.declared.mode.Mode.TheVariants as mode
+use Rattle.inf_reader.specs.declared.mode.Recovery.{Recovery}
+use Rattle.inf_reader.specs.declared.mode.Recovery.TheVariants as mode
 use Rattle.inf_sources.specs.Inclusions.{Inclusion, Nesting, OpenedInVain, Opens, OpensNone, inclusion, nested_by}
 use Rattle.inf_sources.specs.Open.{Open, nesting, opened_since}
 use Rattle.inf_sources.specs.declared.faults.IncludeFault.TheVariants as vain
@@ -15,7 +15,7 @@ use Rattle.inf_sources.specs.declared.open_files.Included.{Included}
 use Rattle.inf_sources.specs.declared.open_files.Included.TheVariants as answer
 use Rattle.inf_session.specs.Choices.{Choices}
 use Rattle.inf_session.specs.Leading.{OpensWithin}
-use Rattle.inf_session.specs.Session.{State, answered, asked_nothing, followed, has_ended, heeded, included, included_by, is_resting, left, none_included, piece_closed, rested, stepped, turn}
+use Rattle.inf_session.specs.Session.{State, answered, asked_nothing, followed, has_ended, carried_out, included, included_by, is_resting, left, none_included, piece_closed, rested, stepped, turn}
 use Rattle.inf_session.specs.Standing.{state}
 use Rattle.inf_session.specs.declared.session.Session.{Session}
 
@@ -50,26 +50,26 @@ in_vain sources o unit text start old before openings (inr t) =
 
 -- What a directive asks
 
-pub not_ended : (m : Mode) → (m ≡ mode.Ended → ⊥) → is_mode_ended m ≡ false
+pub not_ended : (m : Recovery) → (m ≡ mode.Ended → ⊥) → is_mode_ended m ≡ false
 not_ended mode.Reads h = refl
 not_ended mode.SkipsDirective h = refl
 not_ended mode.SkipsRoutine h = refl
 not_ended mode.Ended h = absurd (h refl)
 
 pub heeds : (sources : Sources) (o : Choices) (unit : Place) (text : List ℕ) (s : State) → s.work.report.counts.is_over ≡ false → is_mode_ended s.reading.mode ≡ false
-    → s.work.asked ≡ Include text unit → included sources o unit text (asked_nothing s) ≡ heeded sources o s
+    → s.work.asked ≡ Include text unit → included sources o unit text (asked_nothing s) ≡ carried_out sources o s
 heeds sources o unit text s going reads asks =
     sym (ap (λ b. cond b s (cond (is_mode_ended s.reading.mode) (left s) (answered s.work.asked sources o (asked_nothing s)))) going
     ∙ ap (λ b. cond b (left s) (answered s.work.asked sources o (asked_nothing s))) reads
-    ∙ ap (λ (a : Asked). answered a sources o (asked_nothing s)) asks)
+    ∙ ap (λ (a : Request). answered a sources o (asked_nothing s)) asks)
 
-pub heeded_within : (sources : Sources) (o : Choices) (unit : Place) (text : List ℕ) (was mid : List ℕ → State) (openings : List (List ℕ))
+pub carried_out_within : (sources : Sources) (o : Choices) (unit : Place) (text : List ℕ) (was mid : List ℕ → State) (openings : List (List ℕ))
     → ((told : List ℕ) → (was told).work.report.counts.is_over ≡ false) → ((told : List ℕ) → is_mode_ended (was told).reading.mode ≡ false)
     → ((told : List ℕ) → (was told).work.asked ≡ Include text unit) → ((told : List ℕ) → mid told ≡ asked_nothing (was told))
-    → OpensWithin (included sources o unit text) mid openings → OpensWithin (heeded sources o) was openings
-heeded_within sources o unit text was mid openings going reads asks same (inl h) =
+    → OpensWithin (included sources o unit text) mid openings → OpensWithin (carried_out sources o) was openings
+carried_out_within sources o unit text was mid openings going reads asks same (inl h) =
     inl (λ told. h told ∙ ap (λ (s : State). s.nesting.openings) (same told))
-heeded_within sources o unit text was mid openings going reads asks same (inr h) =
+carried_out_within sources o unit text was mid openings going reads asks same (inr h) =
     inr (λ told. h told ∙ ap (λ (s : State). (included sources o unit text s).nesting.openings) (same told)
     ∙ ap (λ (s : State). s.nesting.openings) (heeds sources o unit text (was told) (going told) (reads told) (asks told)))
 
@@ -81,9 +81,9 @@ rested_nesting s =
     (λ _. of_both (λ (t : State). t.nesting ≡ s.nesting) (is_resting s) (piece_closed s) s (λ _. refl) (λ _. refl))
 
 pub followed_within : (sources : Sources) (o : Choices) (was : List ℕ → State) (openings : List (List ℕ))
-    → OpensWithin (heeded sources o) was openings → OpensWithin (followed sources o) was openings
+    → OpensWithin (carried_out sources o) was openings → OpensWithin (followed sources o) was openings
 followed_within sources o was openings (inl h) = inl h
-followed_within sources o was openings (inr h) = inr (λ told. h told ∙ ap (λ (n : Nesting). n.openings) (sym (rested_nesting (heeded sources o (was told)))))
+followed_within sources o was openings (inr h) = inr (λ told. h told ∙ ap (λ (n : Nesting). n.openings) (sym (rested_nesting (carried_out sources o (was told)))))
 
 -- A turn
 

@@ -1,17 +1,17 @@
 -- What the session stands for behind a file that was left or entered, a refused inclusion, and a turn.
 use Rattle.std.proofs.Common.{◌≡◌, ℕ, List, [], ◌∷◌, ◌++◌, length, drop, reverse, get_or, Option, refl, sym, ap, subst, ◌∙◌, append_assoc, Result, Ok, Err, IfErr}
-use Rattle.inf_token.specs.Files.{Openings, Sources, opened}
+use Rattle.inf_files.specs.Files.{Openings, Sources, opened}
 use Rattle.inf_lexer.specs.Readers.{Reader}
 use Rattle.inf_sources.specs.Cursors.{Cursor}
 use Rattle.inf_sources.specs.Inclusions.{Nesting, closed, resumed}
 use Rattle.inf_sources.specs.Open.{AreNested, IsNested, Open, cursor_of, cursors_at, nesting, rest_of}
 use Rattle.inf_sources.proofs.Places.{innermost_of, reverse_last}
-use Rattle.inf_symbol.specs.Sinks.{Takes}
+use Rattle.inf_sinks.specs.Sinks.{Takes}
 use Rattle.inf_conditionals.specs.Ends.{file_left, file_told}
 use Rattle.inf_conditionals.specs.Open.{Conditions}
 use Rattle.inf_unit.specs.Messages.{Reported, flushed}
-use Rattle.inf_work.specs.Actions.{Work, left as left_file}
-use Rattle.inf_reader.specs.declared.mode.Mode.TheVariants as mode
+use Rattle.inf_work.specs.Actions.{Compilation, left as left_file}
+use Rattle.inf_reader.specs.declared.mode.Recovery.TheVariants as mode
 use Rattle.inf_session.specs.Choices.{Choices}
 use Rattle.inf_session.specs.Faults.{Caused, IfRead}
 use Rattle.inf_session.specs.Leading.{CutsShort, Writes}
@@ -53,7 +53,7 @@ none_waits s start now f e =
     ap (λ (rs : List Reader). cursors_at s now.all (drop 1 (reverse now.open_places)) (reverse rs)) e ∙ none_at s now (drop 1 (reverse now.open_places))
 
 -- a file was left, and reading goes on in the one that waits
-abbrev going_on : Nesting → Work → State → State
+abbrev going_on : Nesting → Compilation → State → State
 going_on n w s = record s { nesting = n; reading = record s.reading { mode = mode.Reads }; work = w }
 
 resumes : (waiting : List Cursor) (first : Cursor) (others : List Cursor) (s : State) → waiting ≡ first ∷ others
@@ -68,10 +68,10 @@ closed_as c r s = record s { conditions = c; work = record s.work { report = r }
 closed_is : (s : State) (c : Conditions) (r : Reported) → c ≡ file_left s.conditions → r ≡ file_told s.nesting.names s.conditions s.work.report → closed_as c r s ≡ file_closed s
 closed_is s c r left told = ap (λ (x : Conditions). closed_as x r s) left ∙ ap (λ (x : Reported). closed_as (file_left s.conditions) x s) told
 
-pub left_is : (s : State) (n : Nesting) (c : Conditions) (r : Reported) (w : Work) → c ≡ file_left s.conditions → r ≡ file_told s.nesting.names s.conditions s.work.report
+pub left_is : (s : State) (n : Nesting) (c : Conditions) (r : Reported) (w : Compilation) → c ≡ file_left s.conditions → r ≡ file_told s.nesting.names s.conditions s.work.report
     → w ≡ left_file (record s.work { report = r }) → n ≡ closed s.nesting → Waiting s.nesting.waiting → going_on n w (closed_as c r s) ≡ left s
 left_is s n c r w left told marked e one =
-    ap (λ (x : Work). going_on n x (closed_as c r s)) marked
+    ap (λ (x : Compilation). going_on n x (closed_as c r s)) marked
     ∙ ap (λ (x : State). going_on n (left_file x.work) x) (closed_is s c r left told)
     ∙ ap (λ (m : Nesting). going_on m (left_file (file_closed s).work) (file_closed s)) e ∙ resumes s.nesting.waiting one.first one.others (file_closed s) one.is
 

@@ -5,17 +5,17 @@ use Rattle.inf_scanner.specs.declared.tokens.TokenKind.{TokenKind}
 use Rattle.inf_sources.specs.Cursors.{behind, read}
 use Rattle.inf_sources.specs.Inclusions.{Nesting}
 use Rattle.inf_unit.specs.Messages.{Reported}
-use Rattle.inf_unit.specs.Tokens.{Spelled}
+use Rattle.inf_unit.specs.Tokens.{SourceToken}
 use Rattle.inf_conditionals.specs.Judging.{Behind, judged}
 use Rattle.inf_conditionals.specs.Open.{Conditions, silent}
 use Rattle.inf_output.specs.Output.{Out}
 use Rattle.inf_reader.specs.Handing.{judged_taken, said_told, site_of}
-use Rattle.inf_reader.specs.Reading.{Stand}
+use Rattle.inf_reader.specs.Reading.{ReaderState}
 use Rattle.inf_session.specs.Session.{State, quoted_behind, stand_of, stepped, token_of}
 use Rattle.inf_session.proofs.Stepping.{spelled_as}
 
 -- the state behind a token
-abbrev pub with_all : State → Nesting → Conditions → Stand → ℕ → State
+abbrev pub with_all : State → Nesting → Conditions → ReaderState → ℕ → State
 with_all s n c x quoted = record {
   nesting = n;
   conditions = c;
@@ -30,22 +30,22 @@ abbrev pub moved : State → Nesting
 moved s = record s.nesting { cursor = behind s.nesting.cursor (read s.nesting.cursor) }
 
 -- what is read and was compiled, with other lines and names
-abbrev pub reporting : Stand → Reported → Out → Stand
+abbrev pub reporting : ReaderState → Reported → Out → ReaderState
 reporting s r o = record s { work = record s.work { report = r; output = o } }
 
 -- behind what there is to tell of a condition
-abbrev pub told_stand : State → Behind → Stand
+abbrev pub told_stand : State → Behind → ReaderState
 told_stand s b = said_told b.now.said s.nesting.names (stand_of s)
 
 -- what it is by what becomes of the token among conditionals
-abbrev by_behind : State → Spelled → Behind → State
+abbrev by_behind : State → SourceToken → Behind → State
 by_behind s t b =
     with_all s (moved s) (silent b.now) (judged_taken s.nesting.names t b.judged (told_stand s b)) (quoted_behind (site_of s.reading) b.judged t s.quoted)
 
-abbrev by_token : State → Spelled → State
+abbrev by_token : State → SourceToken → State
 by_token s t = by_behind s t (judged (site_of s.reading) s.work.output t s.conditions)
 
-pub step_is : (s : State) (n : Nesting) (b : Behind) (c : Conditions) (x : Stand) (quoted : ℕ) (t : Spelled)
+pub step_is : (s : State) (n : Nesting) (b : Behind) (c : Conditions) (x : ReaderState) (quoted : ℕ) (t : SourceToken)
     → n ≡ moved s → t ≡ token_of s.nesting.cursor → b ≡ judged (site_of s.reading) s.work.output t s.conditions
     → c ≡ silent b.now → x ≡ judged_taken s.nesting.names t b.judged (told_stand s b) → quoted ≡ quoted_behind (site_of s.reading) b.judged t s.quoted
     → with_all s n c x quoted ≡ stepped s

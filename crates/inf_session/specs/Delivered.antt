@@ -1,14 +1,14 @@
 -- What was written and answered at the end of a compilation.
 use Rattle.std.specs.Prelude.{◌≡◌, ℕ, ◌≤◌, List, ◌++◌, Option, option_map}
 use Rattle.inf_report.specs.Reports.{closing}
-use Rattle.inf_symbol.specs.Sinks.{Takes}
-use Rattle.inf_symbol.specs.declared.sinks.Sink.{Ghosts as Sink}
-use Rattle.inf_session.specs.Ending.{Ending}
+use Rattle.inf_sinks.specs.Sinks.{Takes}
+use Rattle.inf_sinks.specs.declared.sinks.Sink.{Ghosts as Sink}
+use Rattle.inf_session.specs.Ending.{Outcome}
 use Rattle.inf_session.specs.Leading.{IsFront}
 use Rattle.inf_session.specs.declared.compiled.Compiled.{Compiled}
 
 -- All messages were written, and story and status are those of the ending.
-pub record Delivers (e : Ending) (c : Compiled) (old new : Option (List ℕ)) : Type 0 where
+pub record Delivers (e : Outcome) (c : Compiled) (old new : Option (List ℕ)) : Type 0 where
   pub messages : Takes old new e.messages
   pub story : option_map (λ v. v.items) c.story ≡ e.story
   pub status : c.status ≡ e.status

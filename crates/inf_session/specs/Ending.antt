@@ -12,22 +12,22 @@ use Rattle.inf_tables.specs.declared.tables.Tables.{Tables}
 use Rattle.inf_report.specs.Messages.{Location, NoMain, NoSource, NotConstant, ReadableTooLong, StoryTooLong}
 use Rattle.inf_story.specs.Names.{values_of}
 use Rattle.inf_story.specs.Stories.{story, too_long}
-use Rattle.inf_work.specs.Actions.{Work, begun_at}
+use Rattle.inf_work.specs.Actions.{Compilation, begun_at}
 use Rattle.inf_unit.specs.Messages.{FileNames, Reported, location, nothing_reported, with_closing, with_error, with_fatal}
 use Rattle.inf_unit.specs.Names.{main_of, with_all_undeclared}
 use Rattle.inf_session.specs.Session.{first_place}
-use Rattle.inf_session.specs.declared.ending.Ending.{Ending as CodeEnding}
+use Rattle.inf_session.specs.declared.ending.Outcome.{Outcome as CodeOutcome}
 use Rattle.inf_session.specs.declared.compiled.Status.{Status}
 use Rattle.inf_session.specs.declared.compiled.Status.TheVariants as status
 
 -- what is written and answered
-pub record Ending : Type 0 where
+pub record Outcome : Type 0 where
   pub messages : List ℕ
   pub story : Option (List ℕ)
   pub status : Status
 
 -- with an error or a fatal message no story comes
-abbrev pub refused : Reported → Ending
+abbrev pub refused : Reported → Outcome
 refused r = record { messages = (with_closing r).lines; story = None; status = status.Errors }
 
 abbrev pub is_clean : Reported → Bool
@@ -43,7 +43,7 @@ fields_of serial code = record { release = 1; serial = serial; scale = code.scal
 
 -- The story of the code, the strings and the tables, in which a routine is called first and names are these: or why it is too long, which is a fatal error. What can be read is
 -- looked at first.
-abbrev pub linked : List ℕ → FileNames → ℕ → List Value → Routines → StringArea → Tables → Reported → Option LinkFault → Ending
+abbrev pub linked : List ℕ → FileNames → ℕ → List Value → Routines → StringArea → Tables → Reported → Option LinkFault → Outcome
 linked serial files main names code strings tables r None =
     record { messages = (with_closing r).lines; story = Some (story (fields_of serial code) main names code.finished strings.bytes tables); status = status.Success }
 linked serial files main names code strings tables r (Some link_fault.ReadableTooLong) = refused (with_fatal (first_line files) ReadableTooLong r)
@@ -51,30 +51,30 @@ linked serial files main names code strings tables r (Some link_fault.StoryTooLo
 linked serial files main names code strings tables r (Some link_fault.Memory) = refused r
 
 -- A name of a kind that is no number in a story is an error.
-abbrev pub named : List ℕ → FileNames → ℕ → Routines → StringArea → Tables → Reported → Option (List Value) → Ending
+abbrev pub named : List ℕ → FileNames → ℕ → Routines → StringArea → Tables → Reported → Option (List Value) → Outcome
 named serial files main code strings tables r None = refused (with_error (first_line files) (first_line files) NotConstant r)
 named serial files main code strings tables r (Some names) = linked serial files main names code strings tables r (too_long (fields_of serial code) main code.finished strings.bytes tables)
 
-abbrev pub laid : List ℕ → FileNames → ℕ → Out → Reported → Ending
+abbrev pub laid : List ℕ → FileNames → ℕ → Out → Reported → Outcome
 laid serial files main o r = named serial files main o.code o.strings o.tables r (values_of o.names.names)
 
 -- the ending of a source that was read: without its first routine it has an error
-abbrev pub begun : List ℕ → FileNames → Out → Reported → Option ℕ → Ending
+abbrev pub begun : List ℕ → FileNames → Out → Reported → Option ℕ → Outcome
 begun serial files o r None = refused (with_error (first_line files) (first_line files) NoMain r)
 begun serial files o r (Some main) = if is_clean r then laid serial files main o r else refused r
 
 -- The names are told that were used and never declared.
-abbrev pub finished_with : List ℕ → FileNames → Work → Ending
+abbrev pub finished_with : List ℕ → FileNames → Compilation → Outcome
 finished_with serial files w = begun serial files w.output (with_all_undeclared files w.output.names.names w.report) (main_of w.output.names)
 
 -- At the end, at the latest, code begins.
-abbrev pub finished : List ℕ → FileNames → Work → Ending
+abbrev pub finished : List ℕ → FileNames → Compilation → Outcome
 finished serial files w = finished_with serial files (begun_at files first_place w)
 
 -- the ending of a source that is not there
-abbrev pub missing : List ℕ → Ending
+abbrev pub missing : List ℕ → Outcome
 missing file = refused (with_fatal (record { file = file; line = 1 }) (NoSource file) nothing_reported)
 
 -- what the code's ending stands for
-abbrev pub seen : CodeEnding → Ending
+abbrev pub seen : CodeOutcome → Outcome
 seen e = record { messages = e.messages.items; story = option_map (λ v. v.items) e.story; status = e.status }

@@ -1,14 +1,14 @@
 -- What some turns of reading lead to, and what they write.
 use Rattle.std.specs.Prelude.{◌≡◌, ℕ, ◌-◌, ◌<◌, ◌⊎◌, List, ◌∷◌, ◌++◌, map, reverse, Option, false}
 use Rattle.inf_scanner.specs.declared.tokens.Place.{Place}
-use Rattle.inf_token.specs.Files.{Openings, Sources}
+use Rattle.inf_files.specs.Files.{Openings, Sources}
 use Rattle.inf_lexer.specs.Unread.{unread}
 use Rattle.inf_sources.specs.Cursors.{Cursor, Unfinished}
 use Rattle.inf_sources.specs.Inclusions.{Nesting, OpenedInVain, OpensTooMany, inclusion, innermost_name}
 use Rattle.inf_sources.specs.Open.{Open, files_of, opened_since}
 use Rattle.inf_sources.specs.declared.faults.IncludeFault.TheVariants as fault
 use Rattle.inf_unit.specs.Directives.{Include}
-use Rattle.inf_symbol.specs.Sinks.{Takes}
+use Rattle.inf_sinks.specs.Sinks.{Takes}
 use Rattle.inf_reader.specs.Reading.{is_mode_ended}
 use Rattle.inf_session.specs.Choices.{Choices}
 use Rattle.inf_session.specs.Session.{State, has_ended, run, stepped}

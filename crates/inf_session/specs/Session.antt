@@ -7,28 +7,28 @@ use Rattle.inf_scanner.specs.declared.tokens.BadToken.TheVariants as bad
 use Rattle.inf_scanner.specs.declared.tokens.Place.{Place}
 use Rattle.inf_scanner.specs.declared.tokens.TokenKind.{TokenKind}
 use Rattle.inf_scanner.specs.declared.tokens.TokenKind.TheVariants as kind
-use Rattle.inf_token.specs.Files.{Sources}
+use Rattle.inf_files.specs.Files.{Sources}
 use Rattle.inf_conditionals.specs.Ends.{file_entered, file_left, file_told, piece_ended, piece_told}
 use Rattle.inf_conditionals.specs.Judging.{is_none_pending, judged, may_part}
 use Rattle.inf_conditionals.specs.Open.{Conditions, no_conditions, silent}
-use Rattle.inf_conditionals.specs.declared.judged.Judged.{Judged}
+use Rattle.inf_conditionals.specs.declared.judged.Filtered.{Filtered}
 use Rattle.inf_conditionals.specs.declared.judged.Site.{Site}
 use Rattle.inf_report.specs.Messages.{Message, NoInclude, TooManyFiles}
 use Rattle.inf_sources.specs.Cursors.{Cursor, behind, read}
 use Rattle.inf_sources.specs.Inclusions.{Inclusion, Nesting, Opens, OpensNone, inclusion, main_opened, resumed, with_opened}
 use Rattle.inf_sources.specs.declared.open_files.Included.{Included}
 use Rattle.inf_sources.specs.declared.open_files.Included.TheVariants as answer
-use Rattle.inf_work.specs.Actions.{Work, entered, left as left_file}
-use Rattle.inf_unit.specs.Directives.{Asked, Nothing, Include, End}
+use Rattle.inf_work.specs.Actions.{Compilation, entered, left as left_file}
+use Rattle.inf_unit.specs.Directives.{Request, Nothing, Include, End}
 use Rattle.inf_settings.specs.Settings.{number_of}
 use Rattle.inf_settings.specs.declared.setting.Setting.{Setting}
 use Rattle.inf_settings.specs.declared.settings.Settings.{Settings}
 use Rattle.inf_settings.specs.declared.setting.Setting.TheVariants.{LowStrings, Objects, PropertyTables, References}
 use Rattle.inf_unit.specs.Messages.{FileNames, flushed, location, none_reported, with_fatal, with_full}
-use Rattle.inf_unit.specs.Tokens.{Spelled}
+use Rattle.inf_unit.specs.Tokens.{SourceToken}
 use Rattle.inf_reader.specs.Handing.{judged_taken, said_told, site_of}
-use Rattle.inf_reader.specs.Reading.{Reading, Stand, begun_stand, has_ended_at, is_mode_ended}
-use Rattle.inf_reader.specs.declared.mode.Mode.TheVariants as mode
+use Rattle.inf_reader.specs.Reading.{Reading, ReaderState, begun_stand, has_ended_at, is_mode_ended}
+use Rattle.inf_reader.specs.declared.mode.Recovery.TheVariants as mode
 use Rattle.inf_session.specs.Choices.{Choices, most_quoted}
 
 -- The files that are open with what is still to come of each; the conditionals; how the next token is read; what was compiled,
@@ -38,7 +38,7 @@ pub record State : Type 0 where
   pub nesting : Nesting
   pub conditions : Conditions
   pub reading : Reading
-  pub work : Work
+  pub work : Compilation
   pub told : List ℕ
   pub is_over : Bool
   pub quoted : ℕ
@@ -57,7 +57,7 @@ tables_full settings =
     if nat_lt (number_of References settings) 4 then Some References else None
 
 -- how the first token of a main source is read, and what there is before it
-abbrev pub begun_with : Choices → FileNames → Stand
+abbrev pub begun_with : Choices → FileNames → ReaderState
 begun_with o names =
     let s = begun_stand o.set o.settings in
     record s { work = record s.work { report = with_full names first_place (tables_full o.settings) (none_reported o.has_warnings) } }
@@ -70,7 +70,7 @@ start sources o name =
     record { nesting = main; conditions = no_conditions o.settings; reading = s.reading; work = s.work; told = []; is_over = false; quoted = 0 }
 
 -- how it is read and what was compiled
-abbrev pub stand_of : State → Stand
+abbrev pub stand_of : State → ReaderState
 stand_of s = record { reading = s.reading; work = s.work }
 
 -- Nothing is read behind the end of the main source, a fatal message, or a directive that ends all.
@@ -78,7 +78,7 @@ abbrev pub has_ended : State → Bool
 has_ended s = s.is_over || has_ended_at (stand_of s)
 
 -- the next token of the innermost file
-abbrev pub token_of : Cursor → Spelled
+abbrev pub token_of : Cursor → SourceToken
 token_of c = let r = read c in record { kind = r.kind; bytes = r.kept.bytes; place = record { file = c.file; line = r.line } }
 
 -- how many bytes stand between the quotes of a token that has such: of one that is too long as many as it may have
@@ -94,11 +94,11 @@ quoted_of_kind (kind.Bad bad.BadCode) bytes = length bytes
 quoted_of_kind (kind.Bad bad.TooLong) bytes = length bytes
 quoted_of_kind _ bytes = 0
 
-abbrev pub quoted_bytes : Spelled → ℕ
+abbrev pub quoted_bytes : SourceToken → ℕ
 quoted_bytes t = quoted_of_kind t.kind t.bytes
 
 -- those of the longest one behind a token: one that is not handed on, or passed over behind a bad one, is not among them
-abbrev pub quoted_behind : Site → Judged → Spelled → ℕ → ℕ
+abbrev pub quoted_behind : Site → Filtered → SourceToken → ℕ → ℕ
 quoted_behind site j t quoted =
     if site.is_quiet || is_none j.token then quoted else if nat_lt quoted (quoted_bytes t) then quoted_bytes t else quoted
 
@@ -158,14 +158,14 @@ abbrev pub asked_nothing : State → State
 asked_nothing s = record s { work = record s.work { asked = Nothing } }
 
 -- what a directive asks of the reading
-abbrev pub answered : Asked → Sources → Choices → State → State
+abbrev pub answered : Request → Sources → Choices → State → State
 answered (Include text unit) sources o s = included sources o unit text s
 answered End sources o s = record s { is_over = true }
 answered Nothing sources o s = s
 
 -- behind a fatal message nothing is done, and at the end of a file nothing is asked
-abbrev pub heeded : Sources → Choices → State → State
-heeded sources o s =
+abbrev pub carried_out : Sources → Choices → State → State
+carried_out sources o s =
     if s.work.report.counts.is_over then s else
     if is_mode_ended s.reading.mode then left s else answered s.work.asked sources o (asked_nothing s)
 
@@ -185,7 +185,7 @@ rested s = if has_ended s then s else if is_resting s then piece_closed s else s
 
 -- how reading goes on behind a token
 abbrev pub followed : Sources → Choices → State → State
-followed sources o s = rested (heeded sources o s)
+followed sources o s = rested (carried_out sources o s)
 
 -- the messages so far are written
 abbrev pub told_out : State → State

@@ -8,7 +8,7 @@ use Rattle.inf_tables.specs.LowStrings.{low_size}
 use Rattle.inf_tables.specs.Tables.{references_with}
 use Rattle.inf_conditionals.specs.Judging.{is_none_pending, may_part}
 use Rattle.inf_reader.specs.Handing.{site_of}
-use Rattle.inf_token.specs.Files.{Openings, Sources}
+use Rattle.inf_files.specs.Files.{Openings, Sources}
 use Rattle.inf_sources.specs.Open.{nesting}
 use Rattle.inf_settings.specs.Settings.{number_of}
 use Rattle.inf_settings.specs.declared.setting.Setting.{Setting}

@@ -1,16 +1,16 @@
 //! What comes of a compilation, and the end of one.
 ghost use Rattle.std.specs.Prelude.{◌≡◌, None, IfOk, IfErr, OnErr};
-ghost use Rattle.inf_token.specs.Files.{Rose};
+ghost use Rattle.inf_files.specs.Files.{Rose};
 ghost use Rattle.inf_work.specs.Works.{work as work_of};
 ghost use Rattle.inf_session.specs.Delivered.{Appends, Delivers, EndsClean, TakesFront};
 ghost use Rattle.inf_session.specs.Ending.{finished, seen};
 ghost use Rattle.inf_session.specs.Faults.{Caused};
 
-use crate::ending::{Ending, finish};
+use crate::ending::{Outcome, finish};
 use crate::faults::Fault;
 use inf_lexer::Stack;
-use inf_symbol::sinks::{Sink, write_whole};
-use inf_work::work::Work;
+use inf_sinks::sinks::{Sink, write_whole};
+use inf_work::work::Compilation;
 use std::alloc::Global;
 
 /// How a compilation ended.
@@ -34,7 +34,7 @@ pub(crate) fn conclude<M: Sink>(
     alloc: Global,
     names: &Stack,
     serial: &[u8; 6],
-    work: Work,
+    work: Compilation,
     messages: &mut M,
 ) -> Result<Compiled, Fault>
     ensures ok { IfOk result (λ compiled. Delivers (finished serial.now names.now.names (work_of work)) compiled
@@ -50,7 +50,7 @@ pub(crate) fn conclude<M: Sink>(
 }
 
 /// Writes the last messages of a compilation.
-pub fn written<M: Sink>(ending: Ending, messages: &mut M) -> Result<Compiled, Fault>
+pub fn written<M: Sink>(ending: Outcome, messages: &mut M) -> Result<Compiled, Fault>
     ensures ok { IfOk result (λ compiled. Delivers (seen ending) compiled (M.taken messages.old) (M.taken messages.new)) }
     ensures err { OnErr result (TakesFront (seen ending).messages (M.taken messages.old) (M.taken messages.new)) }
     ensures fault { IfErr result (λ fault. Caused fault (λ name. ⊥) (Rose (M.failures messages.old) (M.failures messages.new))) }

@@ -21,15 +21,15 @@ use inf_output::{Output, Strings};
 use inf_report::messages::{Location, Message};
 use inf_story::{LinkFault, Story, story, values_of};
 use inf_tables::Tables;
-use inf_unit::messages::{Messages, location};
+use inf_unit::messages::{Diagnostics, location};
 use inf_unit::names::{main_of, tell_undeclared};
-use inf_work::work::Work;
+use inf_work::work::Compilation;
 use std::alloc::{AllocError, Global};
 
 /// What comes at the end of a compilation: the lines of its last messages, its story where no error was found, and how
 /// it ended.
 #[derive(Drop)]
-pub struct Ending {
+pub struct Outcome {
     pub messages: Vec<u8>,
     pub story: Option<Vec<u8>>,
     pub status: Status,
@@ -47,8 +47,8 @@ pub(crate) fn finish(
     alloc: Global,
     files: &Stack,
     serial: &[u8; 6],
-    mut work: Work,
-) -> Result<Ending, AllocError>
+    mut work: Compilation,
+) -> Result<Outcome, AllocError>
     ensures { IfOk result (λ t. seen t ≡ finished serial.now files.now.names (work_of work)) }
 {
     tell_last(files, &mut work)?;
@@ -56,7 +56,7 @@ pub(crate) fn finish(
 }
 
 /// Begins code, unless it has begun, and tells each name that was used and never declared.
-fn tell_last(files: &Stack, work: &mut Work) -> Result<(), AllocError>
+fn tell_last(files: &Stack, work: &mut Compilation) -> Result<(), AllocError>
     ensures { let begun = begun_at files.now.names first_place (work_of work.old) in
         OnOk result (work_of work.new ≡ record begun { report = with_all_undeclared files.now.names begun.output.names.names begun.report }) }
 {
@@ -69,8 +69,8 @@ fn finish_told(
     alloc: Global,
     files: &Stack,
     serial: &[u8; 6],
-    work: Work,
-) -> Result<Ending, AllocError>
+    work: Compilation,
+) -> Result<Outcome, AllocError>
     ensures { IfOk result (λ t. seen t ≡ begun serial.now files.now.names work.output work.report (main_of work.output.names)) }
 {
     let Some(main) = main_of(&work.output.names) else {
@@ -83,14 +83,18 @@ fn finish_told(
 }
 
 /// Whether no error and no fatal message was told.
-fn is_clean(report: &Messages) -> bool
+fn is_clean(report: &Diagnostics) -> bool
     ensures { result ≡ is_clean report.now }
 {
     !report.is_over() && report.errors() == 0
 }
 
 /// The outcome of a compilation with an error about the whole source.
-fn failed(files: &Stack, mut report: Messages, message: &Message<'_>) -> Result<Ending, AllocError>
+fn failed(
+    files: &Stack,
+    mut report: Diagnostics,
+    message: &Message<'_>,
+) -> Result<Outcome, AllocError>
     ensures { let line = first_line files.now.names in
         IfOk result (λ t. seen t ≡ refused (with_error line line (meant message.now) report)) }
 {
@@ -102,9 +106,9 @@ fn failed(files: &Stack, mut report: Messages, message: &Message<'_>) -> Result<
 /// The outcome of a compilation with a fatal error about the whole source.
 fn given_up(
     files: &Stack,
-    mut report: Messages,
+    mut report: Diagnostics,
     message: &Message<'_>,
-) -> Result<Ending, AllocError>
+) -> Result<Outcome, AllocError>
     ensures { IfOk result (λ t. seen t ≡ refused (with_fatal (first_line files.now.names) (meant message.now) report)) }
 {
     let at = location(files, FIRST_LINE);
@@ -113,7 +117,7 @@ fn given_up(
 }
 
 /// What was told in some work.
-fn report_of(work: Work) -> Messages
+fn report_of(work: Compilation) -> Diagnostics
     ensures { result ≡ work.report }
 {
     work.report
@@ -128,11 +132,11 @@ struct Contents {
 }
 
 /// The code of some work, what a story has beside it, and what was told in it.
-fn parts_of(work: Work) -> (Code, Contents, Messages)
+fn parts_of(work: Compilation) -> (Code, Contents, Diagnostics)
     ensures { (result.0 ≡ work.output.code) × (result.1.names ≡ work.output.names) × (result.1.strings ≡ work.output.strings)
         × (result.1.tables ≡ work.output.tables) × (result.2 ≡ work.report) }
 {
-    let Work { output, report, .. } = work;
+    let Compilation { output, report, .. } = work;
     let Output {
         code,
         strings,
@@ -155,8 +159,8 @@ fn laid(
     files: &Stack,
     serial: &[u8; 6],
     main: usize,
-    work: Work,
-) -> Result<Ending, AllocError>
+    work: Compilation,
+) -> Result<Outcome, AllocError>
     ensures { IfOk result (λ t. seen t ≡ laid serial.now files.now.names main work.output work.report) }
 {
     let (code, contents, report) = parts_of(work);
@@ -173,8 +177,8 @@ fn named(
     names: Option<Vec<Value>>,
     code: Code,
     contents: Contents,
-    report: Messages,
-) -> Result<Ending, AllocError>
+    report: Diagnostics,
+) -> Result<Outcome, AllocError>
     ensures { IfOk result (λ t. seen t ≡ named serial files.now.names main code contents.strings contents.tables report
         (option_map (λ v. v.items) names)) }
 {
@@ -201,8 +205,8 @@ fn linked(
     names: Vec<Value>,
     code: Code,
     contents: Contents,
-    report: Messages,
-) -> Result<Ending, AllocError>
+    report: Diagnostics,
+) -> Result<Outcome, AllocError>
     ensures { let strings = contents.strings in let tables = contents.tables in
         IfOk result (λ t. seen t ≡ linked serial files.now.names main names.items code strings tables report
         (too_long (fields_of serial code) main code.finished strings.bytes tables)) }
@@ -237,11 +241,11 @@ fn linked(
 }
 
 /// The outcome of a compilation without an error.
-fn compiled(story: Story, mut report: Messages) -> Result<Ending, AllocError>
+fn compiled(story: Story, mut report: Diagnostics) -> Result<Outcome, AllocError>
     ensures { IfOk result (λ t. seen t ≡ record { messages = (with_closing report).lines; story = Some story.bytes; status = Status.Success }) }
 {
     report.close()?;
-    Ok(Ending {
+    Ok(Outcome {
         messages: report.into_lines(),
         story: Some(story.into_bytes()),
         status: Status::Success,
@@ -249,11 +253,11 @@ fn compiled(story: Story, mut report: Messages) -> Result<Ending, AllocError>
 }
 
 /// The outcome of a compilation with an error or a fatal one.
-fn refused(mut report: Messages) -> Result<Ending, AllocError>
+fn refused(mut report: Diagnostics) -> Result<Outcome, AllocError>
     ensures { IfOk result (λ t. seen t ≡ refused report) }
 {
     report.close()?;
-    Ok(Ending {
+    Ok(Outcome {
         messages: report.into_lines(),
         story: None,
         status: Status::Errors,
@@ -261,10 +265,10 @@ fn refused(mut report: Messages) -> Result<Ending, AllocError>
 }
 
 /// What comes of a source of this name that is not there.
-pub fn no_file(alloc: Global, file: &[u8]) -> Result<Ending, AllocError>
+pub fn no_file(alloc: Global, file: &[u8]) -> Result<Outcome, AllocError>
     ensures { IfOk result (λ t. seen t ≡ missing file.now) }
 {
-    let mut report = Messages::new(alloc, true);
+    let mut report = Diagnostics::new(alloc, true);
     let at = Location {
         file,
         line: FIRST_LINE.line,

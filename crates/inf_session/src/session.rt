@@ -1,6 +1,6 @@
 //! The reading of a main source and of the files that it includes.
 ghost use Rattle.std.specs.Prelude.{◌≡◌, ℕ, ◌<◌, ◌≤◌, ◌⊎◌, List, Ok, OnOk, OnErr, IfErr, IfOk, IsTrue, None, false, true, length};
-ghost use Rattle.inf_token.specs.Files.{Openings, Rose, Sources};
+ghost use Rattle.inf_files.specs.Files.{Openings, Rose, Sources};
 ghost use Rattle.inf_reader.specs.Reading.{has_ended_at, is_mode_ended};
 ghost use Rattle.inf_reader.specs.Standing.{standing};
 ghost use Rattle.inf_lexer.specs.Names.{can_name};
@@ -15,7 +15,7 @@ ghost use Rattle.inf_work.specs.Limits.{SameLimits};
 ghost use Rattle.inf_work.specs.Works.{work as work_of};
 ghost use Rattle.inf_session.specs.Leading.{CutsShort, GivenUp, NotTried, OpensAll, OpensWithin, StopsFor, StopsAtInclusion, StopsInToken, Writes};
 ghost use Rattle.inf_conditionals.specs.Open.{no_conditions};
-ghost use Rattle.inf_session.specs.Session.{begun_with, followed, heeded, included, left, part, quoted_behind, quoted_bytes, rested, run, stepped, turn};
+ghost use Rattle.inf_session.specs.Session.{begun_with, followed, carried_out, included, left, part, quoted_behind, quoted_bytes, rested, run, stepped, turn};
 ghost use Rattle.inf_session.specs.Standing.{AreWithin, IsBounded, IsSet, SameBounds, came_to, ended, held, is_fatal, parted, resting, state};
 ghost use Rattle.inf_unit.specs.Tokens.{spelled};
 ghost use Rattle.inf_session.specs.Weights.{GoesOn, room, weight};
@@ -24,20 +24,20 @@ use crate::compiled::{Compiled, Status, conclude};
 use crate::faults::{Fault, unread};
 use crate::setup::Setup;
 use inf_conditionals::conditionals::Conditionals;
-use inf_conditionals::judged::{Judged, Site};
+use inf_conditionals::judged::{Filtered, Site};
+use inf_files::files::Files;
 use inf_lexer::{LexFault, Place};
-use inf_reader::mode::Mode;
+use inf_reader::mode::Recovery;
 use inf_reader::progress::Progress;
 use inf_report::messages::Message;
 use inf_scanner::{BadToken, TokenKind};
 use inf_settings::setting::Setting;
+use inf_sinks::sinks::Sink;
 use inf_sources::IncludeFault;
 use inf_sources::open_files::{Included, OpenFiles};
-use inf_symbol::sinks::Sink;
-use inf_token::files::Files;
-use inf_unit::directives::Asked;
+use inf_unit::directives::Request;
 use inf_unit::messages::location;
-use inf_unit::tokens::Spelled;
+use inf_unit::tokens::SourceToken;
 use std::alloc::{AllocError, Global};
 
 /// The reading of a main source and of the files that it includes, and what was compiled of them so far.
@@ -355,7 +355,7 @@ impl<'a> Session<'a> {
             Err(LexFault::Memory) => return Err(Fault::Memory),
             Err(LexFault::Read) => return Err(unread(self.alloc, self.open_files.innermost())),
         };
-        let spelled = Spelled {
+        let spelled = SourceToken {
             kind: token.kind,
             bytes: self.open_files.spelling(),
             place: token.place,
@@ -399,22 +399,22 @@ impl<'a> Session<'a> {
             (state (F.sources files.old) start (F.openings files.old) self.old told) (opened_since start (F.openings files.new)) name))) }
         ensures fits { OnOk result (StaysFit F.Files files.old files.new self.old.open_files) }
     {
-        self.heed(files)?;
+        self.carry_out(files)?;
         self.rest()?;
         Ok(())
     }
 
     /// Does what a directive asks of the reading that ended with the last token. At the end of an included file reading goes
     /// on in the file that includes it.
-    fn heed<F: Files>(&mut self, files: &mut F) -> Result<(), Fault>
+    fn carry_out<F: Files>(&mut self, files: &mut F) -> Result<(), Fault>
         requires is_open { length self.old.open_files.outer < F.depth files.old }
         requires goes { self.old.open_files.lexer.has_failed ≡ false }
         requires set { IsSet self.old }
-        ensures heeded { Honestly F.Files files.old self.old.open_files (λ start.
+        ensures carried_out { Honestly F.Files files.old self.old.open_files (λ start.
             OnOk result ((told : List ℕ) → state (F.sources files.old) start (F.openings files.new) self.new told
-            ≡ heeded (F.sources files.old) (chosen self.old.setup) (state (F.sources files.old) start (F.openings files.old) self.old told))) }
+            ≡ carried_out (F.sources files.old) (chosen self.old.setup) (state (F.sources files.old) start (F.openings files.old) self.old told))) }
         ensures opened { Honestly F.Files files.old self.old.open_files (λ start.
-            OnErr result (OpensWithin (heeded (F.sources files.old) (chosen self.old.setup))
+            OnErr result (OpensWithin (carried_out (F.sources files.old) (chosen self.old.setup))
             (state (F.sources files.old) start (F.openings files.old) self.old) (opened_since start (F.openings files.new)))) }
         ensures went { Went F.Files files.old files.new self.old.open_files self.new.open_files }
         ensures goes_on { OnOk result ((ended self.new ≡ true) ⊎ GoesOn (is_mode_ended self.old.progress.reader.mode) self.old.open_files self.new.open_files) }
@@ -431,19 +431,19 @@ impl<'a> Session<'a> {
         if self.progress.work.report.is_over() {
             return Ok(());
         }
-        if matches!(self.progress.reader.mode, Mode::Ended) {
+        if matches!(self.progress.reader.mode, Recovery::Ended) {
             return self.leave(files);
         }
         if !self.progress.work.asks() {
             return Ok(());
         }
         match self.progress.work.take_asked() {
-            Asked::Include { text, unit } => self.include(files, text.as_slice(), unit),
-            Asked::End => {
+            Request::Include { text, unit } => self.include(files, text.as_slice(), unit),
+            Request::End => {
                 self.is_over = true;
                 Ok(())
             }
-            Asked::Nothing => Ok(()),
+            Request::Nothing => Ok(()),
         }
     }
 
@@ -530,7 +530,7 @@ impl<'a> Session<'a> {
         if !self.open_files.leave(files) {
             return Ok(());
         }
-        self.progress.reader.mode = Mode::Reads;
+        self.progress.reader.mode = Recovery::Reads;
         self.progress.work.leave_file();
         Ok(())
     }
@@ -538,7 +538,7 @@ impl<'a> Session<'a> {
 
 /// How many bytes the longest quoted token has behind one more token: those that are not handed on, and those that are passed over
 /// behind a bad one, are not among them.
-fn quoted_behind(site: Site, judged: Judged, token: &Spelled<'_>, quoted: usize) -> usize
+fn quoted_behind(site: Site, judged: Filtered, token: &SourceToken<'_>, quoted: usize) -> usize
     ensures { result ≡ quoted_behind site judged (spelled token.now) quoted }
 {
     if site.is_quiet || judged.token.is_none() {
@@ -549,7 +549,7 @@ fn quoted_behind(site: Site, judged: Judged, token: &Spelled<'_>, quoted: usize)
 }
 
 /// How many bytes stand between the quotes of a token that has such.
-fn quoted_bytes(token: &Spelled<'_>) -> usize
+fn quoted_bytes(token: &SourceToken<'_>) -> usize
     ensures { result ≡ quoted_bytes (spelled token.now) }
 {
     match token.kind {

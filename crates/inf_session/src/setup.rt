@@ -10,7 +10,7 @@ use inf_reader::progress::Progress;
 use inf_settings::setting::Setting;
 use inf_settings::settings::Settings;
 use inf_text::CharSet;
-use inf_unit::messages::Messages;
+use inf_unit::messages::Diagnostics;
 use std::alloc::{AllocError, Global};
 
 /// The objects of each story, which are as many references: the addresses of their property tables.
@@ -38,7 +38,7 @@ impl Setup<'_> {
     pub(crate) fn begin(&self, alloc: Global, files: &Stack) -> Result<Progress, AllocError>
         ensures { IfOk result (λ progress. standing progress ≡ begun_with (chosen self.now) files.now.names) }
     {
-        let mut report = Messages::new(alloc, self.has_warnings);
+        let mut report = Diagnostics::new(alloc, self.has_warnings);
         report.full(files, FIRST_LINE, self.tables_full())?;
         let mut progress = Progress::new(alloc, self.set, self.settings)?;
         progress.work.report = report;

@@ -3,7 +3,7 @@ use Rattle.std.proofs.Common.{◌≡◌, ◌⊎◌, inl, inr, ℕ, suc, ◌+◌,
 use Rattle.std.specs.Prelude.{slice_get}
 use Rattle.std.proofs.lemmas.Bool.{le-leb, leb-true}
 use Rattle.std.proofs.lemmas.List.{length-reverse}
-use Rattle.inf_token.specs.Files.{Openings, Sources}
+use Rattle.inf_files.specs.Files.{Openings, Sources}
 use Rattle.inf_lexer.specs.Entering.{ClosedAgain, first_there, with_opened}
 use Rattle.inf_lexer.specs.Names.{Nest, can_name, candidates, entered, innermost_name, name_at, number_of}
 use Rattle.inf_lexer.specs.Readers.{Reader, at_front}

@@ -1,7 +1,7 @@
 -- What calls keep: one behind the other, and each kind of them.
 use Rattle.std.proofs.Common.{◌≡◌, ◌+◌, ◌-◌, ◌<◌, ◌≤◌, ◌⊎◌, inl, inr, ℕ, true, suc, List, [], ◌∷◌, ◌++◌, length, min, IsTrue, refl, sym, ap, subst, ◌∙◌, arith, length-append}
-use Rattle.inf_token.specs.Files.{Closes, Rose, Sources, last_count}
-use Rattle.inf_token.specs.declared.files.Files.{Ghosts as Files}
+use Rattle.inf_files.specs.Files.{Closes, Rose, Sources, last_count}
+use Rattle.inf_files.specs.declared.files.Files.{Ghosts as Files}
 use Rattle.inf_lexer.specs.Entering.{has_one_too_many}
 use Rattle.inf_lexer.specs.Names.{Nest}
 use Rattle.inf_lexer.specs.Readers.{Reader}

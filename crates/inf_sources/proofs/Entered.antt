@@ -2,7 +2,7 @@
 use Rattle.std.proofs.Common.{◌≡◌, ℕ, ◌-◌, List, [], ◌∷◌, ◌++◌, length, drop, take, reverse, refl, sym, ap, subst, ◌∙◌, arith, length-append}
 use Rattle.std.proofs.Math.Seq.{take-append_seam}
 use Rattle.inf_characters.specs.declared.characters.CharSet.{CharSet}
-use Rattle.inf_token.specs.Files.{Opening, Openings, Sources}
+use Rattle.inf_files.specs.Files.{Opening, Openings, Sources}
 use Rattle.inf_lexer.specs.Names.{Nest, left}
 use Rattle.inf_lexer.specs.Readers.{Reader}
 use Rattle.inf_sources.specs.Cursors.{Cursor}

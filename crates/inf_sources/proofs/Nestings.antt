@@ -3,7 +3,7 @@ use Rattle.std.proofs.Common.{◌≡◌, ℕ, suc, ◌-◌, List, [], ◌∷◌,
 use Rattle.std.proofs.lemmas.List.{drop-map, reverse-reverse}
 use Rattle.inf_scanner.specs.Tokens.{Read, next_token}
 use Rattle.inf_scanner.specs.declared.tokens.Token.{Token}
-use Rattle.inf_token.specs.Files.{Closes, Opening, Openings, Sources, opened}
+use Rattle.inf_files.specs.Files.{Closes, Opening, Openings, Sources, opened}
 use Rattle.inf_lexer.specs.Names.{Nest, left}
 use Rattle.inf_lexer.specs.Readers.{Reader, read_out}
 use Rattle.inf_lexer.specs.Unread.{Gave, innermost_place, to_come}

@@ -4,7 +4,7 @@ use Rattle.std.specs.Prelude.{slice_get}
 use Rattle.std.proofs.Math.Seq.{get_or-append_seam}
 use Rattle.std.proofs.lemmas.Grind.{reverse_onto}
 use Rattle.std.proofs.lemmas.List.{reverse-append, reverse-reverse}
-use Rattle.inf_token.specs.Files.{Opening, Openings, Sources, opened}
+use Rattle.inf_files.specs.Files.{Opening, Openings, Sources, opened}
 use Rattle.inf_lexer.specs.Readers.{Reader}
 use Rattle.inf_sources.specs.Cursors.{Cursor}
 use Rattle.inf_sources.specs.Open.{AreNested, IsNested, Open, cursor_of, cursors_at, files_of, nesting, rest_of}

@@ -2,7 +2,7 @@
 use Rattle.std.proofs.Common.{◌≡◌, ℕ, List, [], ◌∷◌, ◌++◌, length, Bool, true, false, Option, Some, None, refl, sym, ap, ◌∙◌, arith, length-take}
 use Rattle.std.proofs.lemmas.Bool.{cond_both}
 use Rattle.inf_characters.specs.declared.characters.CharSet.{CharSet}
-use Rattle.inf_token.specs.Files.{Openings, Sources}
+use Rattle.inf_files.specs.Files.{Openings, Sources}
 use Rattle.inf_lexer.specs.Readers.{Reader, read_out}
 use Rattle.inf_lexer.specs.Unread.{Heard, View}
 use Rattle.inf_scanner.specs.Kept.{Kept}

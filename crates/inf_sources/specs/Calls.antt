@@ -1,7 +1,7 @@
 -- What calls on a reader of files keep.
 use Rattle.std.specs.Prelude.{◌≡◌, ◌+◌, ◌-◌, ◌<◌, ◌≤◌, ◌⊎◌, ℕ, List, [], ◌∷◌, IsTrue, length, min}
-use Rattle.inf_token.specs.Files.{Openings, Rose, last_count}
-use Rattle.inf_token.specs.declared.files.Files.{Ghosts as Files}
+use Rattle.inf_files.specs.Files.{Openings, Rose, last_count}
+use Rattle.inf_files.specs.declared.files.Files.{Ghosts as Files}
 use Rattle.inf_lexer.specs.Readers.{Reader}
 use Rattle.inf_sources.specs.Open.{AllGiven, Each, Fits, IsNested, Open}
 

@@ -1,7 +1,7 @@
 -- Which file an inclusion opens, and what is open then (Designer's Manual, fourth edition, sections 38 and 39).
 use Rattle.std.specs.Prelude.{◌≡◌, ℕ, ◌+◌, ◌≤◌, ◌⊎◌, List, [], ◌∷◌, ◌++◌, length, nat_le, not, if◌then◌else◌, Option, Some, None, slice_get, unwrap_or}
 use Rattle.inf_characters.specs.declared.characters.CharSet.{CharSet}
-use Rattle.inf_token.specs.Files.{Sources}
+use Rattle.inf_files.specs.Files.{Sources}
 use Rattle.inf_lexer.specs.Entering.{first_there}
 use Rattle.inf_lexer.specs.Names.{can_name, candidates, number_of, with_name}
 use Rattle.inf_sources.specs.Cursors.{Cursor, front}

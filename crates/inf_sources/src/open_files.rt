@@ -1,6 +1,6 @@
 //! The files that are open, each with its lexer.
 ghost use Rattle.std.specs.Prelude.{◌≡◌, ◌≢◌, ◌+◌, ◌-◌, min, ◌≤◌, ◌<◌, ◌⊎◌, ◌++◌, [], ◌∷◌, true, false, if◌then◌else◌, is_ok, IfErr, IfOk, OnOk, OnErr, IsErrOf, IsOk, IsTrue, None, Some, length, map, slice_get, unwrap_or};
-ghost use Rattle.inf_token.specs.Files.{Openings, Rose, last_count};
+ghost use Rattle.inf_files.specs.Files.{Openings, Rose, last_count};
 ghost use Rattle.inf_lexer.specs.Names.{can_name, innermost_name};
 ghost use Rattle.inf_lexer.specs.Readers.{Took, at_front};
 ghost use Rattle.inf_lexer.specs.Unread.{IsAtEnd, unread};
@@ -11,9 +11,9 @@ ghost use Rattle.inf_sources.specs.Quoted.{KeepsFew};
 ghost use Rattle.inf_sources.specs.Open.{AllGiven, Each, Fits, IsNested, Reads, closed_to, nesting, opened_since};
 
 use crate::faults::IncludeFault;
+use inf_files::files::Files;
 use inf_lexer::{EnterFault, LexFault, Lexer, Stack, Token};
 use inf_text::CharSet;
-use inf_token::files::Files;
 use std::alloc::Global;
 use std::marker::Model;
 use std::mem;

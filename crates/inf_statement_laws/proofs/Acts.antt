@@ -1,11 +1,11 @@
 -- What each action leaves of the statements that are open.
 use Rattle.std.proofs.Common.{◌≡◌, ℕ, List, [], ◌∷◌, Bool, true, false, ◌&&◌, Option, Some, None, refl, ◌∙◌, ap}
 use Rattle.std.specs.Prelude.{◌-◌, if◌then◌else◌, nat_lt, unwrap_or}
-use Rattle.inf_symbol.specs.Locals.{no_locals, with_locals}
-use Rattle.inf_symbol.specs.Spellings.{Name}
+use Rattle.inf_sinks.specs.Locals.{no_locals, with_locals}
+use Rattle.inf_sinks.specs.Spellings.{Name}
 use Rattle.inf_unit.specs.Units.{acted as unit_acted, first_place, last_place, long_at, names_in, taken as unit_taken}
 use Rattle.inf_statements.specs.declared.constructs.Over.TheVariants as over
-use Rattle.inf_work.specs.Actions.{Work, close, close_open, header_of, header_with, is_deep, is_replaced, named, nested, opens, passed, settled_of, sized, stopped, took, trees_at}
+use Rattle.inf_work.specs.Actions.{Compilation, close, close_open, header_of, header_with, is_deep, is_replaced, named, nested, opens, passed, settled_of, sized, stopped, took, trees_at}
 use Rattle.inf_work.specs.Parts.{actions_named, case_prepared, construct_closed, construct_ended, construct_opened, constructs_laid, found_in, has_last, is_default, order_of, part_begun, part_carried, part_effect, part_ended, part_finished, part_prepared, place_of, statement_at, wanted_of}
 use Rattle.std.proofs.lemmas.Bool.{and_parts}
 use Rattle.inf_scanner.specs.declared.tokens.Place.{Place}
@@ -18,7 +18,7 @@ use Rattle.inf_syntax.specs.declared.actions.Action.TheVariants as action
 use Rattle.inf_output.specs.declared.items.Item.{Item}
 use Rattle.inf_output.specs.Output.{Out}
 use Rattle.inf_unit.specs.Messages.{FileNames}
-use Rattle.inf_unit.specs.Tokens.{Spelled}
+use Rattle.inf_unit.specs.Tokens.{SourceToken}
 use Rattle.inf_unit.proofs.Cases.{of_both}
 use Rattle.inf_statements.specs.Constructs.{are_cases, are_own, cases_begun, changed, entered, entered_by, looped, looped_by, looped_over, opened, with_step}
 use Rattle.inf_statements.specs.declared.constructs.Case.TheVariants as case
@@ -32,26 +32,26 @@ use Rattle.inf_statement_laws.specs.Happenings.{Acts, Happening, Takes, happen_q
 use Rattle.inf_statement_laws.specs.Laid.{happens, run}
 
 -- the same are open, and as many are closed ahead
-abbrev pub SameOpen : Work → Work → Type 0
+abbrev pub SameOpen : Compilation → Compilation → Type 0
 SameOpen w v = (v.constructs ≡ w.constructs) × (v.closed ≡ w.closed)
 
-pub same_then : (a b c : Work) → SameOpen a b → SameOpen b c → SameOpen a c
+pub same_then : (a b c : Compilation) → SameOpen a b → SameOpen b c → SameOpen a c
 same_then a b c first second = (second.0 ∙ first.0, second.1 ∙ first.1)
 
 -- Tokens
 
-nested_same : (files : FileNames) (place : Place) (b : Bool) (w : Work) → SameOpen w (nested files place b w)
+nested_same : (files : FileNames) (place : Place) (b : Bool) (w : Compilation) → SameOpen w (nested files place b w)
 nested_same files place true w = (refl, refl)
 nested_same files place false w = (refl, refl)
 
-stopped_same : (files : FileNames) (place : Option Place) (w : Work) → SameOpen w (stopped files place w)
+stopped_same : (files : FileNames) (place : Option Place) (w : Compilation) → SameOpen w (stopped files place w)
 stopped_same files None w = (refl, refl)
 stopped_same files (Some place) w = (refl, refl)
 
-sized_same : (files : FileNames) (w : Work) → SameOpen w (sized files w)
+sized_same : (files : FileNames) (w : Compilation) → SameOpen w (sized files w)
 sized_same files w = stopped_same files (long_at w.longest w.unit) w
 
-took_same : (files : FileNames) (t : Spelled) (w : Work) → SameOpen w (took files t w)
+took_same : (files : FileNames) (t : SourceToken) (w : Compilation) → SameOpen w (took files t w)
 took_same files t w =
     let u = record w { unit = unit_taken t w.unit } in
     let s = sized files u in
@@ -66,7 +66,7 @@ is_quiet_part part.Loop = false
 is_quiet_part part.Case = false
 is_quiet_part _ = true
 
-quiet_carried : (files : FileNames) (first : Place) (p : Part) (f : Option Finding) (w : Work) → is_quiet_part p ≡ true
+quiet_carried : (files : FileNames) (first : Place) (p : Part) (f : Option Finding) (w : Compilation) → is_quiet_part p ≡ true
     → SameOpen w (part_carried files first p f w)
 unfolding part_effect
 quiet_carried files first p (Some f) w q = (refl, refl)
@@ -78,7 +78,7 @@ quiet_carried files first part.Step None w q = cc
 quiet_carried files first part.Loop None w q = cc
 quiet_carried files first part.Case None w q = cc
 
-quiet_finished : (files : FileNames) (first : Place) (p : Part) (w : Work) → is_quiet_part p ≡ true
+quiet_finished : (files : FileNames) (first : Place) (p : Part) (w : Compilation) → is_quiet_part p ≡ true
     → SameOpen w (part_finished files first p w)
 quiet_finished files first (part.Statement s) w q = quiet_carried files first (part.Statement s) (found_in (part.Statement s) w)
     (named w) refl
@@ -89,11 +89,11 @@ quiet_finished files first part.Step w q = cc
 quiet_finished files first part.Loop w q = cc
 quiet_finished files first part.Case w q = cc
 
-quiet_prepared : (p : Part) (w : Work) → is_quiet_part p ≡ true → SameOpen w (case_prepared p w)
+quiet_prepared : (p : Part) (w : Compilation) → is_quiet_part p ≡ true → SameOpen w (case_prepared p w)
 quiet_prepared part.Case w q = cc
 quiet_prepared _ w q = (refl, refl)
 
-quiet_part : (files : FileNames) (place : Place) (p : Part) (w : Work) → is_quiet_part p ≡ true → SameOpen w (part_ended files place p w)
+quiet_part : (files : FileNames) (place : Place) (p : Part) (w : Compilation) → is_quiet_part p ≡ true → SameOpen w (part_ended files place p w)
 quiet_part files place p w q =
     let ready = case_prepared p (part_prepared w) in
     of_both (SameOpen w) w.is_passed_over (passed (has_last p) w) (part_finished files (place_of p place ready) p ready)
@@ -103,7 +103,7 @@ quiet_part files place p w q =
 
 -- Actions
 
-quiet_act : (files : FileNames) (place : Place) (a : Action) (w : Work) → is_quiet a ≡ true → SameOpen w (act files place a w)
+quiet_act : (files : FileNames) (place : Place) (a : Action) (w : Compilation) → is_quiet a ≡ true → SameOpen w (act files place a w)
 quiet_act files place action.Routine w q = (refl, refl)
 quiet_act files place action.EndLocals w q = cc
 quiet_act files place action.EndRoutine w q = cc
@@ -211,11 +211,11 @@ quiet_act files place action.MaybeDeeper w q = (refl, refl)
 
 -- Happenings
 
-quiet_happens : (files : FileNames) (h : Happening) (w : Work) → happens_quietly h ≡ true → SameOpen w (happens files h w)
+quiet_happens : (files : FileNames) (h : Happening) (w : Compilation) → happens_quietly h ≡ true → SameOpen w (happens files h w)
 quiet_happens files (Acts at a) w q = quiet_act files at.place a w q
 quiet_happens files (Takes t m) w q = took_same files t w
 
-pub quiet_run : (files : FileNames) (hs : List Happening) (w : Work) → happen_quietly hs ≡ true → SameOpen w (run files hs w)
+pub quiet_run : (files : FileNames) (hs : List Happening) (w : Compilation) → happen_quietly hs ≡ true → SameOpen w (run files hs w)
 quiet_run files [] w q = (refl, refl)
 quiet_run files (h ∷ hs) w q =
     let both = and_parts (happens_quietly h) (happen_quietly hs) q in
@@ -232,18 +232,18 @@ abbrev pub StepIn : Construct → List Construct → List Construct → Type 0
 StepIn c around after = (s : Option (List Item)) × (after ≡ record c { step = s } ∷ around)
 
 -- the step of a `for`
-step_carried : (files : FileNames) (first : Place) (f : Option Finding) (w : Work) (c : Construct) (around : List Construct)
+step_carried : (files : FileNames) (first : Place) (f : Option Finding) (w : Compilation) (c : Construct) (around : List Construct)
     → w.constructs ≡ c ∷ around
     → StepIn c around (part_carried files first part.Step f w).constructs × ((part_carried files first part.Step f w).closed ≡ w.closed)
 unfolding part_effect
 step_carried files first (Some f) w c around e = ((c.step, e), refl)
 step_carried files first None w c around e = ((_, ap (with_step _) e), refl)
 
-pub step_ends : (files : FileNames) (place : Place) (w : Work) (c : Construct) (around : List Construct) → w.constructs ≡ c ∷ around
+pub step_ends : (files : FileNames) (place : Place) (w : Compilation) (c : Construct) (around : List Construct) → w.constructs ≡ c ∷ around
     → StepIn c around (act files place action.EndForStep w).constructs × ((act files place action.EndForStep w).closed ≡ w.closed)
 step_ends files place w c around e =
     let ready = part_prepared w in
-    of_both (λ (v : Work). StepIn c around v.constructs × (v.closed ≡ w.closed)) w.is_passed_over (passed (has_last part.Step) w)
+    of_both (λ (v : Compilation). StepIn c around v.constructs × (v.closed ≡ w.closed)) w.is_passed_over (passed (has_last part.Step) w)
     (part_finished files (place_of part.Step place ready) part.Step ready)
     (λ _. ((c.step, e), refl)) (λ _. step_carried files (place_of part.Step place ready) (found_in part.Step ready) (named ready) c
     around e)
@@ -265,7 +265,7 @@ looped_over_kind (r ∷ trees) constructs o c around e =
     let k = looped_kind r c o in
     (k.0, ap (λ l. (changed (looped r) l o).0) e ∙ ap (λ d. d ∷ around) k.1)
 
-loop_carried : (files : FileNames) (first : Place) (f : Option Finding) (w : Work) (c : Construct) (around : List Construct)
+loop_carried : (files : FileNames) (first : Place) (f : Option Finding) (w : Compilation) (c : Construct) (around : List Construct)
     → w.constructs ≡ c ∷ around
     → KindIn c around (part_carried files first part.Loop f w).constructs × ((part_carried files first part.Loop f w).closed ≡ w.closed)
 unfolding part_effect
@@ -277,11 +277,11 @@ loop_carried files first None w c around e =
       refl,
     )
 
-pub loop_ends : (files : FileNames) (place : Place) (w : Work) (c : Construct) (around : List Construct) → w.constructs ≡ c ∷ around
+pub loop_ends : (files : FileNames) (place : Place) (w : Compilation) (c : Construct) (around : List Construct) → w.constructs ≡ c ∷ around
     → KindIn c around (act files place action.EndObjectloop w).constructs × ((act files place action.EndObjectloop w).closed ≡ w.closed)
 loop_ends files place w c around e =
     let ready = part_prepared w in
-    of_both (λ (v : Work). KindIn c around v.constructs × (v.closed ≡ w.closed)) w.is_passed_over (passed (has_last part.Loop) w)
+    of_both (λ (v : Compilation). KindIn c around v.constructs × (v.closed ≡ w.closed)) w.is_passed_over (passed (has_last part.Loop) w)
     (part_finished files (place_of part.Loop place ready) part.Loop ready)
     (λ _. ((c.kind, e), refl)) (λ _. loop_carried files (place_of part.Loop place ready) (found_in part.Loop ready) (named ready) c
     around e)
@@ -298,23 +298,23 @@ entered_kind : (b : Bool) (c : Construct) (o : Out) → (after : Kind) × ((ente
 unfolding entered
 entered_kind b c o = entered_kind_by c.kind b c o
 
-actions_named_same : (b : Bool) (w : Work) → SameOpen w (actions_named b w)
+actions_named_same : (b : Bool) (w : Compilation) → SameOpen w (actions_named b w)
 actions_named_same true w = (refl, refl)
 actions_named_same false w = (refl, refl)
 
-case_ready : (w : Work) (c : Construct) (around : List Construct) → w.constructs ≡ c ∷ around
+case_ready : (w : Compilation) (c : Construct) (around : List Construct) → w.constructs ≡ c ∷ around
     → ((case_prepared part.Case w).constructs ≡ c ∷ around) × ((case_prepared part.Case w).closed ≡ w.closed)
 case_ready w c around e =
     let begun = constructs_laid (cases_begun w.constructs) w in
     let same = actions_named_same (are_own begun.constructs) begun in
     (same.0 ∙ ap (λ l. (cases_begun l w.output).0) e, same.1)
 
-case_carried : (files : FileNames) (first : Place) (f : Option Finding) (w : Work) → SameOpen w (part_carried files first part.Case f w)
+case_carried : (files : FileNames) (first : Place) (f : Option Finding) (w : Compilation) → SameOpen w (part_carried files first part.Case f w)
 unfolding part_effect
 case_carried files first (Some f) w = (refl, refl)
 case_carried files first None w = (refl, refl)
 
-case_finished : (files : FileNames) (first : Place) (w : Work) (c : Construct) (around : List Construct) → w.constructs ≡ c ∷ around
+case_finished : (files : FileNames) (first : Place) (w : Compilation) (c : Construct) (around : List Construct) → w.constructs ≡ c ∷ around
     → KindIn c around (part_finished files first part.Case w).constructs × ((part_finished files first part.Case w).closed ≡ w.closed)
 case_finished files first w c around e =
     let begun = part_begun part.Case w in
@@ -322,22 +322,22 @@ case_finished files first w c around e =
     let k = entered_kind (is_default w.unit.items) c w.output in
     ((k.0, same.0 ∙ (ap (λ l. (changed (entered (is_default w.unit.items)) l w.output).0) e ∙ ap (λ d. d ∷ around) k.1)), same.1)
 
-pub case_ends : (files : FileNames) (place : Place) (w : Work) (c : Construct) (around : List Construct) → w.constructs ≡ c ∷ around
+pub case_ends : (files : FileNames) (place : Place) (w : Compilation) (c : Construct) (around : List Construct) → w.constructs ≡ c ∷ around
     → KindIn c around (act files place action.EndCase w).constructs
 case_ends files place w c around e =
     let before = part_prepared w in
     let ready = case_prepared part.Case before in
-    of_both (λ (v : Work). KindIn c around v.constructs) w.is_passed_over (passed (has_last part.Case) w)
+    of_both (λ (v : Compilation). KindIn c around v.constructs) w.is_passed_over (passed (has_last part.Case) w)
     (part_finished files (place_of part.Case place ready) part.Case ready)
     (λ _. (c.kind, e)) (λ _. (case_finished files (place_of part.Case place ready) ready c around (case_ready before c around e).0).0)
 
 -- the number of those that are closed ahead stays, whatever is open
-pub case_none_ahead : (files : FileNames) (place : Place) (w : Work) → (act files place action.EndCase w).closed ≡ w.closed
+pub case_none_ahead : (files : FileNames) (place : Place) (w : Compilation) → (act files place action.EndCase w).closed ≡ w.closed
 case_none_ahead files place w =
     let before = part_prepared w in
     let ready = case_prepared part.Case before in
     let begun = constructs_laid (cases_begun before.constructs) before in
-    of_both (λ (v : Work). v.closed ≡ w.closed) w.is_passed_over (passed (has_last part.Case) w)
+    of_both (λ (v : Compilation). v.closed ≡ w.closed) w.is_passed_over (passed (has_last part.Case) w)
     (part_finished files (place_of part.Case place ready) part.Case ready)
     (λ _. refl)
     (λ _. (case_carried files (place_of part.Case place ready) (found_in part.Case ready) (named (part_begun part.Case ready))).1
@@ -376,7 +376,7 @@ entered_alone b [] o h = refl
 entered_alone b (c ∷ []) o h = entered_own b c o h
 entered_alone b (c ∷ d ∷ constructs) o h = cc
 
-pub case_alone : (files : FileNames) (place : Place) (w : Work) → own_alone w.constructs ≡ true
+pub case_alone : (files : FileNames) (place : Place) (w : Compilation) → own_alone w.constructs ≡ true
     → own_alone (act files place action.EndCase w).constructs ≡ true
 case_alone files place w h =
     let before = part_prepared w in
@@ -384,7 +384,7 @@ case_alone files place w h =
     let at = place_of part.Case place ready in
     let begun = constructs_laid (cases_begun before.constructs) before in
     let entering = part_begun part.Case ready in
-    of_both (λ (v : Work). own_alone v.constructs ≡ true) w.is_passed_over (passed (has_last part.Case) w)
+    of_both (λ (v : Compilation). own_alone v.constructs ≡ true) w.is_passed_over (passed (has_last part.Case) w)
     (part_finished files at part.Case ready)
     (λ _. h)
     (λ _. ap own_alone (case_carried files at (found_in part.Case ready) (named entering)).0
@@ -408,54 +408,54 @@ is_inside action.EndEntry = false
 is_inside action.EndAlone = false
 is_inside _ = true
 
-opened_none : (files : FileNames) (place : Place) (k : Kind) (w : Work) → (construct_opened files place k w).closed ≡ w.closed
+opened_none : (files : FileNames) (place : Place) (k : Kind) (w : Compilation) → (construct_opened files place k w).closed ≡ w.closed
 opened_none files place k w = (nested_same files (last_place w.unit.tokens place) (is_deep w 1) w).1
 
-closed_none : (w : Work) → w.closed ≡ 0 → (construct_closed w).closed ≡ 0
+closed_none : (w : Compilation) → w.closed ≡ 0 → (construct_closed w).closed ≡ 0
 closed_none w e =
-    ap (λ (v : Work). v.closed) (ap (λ n. if nat_lt 0 n then record w { closed = n - 1 } else construct_ended w) e) ∙ e
+    ap (λ (v : Compilation). v.closed) (ap (λ n. if nat_lt 0 n then record w { closed = n - 1 } else construct_ended w) e) ∙ e
 
-step_carried_none : (files : FileNames) (first : Place) (f : Option Finding) (v : Work)
+step_carried_none : (files : FileNames) (first : Place) (f : Option Finding) (v : Compilation)
     → (part_carried files first part.Step f v).closed ≡ v.closed
 unfolding part_effect
 step_carried_none files first (Some f) v = refl
 step_carried_none files first None v = refl
 
-step_none : (files : FileNames) (place : Place) (w : Work) → (act files place action.EndForStep w).closed ≡ w.closed
+step_none : (files : FileNames) (place : Place) (w : Compilation) → (act files place action.EndForStep w).closed ≡ w.closed
 step_none files place w =
     let ready = part_prepared w in
     let first = place_of part.Step place ready in
-    of_both (λ (v : Work). v.closed ≡ w.closed) w.is_passed_over (passed (has_last part.Step) w) (part_finished files first part.Step ready)
+    of_both (λ (v : Compilation). v.closed ≡ w.closed) w.is_passed_over (passed (has_last part.Step) w) (part_finished files first part.Step ready)
     (λ _. refl) (λ _. step_carried_none files first (found_in part.Step ready) (named ready))
 
-loop_carried_none : (files : FileNames) (first : Place) (f : Option Finding) (v : Work)
+loop_carried_none : (files : FileNames) (first : Place) (f : Option Finding) (v : Compilation)
     → (part_carried files first part.Loop f v).closed ≡ v.closed
 unfolding part_effect
 loop_carried_none files first (Some f) v = refl
 loop_carried_none files first None v = refl
 
-loop_none : (files : FileNames) (place : Place) (w : Work) → (act files place action.EndObjectloop w).closed ≡ w.closed
+loop_none : (files : FileNames) (place : Place) (w : Compilation) → (act files place action.EndObjectloop w).closed ≡ w.closed
 loop_none files place w =
     let ready = part_prepared w in
     let first = place_of part.Loop place ready in
-    of_both (λ (v : Work). v.closed ≡ w.closed) w.is_passed_over (passed (has_last part.Loop) w) (part_finished files first part.Loop ready)
+    of_both (λ (v : Compilation). v.closed ≡ w.closed) w.is_passed_over (passed (has_last part.Loop) w) (part_finished files first part.Loop ready)
     (λ _. refl) (λ _. loop_carried_none files first (found_in part.Loop ready) (named ready))
 
 -- a header closes none ahead, and leaves none open where none was
-pub header_same : (files : FileNames) (first : Place) (names : List Name) (w : Work)
+pub header_same : (files : FileNames) (first : Place) (names : List Name) (w : Compilation)
     → ((header_of files first names w).closed ≡ w.closed) × (w.constructs ≡ [] → (header_of files first names w).constructs ≡ [])
 header_same files first [] w = (refl, λ e. e)
 header_same files first (name ∷ locals) w =
-    of_both (λ (v : Work). (v.closed ≡ w.closed) × (w.constructs ≡ [] → v.constructs ≡ [])) (is_replaced name w)
+    of_both (λ (v : Compilation). (v.closed ≡ w.closed) × (w.constructs ≡ [] → v.constructs ≡ [])) (is_replaced name w)
     (passed true (record w { is_passed_over = true; is_embedded = false; constructs = [] }))
     (header_with files first name (with_locals locals no_locals) (record w { is_passed_over = false; is_embedded = false }))
     (λ _. (refl, λ e. refl)) (λ _. (refl, λ e. refl))
 
-routine_none : (files : FileNames) (place : Place) (w : Work) → (close files place w).closed ≡ w.closed
+routine_none : (files : FileNames) (place : Place) (w : Compilation) → (close files place w).closed ≡ w.closed
 routine_none files place w =
-    of_both (λ (v : Work). v.closed ≡ w.closed) w.is_passed_over (passed true w) (close_open files place w) (λ _. refl) (λ _. refl)
+    of_both (λ (v : Compilation). v.closed ≡ w.closed) w.is_passed_over (passed true w) (close_open files place w) (λ _. refl) (λ _. refl)
 
-pub inside_act : (files : FileNames) (place : Place) (a : Action) (w : Work) → is_inside a ≡ true → w.closed ≡ 0
+pub inside_act : (files : FileNames) (place : Place) (a : Action) (w : Compilation) → is_inside a ≡ true → w.closed ≡ 0
     → (act files place a w).closed ≡ 0
 inside_act files place action.OpenIf w i e = opened_none files place kind.If w ∙ e
 inside_act files place action.OpenWhile w i e = opened_none files place kind.While w ∙ e
@@ -486,7 +486,7 @@ inside_act files place action.EndEntry w i e = cc
 inside_act files place action.EndAlone w i e = cc
 inside_act files place a w i e = (quiet_act files place a w refl).1 ∙ e
 
-pub took_none : (files : FileNames) (t : Spelled) (w : Work) → (took files t w).closed ≡ w.closed
+pub took_none : (files : FileNames) (t : SourceToken) (w : Compilation) → (took files t w).closed ≡ w.closed
 took_none files t w = (took_same files t w).1
 
 pub quiet_inside : (a : Action) → is_quiet a ≡ true → is_inside a ≡ true

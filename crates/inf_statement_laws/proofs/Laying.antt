@@ -18,7 +18,7 @@ use Rattle.inf_statements.specs.declared.constructs.Kind.{Kind}
 use Rattle.inf_statements.specs.declared.constructs.Kind.TheVariants as kind
 use Rattle.inf_statements.specs.declared.constructs.Over.TheVariants as over
 use Rattle.inf_work.specs.Acting.{act}
-use Rattle.inf_work.specs.Actions.{Work, is_deep, nested}
+use Rattle.inf_work.specs.Actions.{Compilation, is_deep, nested}
 use Rattle.inf_work.specs.Parts.{closed_ahead, construct_closed, construct_ended, construct_joined, construct_opened, constructs_laid}
 use Rattle.inf_statement_laws.specs.Happenings.{Acts, Between, Happening, IsRead, Moment, Quiet, bodies, rests}
 use Rattle.inf_statement_laws.specs.Nested.{Case, Do, For, If, IfElse, Nested, NoStep, Objectloop, Plain, Step, StepEnds, Switch, Then, While, happenings, step_happenings}
@@ -29,43 +29,43 @@ use Rattle.inf_statement_laws.proofs.Nesting.{Compound, body_is_nested, do_is_ne
 
 -- Happenings behind others
 
-pub run_then : (files : FileNames) (xs ys : List Happening) (w : Work) → run files (xs ++ ys) w ≡ run files ys (run files xs w)
+pub run_then : (files : FileNames) (xs ys : List Happening) (w : Compilation) → run files (xs ++ ys) w ≡ run files ys (run files xs w)
 run_then files [] ys w = refl
 run_then files (x ∷ xs) ys w = run_then files xs ys (happens files x w)
 
 -- The innermost of those that are open, with none closed ahead
 
-record At (c : Construct) (around : List Construct) (w : Work) : Type 0 where
+record At (c : Construct) (around : List Construct) (w : Compilation) : Type 0 where
   is : w.constructs ≡ c ∷ around
   none_ahead : w.closed ≡ 0
 
-at_quiet : (files : FileNames) (q : Quiet) (c : Construct) (around : List Construct) (w : Work) → At c around w
+at_quiet : (files : FileNames) (q : Quiet) (c : Construct) (around : List Construct) (w : Compilation) → At c around w
     → At c around (run files q.all w)
 at_quiet files q c around w at =
     let same = quiet_run files q.all w q.are in record { is = same.0 ∙ at.is; none_ahead = same.1 ∙ at.none_ahead }
 
-at_holding : (at : Moment) (c : Construct × Out) (around : List Construct) (w : Work) → w.closed ≡ 0 → At c.0 around (holding at c around w)
+at_holding : (at : Moment) (c : Construct × Out) (around : List Construct) (w : Compilation) → w.closed ≡ 0 → At c.0 around (holding at c around w)
 at_holding at c around w e = record { is = refl; none_ahead = e }
 
-nested_is : (files : FileNames) (place : Place) (b : Bool) (w : Work)
+nested_is : (files : FileNames) (place : Place) (b : Bool) (w : Compilation)
     → nested files place b w ≡ record w { report = (nested files place b w).report }
 nested_is files place true w = refl
 nested_is files place false w = refl
 
-opening_is : (files : FileNames) (at : Moment) (k : Kind) (w : Work)
+opening_is : (files : FileNames) (at : Moment) (k : Kind) (w : Compilation)
     → passed at.behind (construct_opened files at.place k w) ≡ opened_at files at (opened k w.output) w
 opening_is files at k w =
-    ap (λ (told : Work). passed at.behind (constructs_laid (begun k told.constructs) told))
+    ap (λ (told : Compilation). passed at.behind (constructs_laid (begun k told.constructs) told))
     (nested_is files (last_place w.unit.tokens at.place) (is_deep w 1) w)
 
-joining_is : (joins : Moment) (c : Construct) (around : List Construct) (w : Work) → At c around w
+joining_is : (joins : Moment) (c : Construct) (around : List Construct) (w : Compilation) → At c around w
     → passed joins.behind (construct_joined w) ≡ holding joins (between c w.output) around w
 joining_is joins c around w at = ap (λ l. passed joins.behind (constructs_laid (changed between l) w)) at.is
 
-pub closing_open : (w : Work) → w.closed ≡ 0 → construct_closed w ≡ construct_ended w
+pub closing_open : (w : Compilation) → w.closed ≡ 0 → construct_closed w ≡ construct_ended w
 closing_open w e = ap (λ n. if nat_lt 0 n then record w { closed = n - 1 } else construct_ended w) e
 
-closing_is : (closes : Moment) (c : Construct) (around : List Construct) (w : Work) → At c around w
+closing_is : (closes : Moment) (c : Construct) (around : List Construct) (w : Compilation) → At c around w
     → passed closes.behind (construct_closed w) ≡ ended_as closes c around w
 closing_is closes c around w at =
     ap (passed closes.behind) (closing_open w at.none_ahead ∙ ap (λ l. constructs_laid (ended l) w) at.is)
@@ -83,15 +83,15 @@ holds_then : (b : Bool) (x y z : List Construct) → Holds b x y → Holds b y z
 holds_then false x y z f g = g ∙ f
 holds_then true x y z f g = λ c around is. let k = f c around is in let l = g (record c { kind = k.0 }) around k.1 in (l.0, l.1)
 
-pub record IsLaid {b : Bool} (files : FileNames) (n : Nested b) (w : Work) : Type 0 where
+pub record IsLaid {b : Bool} (files : FileNames) (n : Nested b) (w : Compilation) : Type 0 where
   pub runs : run files (happenings n) w ≡ laid files n w
   pub holds : Holds b w.constructs (laid files n w).constructs
   pub none_ahead : (laid files n w).closed ≡ 0
 
 abbrev pub Inner : {b : Bool} → FileNames → Nested b → Type 0
-Inner files n = (w : Work) → w.closed ≡ 0 → IsLaid files n w
+Inner files n = (w : Compilation) → w.closed ≡ 0 → IsLaid files n w
 
-at_body : (files : FileNames) (body : Nested false) → Inner files body → (c : Construct) (around : List Construct) (w : Work)
+at_body : (files : FileNames) (body : Nested false) → Inner files body → (c : Construct) (around : List Construct) (w : Compilation)
     → At c around w → At c around (laid files body w)
 at_body files body inner c around w at =
     let i = inner w at.none_ahead in record { is = i.holds ∙ at.is; none_ahead = i.none_ahead }
@@ -101,12 +101,12 @@ abbrev close : Moment → List Happening
 close at = Acts at action.Close ∷ []
 
 -- It ends where what ran has it as the innermost.
-record Ends (files : FileNames) (hs : List Happening) (v : Work) (c : Construct) (around : List Construct) (closes : Moment)
-    (w : Work) : Type 0 where
+record Ends (files : FileNames) (hs : List Happening) (v : Compilation) (c : Construct) (around : List Construct) (closes : Moment)
+    (w : Compilation) : Type 0 where
   runs : run files hs v ≡ ended_as closes c around w
   none_ahead : w.closed ≡ 0
 
-closed_behind : (files : FileNames) (c : Construct) (around : List Construct) (closes : Moment) (xs : List Happening) (v w : Work)
+closed_behind : (files : FileNames) (c : Construct) (around : List Construct) (closes : Moment) (xs : List Happening) (v w : Compilation)
     → run files xs v ≡ w → At c around w
     → Ends files (xs ++ close closes) v c around closes w
 closed_behind files c around closes xs v w e at = record {
@@ -116,7 +116,7 @@ closed_behind files c around closes xs v w e at = record {
 
 -- a body, and the closing
 body_closed : (files : FileNames) (body : Nested false) → Inner files body
-    → (c : Construct) (around : List Construct) (closes : Moment) (v : Work) → At c around v
+    → (c : Construct) (around : List Construct) (closes : Moment) (v : Compilation) → At c around v
     → Ends files (happenings body ++ close closes) v c around closes (laid files body v)
 body_closed files body inner c around closes v at =
     closed_behind files c around closes (happenings body) v (laid files body v) (inner v at.none_ahead).runs
@@ -124,26 +124,26 @@ body_closed files body inner c around closes v at =
 
 -- what is quiet, a body, and the closing
 quiet_body_closed : (files : FileNames) (q : Quiet) (body : Nested false) → Inner files body
-    → (c : Construct) (around : List Construct) (closes : Moment) (v : Work) → At c around v
+    → (c : Construct) (around : List Construct) (closes : Moment) (v : Compilation) → At c around v
     → Ends files (q.all ++ (happenings body ++ close closes)) v c around closes (laid files body (run files q.all v))
 quiet_body_closed files q body inner c around closes v at =
     let ends = body_closed files body inner c around closes (run files q.all v) (at_quiet files q c around v at) in
     record { runs = run_then files q.all (happenings body ++ close closes) v ∙ ends.runs; none_ahead = ends.none_ahead }
 
 -- behind the word of one
-abbrev word_read : FileNames → Moment → Kind → Work → Work
+abbrev word_read : FileNames → Moment → Kind → Compilation → Compilation
 word_read files opens k w = opened_at files opens (opened k w.output) w
 
-at_word : (files : FileNames) (opens : Moment) (k : Kind) (w : Work) → w.closed ≡ 0
+at_word : (files : FileNames) (opens : Moment) (k : Kind) (w : Compilation) → w.closed ≡ 0
     → At (opened k w.output).0 w.constructs (word_read files opens k w)
 at_word files opens k w e = record { is = refl; none_ahead = e }
 
 -- One that is laid as a whole
-record Whole {b : Bool} (files : FileNames) (n : Nested b) (w : Work) : Type 0 where
+record Whole {b : Bool} (files : FileNames) (n : Nested b) (w : Compilation) : Type 0 where
   runs : run files (happenings n) w ≡ laid files n w
   none_ahead : (laid files n w).closed ≡ 0
 
-if_is : {b : Bool} (files : FileNames) (opens : Moment) (test : Quiet) (body : Nested false) (closes : Moment) (w : Work) → w.closed ≡ 0
+if_is : {b : Bool} (files : FileNames) (opens : Moment) (test : Quiet) (body : Nested false) (closes : Moment) (w : Compilation) → w.closed ≡ 0
     → Inner files body → Whole files (If {b = b} opens test body closes) w
 if_is files opens test body closes w e inner =
     let end = quiet_body_closed files test body inner (opened kind.If w.output).0 w.constructs closes (word_read files opens kind.If w)
@@ -155,7 +155,7 @@ if_is files opens test body closes w e inner =
       none_ahead = end.none_ahead;
     }
 
-while_is : {b : Bool} (files : FileNames) (opens : Moment) (test : Quiet) (body : Nested false) (closes : Moment) (w : Work) → w.closed ≡ 0
+while_is : {b : Bool} (files : FileNames) (opens : Moment) (test : Quiet) (body : Nested false) (closes : Moment) (w : Compilation) → w.closed ≡ 0
     → Inner files body → Whole files (While {b = b} opens test body closes) w
 while_is files opens test body closes w e inner =
     let end = quiet_body_closed files test body inner (opened kind.While w.output).0 w.constructs closes
@@ -168,7 +168,7 @@ while_is files opens test body closes w e inner =
     }
 
 else_is : {b : Bool} (files : FileNames) (opens : Moment) (test : Quiet) (body : Nested false) (joins : Moment) (word : Quiet)
-    (other : Nested false) (closes : Moment) (w : Work) → w.closed ≡ 0
+    (other : Nested false) (closes : Moment) (w : Compilation) → w.closed ≡ 0
     → Inner files body → Inner files other → Whole files (IfElse {b = b} opens test body joins word other closes) w
 else_is files opens test body joins word other closes w e inner inner_other =
     let rest : List Happening = word.all ++ (happenings other ++ close closes) in
@@ -193,7 +193,7 @@ else_is files opens test body joins word other closes w e inner inner_other =
     }
 
 do_is : {b : Bool} (files : FileNames) (opens : Moment) (body : Nested false) (word : Quiet) (joins : Moment) (test : Quiet)
-    (closes : Moment) (w : Work) → w.closed ≡ 0 → Inner files body
+    (closes : Moment) (w : Compilation) → w.closed ≡ 0 → Inner files body
     → Whole files (Do {b = b} opens body word joins test closes) w
 do_is files opens body word joins test closes w e inner =
     let rest : List Happening = test.all ++ close closes in
@@ -225,7 +225,7 @@ kept_step : (c : Construct) (around constructs : List Construct) → StepIn c ar
     → constructs ≡ with_step_in constructs c ∷ around
 kept_step c around constructs k = k.1 ∙ ap (λ d. d ∷ around) (sym (ap (λ l. with_step_in l c) k.1))
 
-at_step : (files : FileNames) (step : Step) (c : Construct) (around : List Construct) (w : Work) → At c around w
+at_step : (files : FileNames) (step : Step) (c : Construct) (around : List Construct) (w : Compilation) → At c around w
     → At (with_step_in (run files (step_happenings step) w).constructs c) around (run files (step_happenings step) w)
 at_step files NoStep c around w at = record { is = kept_step c around w.constructs (c.step, at.is); none_ahead = at.none_ahead }
 at_step files (StepEnds step ends) c around w at =
@@ -241,11 +241,11 @@ at_step files (StepEnds step ends) c around w at =
     })
 
 -- what is open already is held
-held : (c : Construct) (around : List Construct) (w : Work) → At c around w → w ≡ record w { constructs = c ∷ around }
+held : (c : Construct) (around : List Construct) (w : Compilation) → At c around w → w ≡ record w { constructs = c ∷ around }
 held c around w at = ap (λ l. record w { constructs = l }) at.is
 
 for_is : {b : Bool} (files : FileNames) (opens : Moment) (start : Quiet) (joins : Moment) (test : Quiet) (step : Step) (bracket : Quiet)
-    (body : Nested false) (closes : Moment) (w : Work)
+    (body : Nested false) (closes : Moment) (w : Compilation)
     → w.closed ≡ 0 → Inner files body → Whole files (For {b = b} opens start joins test step bracket body closes) w
 for_is files opens start joins test step bracket body closes w e inner =
     let last : List Happening = bracket.all ++ (happenings body ++ close closes) in
@@ -283,7 +283,7 @@ kept_kind : (c : Construct) (around constructs : List Construct) → KindIn c ar
 kept_kind c around constructs k = k.1 ∙ ap (λ d. d ∷ around) (sym (ap (λ l. with_kind_in l c) k.1))
 
 loop_is : {b : Bool} (files : FileNames) (opens : Moment) (loop : Quiet) (ends joins : Moment) (bracket : Quiet) (body : Nested false)
-    (closes : Moment) (w : Work) → w.closed ≡ 0 → Inner files body
+    (closes : Moment) (w : Compilation) → w.closed ≡ 0 → Inner files body
     → Whole files (Objectloop {b = b} opens loop ends joins bracket body closes) w
 loop_is files opens loop ends joins bracket body closes w e inner =
     let rest : List Happening = bracket.all ++ (happenings body ++ close closes) in
@@ -310,7 +310,7 @@ loop_is files opens loop ends joins bracket body closes w e inner =
     }
 
 switch_is : {b : Bool} (files : FileNames) (opens : Moment) (value : Quiet) (cases : Nested true) (brace : Quiet) (closes : Moment)
-    (w : Work) → w.closed ≡ 0 → Inner files cases
+    (w : Compilation) → w.closed ≡ 0 → Inner files cases
     → Whole files (Switch {b = b} opens value cases brace closes) w
 switch_is files opens value cases brace closes w e inner =
     let k = kind.Switch case.Nothing false in
@@ -393,7 +393,7 @@ leaves_open : (files : FileNames) (s : Nested false) (hs : List Happening) → h
 leaves_open files s hs same w e =
     let i = laid_as files s w e in
     let runs = sym (ap (λ l. run files l w) same) ∙ i.runs in
-    record { same = ap (λ (v : Work). v.constructs) runs ∙ i.holds; none_ahead = ap (λ (v : Work). v.closed) runs ∙ i.none_ahead }
+    record { same = ap (λ (v : Compilation). v.constructs) runs ∙ i.holds; none_ahead = ap (λ (v : Compilation). v.closed) runs ∙ i.none_ahead }
 
 rest_nested : (rest : Symbol Action) (hs : List Happening) → IsOneOf rest rests → IsRead rest hs → Compound false rest hs
 rest_nested rest hs first is = if_is_nested hs is
@@ -418,7 +418,7 @@ statements_are_laid_whole = record {
 
 -- Routines
 
-pub alone_behind : {b : Bool} (files : FileNames) (n : Nested b) (w : Work) → w.closed ≡ 0 → own_alone w.constructs ≡ true
+pub alone_behind : {b : Bool} (files : FileNames) (n : Nested b) (w : Compilation) → w.closed ≡ 0 → own_alone w.constructs ≡ true
     → own_alone (laid files n w).constructs ≡ true
 alone_behind files (Plain plain) w e h = ap own_alone (quiet_run files plain.all w plain.are).0 ∙ h
 alone_behind files (Then before behind) w e h =
@@ -462,9 +462,9 @@ ends_open : (files : FileNames) (s : Nested true) (hs : List Happening) → happ
 ends_open files s hs same w e h =
     let i = laid_as files s w e in
     let runs = sym (ap (λ l. run files l w) same) ∙ i.runs in (
-      ap (λ (v : Work). depth v.constructs) runs
+      ap (λ (v : Compilation). depth v.constructs) runs
           ∙ depth_of (laid files s w).constructs (alone_behind files s w e (alone_of w.constructs h)),
-      ap (λ (v : Work). v.closed) runs ∙ i.none_ahead,
+      ap (λ (v : Compilation). v.closed) runs ∙ i.none_ahead,
     )
 
 pub routines_are_laid_whole : RoutinesAreLaidWhole
@@ -475,10 +475,10 @@ routines_are_laid_whole = record {
 
 -- Closing ahead
 
-abbrev pub ahead : ℕ → Work → Work
+abbrev pub ahead : ℕ → Compilation → Compilation
 ahead count w = record (constructs_laid (all_ended count w.constructs) w) { closed = count }
 
-pub ahead_is : (count : ℕ) (w : Work) → w.closed ≡ 0 → closed_ahead count w ≡ ahead count w
+pub ahead_is : (count : ℕ) (w : Compilation) → w.closed ≡ 0 → closed_ahead count w ≡ ahead count w
 ahead_is count w e =
     let all : count - 0 ≡ count = omega arith in
     let most : max 0 count ≡ count = omega arith in
@@ -486,7 +486,7 @@ ahead_is count w e =
     ∙ (ap (λ n. record (constructs_laid (all_ended n w.constructs) w) { closed = max 0 count }) all
     ∙ ap (λ n. record (constructs_laid (all_ended count w.constructs) w) { closed = n }) most)
 
-pub next_ahead : (count : ℕ) (w : Work) → construct_closed (ahead (suc count) w) ≡ ahead count (construct_ended w)
+pub next_ahead : (count : ℕ) (w : Compilation) → construct_closed (ahead (suc count) w) ≡ ahead count (construct_ended w)
 next_ahead count w =
     let some : nat_lt 0 (suc count) ≡ true = lt-ltb 0 (suc count) (omega arith) in
     let one_less : suc count - 1 ≡ count = omega arith in
@@ -494,7 +494,7 @@ next_ahead count w =
     ∙ ap (λ n. record (ahead count (construct_ended w)) { closed = n }) one_less
 
 -- what is done before the next end, and behind it
-pub next_passed : (m : Between) (count : ℕ) (w : Work)
+pub next_passed : (m : Between) (count : ℕ) (w : Compilation)
     → construct_closed (passed m (ahead (suc count) w)) ≡ passed m (construct_closed (ahead (suc count) w))
 next_passed m count w =
     let some : nat_lt 0 (suc count) ≡ true = lt-ltb 0 (suc count) (omega arith) in
@@ -503,14 +503,14 @@ next_passed m count w =
     ∙ sym (ap (λ b. passed m (if b then record (ahead (suc count) w) { closed = suc count - 1 } else construct_ended
     (ahead (suc count) w))) some)
 
-all_ahead : (files : FileNames) (m : Between) (places : List Place) (w : Work) → w.closed ≡ 0
+all_ahead : (files : FileNames) (m : Between) (places : List Place) (w : Compilation) → w.closed ≡ 0
     → run files (endings places) (passed m (ahead (length places) w)) ≡ passed m (run files (endings places) w)
 all_ahead files m [] w e = ap (λ n. passed m (record w { closed = n })) (sym e)
 all_ahead files m (place ∷ places) w e =
     ap (run files (endings places)) (next_passed m (length places) w ∙ ap (passed m) (next_ahead (length places) w))
     ∙ (all_ahead files m places (construct_ended w) e ∙ ap (λ v. passed m (run files (endings places) v)) (sym (closing_open w e)))
 
-again_ahead : (count : ℕ) (m : Between) (w : Work) → closed_ahead count (passed m (ahead count w)) ≡ passed m (ahead count w)
+again_ahead : (count : ℕ) (m : Between) (w : Compilation) → closed_ahead count (passed m (ahead count w)) ≡ passed m (ahead count w)
 again_ahead count m w =
     let none : count - count ≡ 0 = omega arith in
     let most : max count count ≡ count = omega arith in

@@ -16,10 +16,10 @@ use Rattle.inf_grammar.specs.Evaluated.{language_is_decided}
 use Rattle.inf_grammar.specs.Language.{grammar, known}
 use Rattle.inf_grammar.specs.Routines.{closings}
 use Rattle.inf_unit.specs.Messages.{FileNames}
-use Rattle.inf_unit.specs.Tokens.{Spelled}
+use Rattle.inf_unit.specs.Tokens.{SourceToken}
 use Rattle.inf_unit.specs.Units.{first_place, names_in}
 use Rattle.inf_work.specs.Acting.{act, acted}
-use Rattle.inf_work.specs.Actions.{Work, took}
+use Rattle.inf_work.specs.Actions.{Compilation, took}
 use Rattle.inf_work.specs.Parts.{closed_ahead, construct_ended}
 use Rattle.inf_statement_laws.specs.Happenings.{Acts, AreOf, Between, Happening, Quiet, Takes, happen_quietly, is_quiet}
 use Rattle.inf_statement_laws.specs.Laid.{happens, next_comes, passed, run}
@@ -34,12 +34,12 @@ use Rattle.inf_statement_laws.proofs.Texts.{OfRule, Parts, deep, split}
 
 -- Tokens
 
-actions_happen : (files : FileNames) (t : Spelled) (m : Between) (actions : List Action) (w : Work)
+actions_happen : (files : FileNames) (t : SourceToken) (m : Between) (actions : List Action) (w : Compilation)
     → next_comes (passed m (took files t (acted files t.place actions w))) ≡ run files (token_happenings t m actions) w
 actions_happen files t m [] w = refl
 actions_happen files t m (a ∷ actions) w = actions_happen files t m actions (act files t.place a w)
 
-happen_as_events : (t : Spelled) (m : Between) (actions : List Action) (atom : ℕ)
+happen_as_events : (t : SourceToken) (m : Between) (actions : List Action) (atom : ℕ)
     → AreOf (events_of actions atom) (token_happenings t m actions)
 happen_as_events t m [] atom = tt
 happen_as_events t m (a ∷ actions) atom = (refl, happen_as_events t m actions atom)
@@ -121,7 +121,7 @@ abbrev ends : ℕ → List Action
 ends zero = []
 ends (suc count) = action.Close ∷ ends count
 
-acted_then : (files : FileNames) (place : Place) (xs ys : List Action) (w : Work)
+acted_then : (files : FileNames) (place : Place) (xs ys : List Action) (w : Compilation)
     → acted files place (xs ++ ys) w ≡ acted files place ys (acted files place xs w)
 acted_then files place [] ys w = refl
 acted_then files place (x ∷ xs) ys w = acted_then files place xs ys (act files place x w)
@@ -138,13 +138,13 @@ closings_first atom (Act action.Close ∷ symbols) =
     (on.0, ap (λ l. action.Close ∷ l) on.1 ∙ ap (λ n. ends n ++ on.0) more)
 closings_first atom (Act a ∷ symbols) = ((taken grammar known atom (Act a ∷ symbols)).actions, refl)
 
-ends_none : (files : FileNames) (place : Place) (count : ℕ) (w : Work) → w.closed ≡ 0 → (acted files place (ends count) w).closed ≡ 0
+ends_none : (files : FileNames) (place : Place) (count : ℕ) (w : Compilation) → w.closed ≡ 0 → (acted files place (ends count) w).closed ≡ 0
 ends_none files place zero w e = e
 ends_none files place (suc count) w e = ends_none files place count (act files place action.Close w)
     (inside_act files place action.Close w refl e)
 
 -- those that were closed ahead end, and what was done meanwhile is done behind them
-ahead_ends : (files : FileNames) (place : Place) (m : Between) (count : ℕ) (w : Work) → w.closed ≡ 0
+ahead_ends : (files : FileNames) (place : Place) (m : Between) (count : ℕ) (w : Compilation) → w.closed ≡ 0
     → acted files place (ends count) (passed m (ahead count w)) ≡ passed m (acted files place (ends count) w)
 ahead_ends files place m zero w e = ap (λ n. passed m (record w { closed = n })) (sym e)
 ahead_ends files place m (suc count) w e =
@@ -153,7 +153,7 @@ ahead_ends files place m (suc count) w e =
     ∙ ap (λ v. passed m (acted files place (ends count) v)) (sym (closing_open w e)))
 
 -- and so do their happenings
-behind_ends_run : (files : FileNames) (t : Spelled) (b m : Between) (count : ℕ) (rest : List Action) (others : List Happening) (w : Work)
+behind_ends_run : (files : FileNames) (t : SourceToken) (b m : Between) (count : ℕ) (rest : List Action) (others : List Happening) (w : Compilation)
     → run files (behind_some (suc count) m (token_happenings t b (ends (suc count) ++ rest) ++ others)) w
     ≡ run files (token_happenings t b rest ++ others) (passed m (acted files t.place (ends (suc count)) w))
 behind_ends_run files t b m zero rest others w = refl
@@ -178,7 +178,7 @@ reading_inside [] symbols = true
 reading_inside (s ∷ seen) symbols = all_inside (taken grammar known s.atom symbols).actions && reading_inside seen
     (taken grammar known s.atom symbols).left
 
-acted_none : (files : FileNames) (place : Place) (actions : List Action) (w : Work) → all_inside actions ≡ true → w.closed ≡ 0
+acted_none : (files : FileNames) (place : Place) (actions : List Action) (w : Compilation) → all_inside actions ≡ true → w.closed ≡ 0
     → (acted files place actions w).closed ≡ 0
 acted_none files place [] w i e = e
 acted_none files place (a ∷ actions) w i e =
@@ -191,7 +191,7 @@ inside_joined (h ∷ xs) ys x y =
     let both = and_parts (happens_inside h) (happen_inside xs) x in
     and_from (happens_inside h) (happen_inside (xs ++ ys)) both.0 (inside_joined xs ys both.1 y)
 
-inside_token : (t : Spelled) (b : Between) (actions : List Action) (others : List Happening)
+inside_token : (t : SourceToken) (b : Between) (actions : List Action) (others : List Happening)
     → happen_inside (token_happenings t b actions ++ others) ≡ true
     → (all_inside actions ≡ true) × (happen_inside others ≡ true)
 inside_token t b [] others i = (refl, i)
@@ -290,9 +290,9 @@ Waits (Some m) symbols = (count : ℕ) × (closings symbols ≡ suc count)
 
 -- where a token's actions begin, by what they are from there on
 record Starts (files : FileNames) (d : Option Between) (s : Seen) (own : Between) (symbols : List (Symbol Action))
-    (others : List Happening) (w : Work) : Type 0 where
+    (others : List Happening) (w : Compilation) : Type 0 where
   rest : List Action
-  from : Work
+  from : Compilation
   acts : acted files s.token.place (taken grammar known s.atom symbols).actions (next_comes (directed d (closings symbols) w)) ≡ acted
       files s.token.place rest from
   runs : run files (behind_ends d (closings symbols) (token_happenings s.token own (taken grammar known s.atom symbols).actions ++
@@ -306,7 +306,7 @@ inside_rest zero rest i = i
 inside_rest (suc count) rest i = inside_rest count rest i
 
 starts : (files : FileNames) (d : Option Between) (s : Seen) (own : Between) (symbols : List (Symbol Action)) (others : List Happening)
-    (w : Work) → w.closed ≡ 0 → Waits d symbols
+    (w : Compilation) → w.closed ≡ 0 → Waits d symbols
     → all_inside (taken grammar known s.atom symbols).actions ≡ true → Starts files d s own symbols others w
 starts files None s own symbols others w e waits i =
     record { rest = (taken grammar known s.atom symbols).actions; from = next_comes w; acts = refl; runs = refl; none = e; inside = i }
@@ -341,13 +341,13 @@ behind_none m (h ∷ hs) = refl
 -- what all further tokens do
 abbrev Further : FileNames → List Seen → List (Symbol Action) → Type 0
 Further files seen symbols =
-    (d : Option Between) (w : Work) → w.closed ≡ 0 → Waits d symbols
+    (d : Option Between) (w : Compilation) → w.closed ≡ 0 → Waits d symbols
     → next_comes (all_taken files seen symbols (directed d (closings symbols) w)) ≡ run files
     (behind_ends d (closings symbols) (all_happenings seen symbols)) (next_comes w)
 
 -- behind a token
 onward : (files : FileNames) (seen : List Seen) (symbols : List (Symbol Action)) → Further files seen symbols
-    → (d : Option Between) (b : Between) (w : Work) → w.closed ≡ 0
+    → (d : Option Between) (b : Between) (w : Compilation) → w.closed ≡ 0
     → (count : ℕ) → closings symbols ≡ count
     → next_comes (all_taken files seen symbols (directed d (closings symbols) (passed b w)))
     ≡ run files (behind_ends d (closings symbols) (all_happenings seen symbols))
@@ -437,10 +437,10 @@ are_routines bracket seen is f e =
     )
 
 -- up to what stands in it
-abbrev headed : FileNames → Routine → Work → Work
+abbrev headed : FileNames → Routine → Compilation → Compilation
 headed files r w = run files r.semicolon.all (happens files (Acts r.heads action.EndLocals) (run files r.header.all w))
 
-headed_same : (files : FileNames) (r : Routine) (w : Work) → w.closed ≡ 0
+headed_same : (files : FileNames) (r : Routine) (w : Compilation) → w.closed ≡ 0
     → ((headed files r w).closed ≡ 0) × (w.constructs ≡ [] → (headed files r w).constructs ≡ [])
 headed_same files r w e =
     let v = run files r.header.all w in
@@ -449,7 +449,7 @@ headed_same files r w e =
     let s = quiet_run files r.semicolon.all (happens files (Acts r.heads action.EndLocals) v) r.semicolon.are in
     (s.1 ∙ (n.0 ∙ (h.1 ∙ e)), λ o. s.0 ∙ n.1 (h.0 ∙ o))
 
-routine_lays : (files : FileNames) (r : Routine) (w : Work) → w.closed ≡ 0 → run files (routine_happenings r) w ≡ routine_laid files r w
+routine_lays : (files : FileNames) (r : Routine) (w : Compilation) → w.closed ≡ 0 → run files (routine_happenings r) w ≡ routine_laid files r w
 routine_lays files r w e =
     let rest : List Happening = Acts r.ends action.EndRoutine ∷ r.last.all in
     let v = happens files (Acts r.heads action.EndLocals) (run files r.header.all w) in

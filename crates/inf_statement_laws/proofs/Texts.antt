@@ -5,13 +5,13 @@ use Rattle.inf_machine.specs.declared.symbols.Symbol.TheVariants.{Token, Rule, A
 use Rattle.inf_machine.specs.Grammar.{Event, Took, Did, IsOneOf, Leads, Row, action, here, row, token}
 use Rattle.inf_syntax.specs.declared.actions.Action.{Action}
 use Rattle.inf_grammar.specs.Language.{grammar}
-use Rattle.inf_unit.specs.Tokens.{Spelled}
+use Rattle.inf_unit.specs.Tokens.{SourceToken}
 use Rattle.inf_statement_laws.specs.Happenings.{Acts, AreOf, Between, Happening, IsRead, Moment, Takes}
 
 -- the happenings are those of some symbols, where it is told which are those of a rule
 abbrev pub Parts : (ℕ → List Happening → Type 0) → List (Symbol Action) → List Happening → Type 0
 Parts Of [] hs = hs ≡ []
-Parts Of (Token class ∷ symbols) hs = (t : Spelled × Between) × (rest : List Happening) × (hs ≡ Takes t.0 t.1 ∷ rest) × Parts Of symbols
+Parts Of (Token class ∷ symbols) hs = (t : SourceToken × Between) × (rest : List Happening) × (hs ≡ Takes t.0 t.1 ∷ rest) × Parts Of symbols
     rest
 Parts Of (Act a ∷ symbols) hs = (at : Moment) × (rest : List Happening) × (hs ≡ Acts at a ∷ rest) × Parts Of symbols rest
 Parts Of (Rule rule ∷ symbols) hs = (front : List Happening) × (rest : List Happening) × (hs ≡ front ++ rest) × Of rule front × Parts Of

@@ -9,9 +9,9 @@ use Rattle.inf_syntax.specs.declared.actions.Action.TheVariants as action
 use Rattle.inf_syntax.specs.Parts.{directive_2, do_rest, for_rest, if_rest, objectloop_rest, switch_rest, value_3, while_rest}
 use Rattle.inf_grammar.specs.Language.{grammar}
 use Rattle.inf_output.specs.Output.{Out}
-use Rattle.inf_unit.specs.Directives.{Asked}
+use Rattle.inf_unit.specs.Directives.{Request}
 use Rattle.inf_unit.specs.Messages.{Reported}
-use Rattle.inf_unit.specs.Tokens.{Spelled}
+use Rattle.inf_unit.specs.Tokens.{SourceToken}
 
 -- What is done between two tokens: conditional directives may tell something and begin code, and what was told is written. What is open
 -- stays.
@@ -19,7 +19,7 @@ pub record Between : Type 0 where
   pub report : Out → Reported → Reported
   pub output : Out → Out
   pub most_labels : Out → ℕ → ℕ
-  pub asked : Asked → Asked
+  pub asked : Request → Request
 
 -- where an action acts, and what is done behind it, before another token comes
 pub record Moment : Type 0 where
@@ -28,7 +28,7 @@ pub record Moment : Type 0 where
 
 pub data Happening : Type 0 where
   Acts : (at : Moment) (action : Action) → Happening
-  Takes : (token : Spelled) (behind : Between) → Happening
+  Takes : (token : SourceToken) (behind : Between) → Happening
 
 -- They are those of some events of the grammar, in order: the same actions, at any places, and for each token that was taken one, whichever
 -- it is, and whatever is done behind it.

@@ -13,13 +13,13 @@ use Rattle.inf_statements.specs.declared.constructs.Construct.{Construct}
 use Rattle.inf_statements.specs.declared.constructs.Kind.TheVariants as kind
 use Rattle.inf_statements.specs.declared.constructs.Over.TheVariants as over
 use Rattle.inf_work.specs.Acting.{act}
-use Rattle.inf_work.specs.Actions.{Work, is_deep, nested, took}
+use Rattle.inf_work.specs.Actions.{Compilation, is_deep, nested, took}
 use Rattle.inf_statement_laws.specs.Happenings.{Acts, Between, Happening, Moment, Takes}
 use Rattle.inf_statement_laws.specs.Nested.{Case, Do, For, If, IfElse, Nested, Objectloop, Plain, Switch, Then, While, step_happenings}
 
 -- Happenings one by one
 
-abbrev pub passed : Between → Work → Work
+abbrev pub passed : Between → Compilation → Compilation
 passed m w = record w {
   report = m.report w.output w.report;
   output = m.output w.output;
@@ -28,32 +28,32 @@ passed m w = record w {
 }
 
 -- The next token comes: the word of a statement waits no more to be told with a bad one behind it.
-abbrev pub next_comes : Work → Work
+abbrev pub next_comes : Compilation → Compilation
 next_comes w = record w { opening = None }
 
-abbrev pub happens : FileNames → Happening → Work → Work
+abbrev pub happens : FileNames → Happening → Compilation → Compilation
 happens files (Acts at a) w = passed at.behind (act files at.place a w)
 happens files (Takes t m) w = next_comes (passed m (took files t w))
 
-abbrev pub run : FileNames → List Happening → Work → Work
+abbrev pub run : FileNames → List Happening → Compilation → Compilation
 run files [] w = w
 run files (h ∷ happenings) w = run files happenings (happens files h w)
 
 -- Statements that hold others
 
 -- with one as the innermost of what is open around it, and with the code so far
-abbrev pub holding : Moment → Construct × Out → List Construct → Work → Work
+abbrev pub holding : Moment → Construct × Out → List Construct → Compilation → Compilation
 holding at c around w = passed at.behind (record w { constructs = c.0 ∷ around; output = c.1 })
 
 -- One is opened where its word was read, where it is told if it stands too deep.
-abbrev pub told_deep : FileNames → Place → Work → Work
+abbrev pub told_deep : FileNames → Place → Compilation → Compilation
 told_deep files place w = record w { report = (nested files (last_place w.unit.tokens place) (is_deep w 1) w).report }
 
-abbrev pub opened_at : FileNames → Moment → Construct × Out → Work → Work
+abbrev pub opened_at : FileNames → Moment → Construct × Out → Compilation → Compilation
 opened_at files at c w = holding at c w.constructs (told_deep files at.place w)
 
 -- One ends: its end is laid on what its parts leave.
-abbrev pub ended_as : Moment → Construct → List Construct → Work → Work
+abbrev pub ended_as : Moment → Construct → List Construct → Compilation → Compilation
 ended_as at c around w = passed at.behind (record w { constructs = around; output = closed c w.output })
 
 -- The unit of a loop over objects leaves it as one of another kind, and so does a case its `switch`. The unit of a step leaves it with
@@ -66,7 +66,7 @@ abbrev pub with_step_in : List Construct → Construct → Construct
 with_step_in [] c = c
 with_step_in (d ∷ constructs) c = record c { step = d.step }
 
-abbrev pub laid : {b : Bool} → FileNames → Nested b → Work → Work
+abbrev pub laid : {b : Bool} → FileNames → Nested b → Compilation → Compilation
 laid files (Plain plain) w = run files plain.all w
 laid files (Then first second) w = laid files second (laid files first w)
 laid files (Case values ends) w = happens files (Acts ends action.EndCase) (run files values.all w)

@@ -11,9 +11,9 @@ use Rattle.inf_grammar.specs.Routines.{closings}
 use Rattle.inf_code.specs.Code.{labels}
 use Rattle.inf_output.specs.Output.{begun, full}
 use Rattle.inf_unit.specs.Messages.{FileNames, with_full}
-use Rattle.inf_unit.specs.Tokens.{Spelled}
+use Rattle.inf_unit.specs.Tokens.{SourceToken}
 use Rattle.inf_work.specs.Acting.{all_acted}
-use Rattle.inf_work.specs.Actions.{Work, took}
+use Rattle.inf_work.specs.Actions.{Compilation, took}
 use Rattle.inf_work.specs.Parts.{closed_ahead}
 use Rattle.inf_statement_laws.specs.Happenings.{Acts, Between, Happening, Moment, Quiet, Takes}
 use Rattle.inf_statement_laws.specs.Laid.{happens, laid, passed, run}
@@ -48,7 +48,7 @@ directive_between files place = record nothing_between {
 -- A token with the atom as which the grammar sees it, what is done behind it, and what is done from where the first conditional directive
 -- ends behind it, if one does.
 pub record Seen : Type 0 where
-  pub token : Spelled
+  pub token : SourceToken
   pub atom : ℕ
   pub behind : Between
   pub directive : Option Between
@@ -63,12 +63,12 @@ left_behind [] symbols = symbols
 left_behind (s ∷ seen) symbols = left_behind seen (taken grammar known s.atom symbols).left
 
 -- A conditional directive closes those statements ahead that end next, whatever the next token is.
-abbrev pub directed : Option Between → ℕ → Work → Work
+abbrev pub directed : Option Between → ℕ → Compilation → Compilation
 directed None count w = w
 directed (Some m) count w = passed m (closed_ahead count w)
 
 -- Each is taken behind the actions on the way to it.
-abbrev pub all_taken : FileNames → List Seen → List (Symbol Action) → Work → Work
+abbrev pub all_taken : FileNames → List Seen → List (Symbol Action) → Compilation → Compilation
 all_taken files [] symbols w = w
 all_taken files (s ∷ seen) symbols w =
     let n = taken grammar known s.atom symbols in
@@ -78,7 +78,7 @@ all_taken files (s ∷ seen) symbols w =
 -- Their happenings
 
 -- those of one, behind some actions
-abbrev pub token_happenings : Spelled → Between → List Action → List Happening
+abbrev pub token_happenings : SourceToken → Between → List Action → List Happening
 token_happenings t m [] = Takes t m ∷ []
 token_happenings t m (a ∷ actions) = Acts (plainly_at t.place) a ∷ token_happenings t m actions
 
@@ -126,9 +126,9 @@ routine_happenings r =
     ∷ (r.semicolon.all ++ (happenings r.body ++ Acts r.ends action.EndRoutine ∷ r.last.all))
 
 -- up to its end, and behind it
-abbrev pub body_laid : FileNames → Routine → Work → Work
+abbrev pub body_laid : FileNames → Routine → Compilation → Compilation
 body_laid files r w =
     laid files r.body (run files r.semicolon.all (happens files (Acts r.heads action.EndLocals) (run files r.header.all w)))
 
-abbrev pub routine_laid : FileNames → Routine → Work → Work
+abbrev pub routine_laid : FileNames → Routine → Compilation → Compilation
 routine_laid files r w = run files r.last.all (happens files (Acts r.ends action.EndRoutine) (body_laid files r w))

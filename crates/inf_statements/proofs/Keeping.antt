@@ -31,12 +31,12 @@ use Rattle.inf_templates.specs.Limits.{PartKeeps}
 use Rattle.inf_templates.specs.Meaning.{meaning, part}
 use Rattle.inf_templates.specs.Parts.{Part, SP, TEMP, is, worked}
 use Rattle.inf_templates.proofs.Keeping.{alone_keeps, branch_keeps, call_keeps, call_routine_keeps, is_keeps, part_keeps, value_keeps, worked_keeps}
-use Rattle.inf_symbol.specs.Locals.{Local, number_of}
-use Rattle.inf_symbol.specs.Spellings.{Name}
+use Rattle.inf_sinks.specs.Locals.{Local, number_of}
+use Rattle.inf_sinks.specs.Spellings.{Name}
 use Rattle.inf_expressions.specs.declared.operators.Operand.{Operand}
 use Rattle.inf_expressions.specs.declared.operators.Operand.TheVariants as operand
 use Rattle.inf_unit.specs.Opcodes.{opcode_of}
-use Rattle.inf_unit.specs.Tokens.{Spelled}
+use Rattle.inf_unit.specs.Tokens.{SourceToken}
 use Rattle.inf_unit.specs.Units.{bytes_at, name_at}
 use Rattle.inf_unit.specs.declared.items.Item.{Item}
 use Rattle.inf_unit.specs.declared.items.Item.TheVariants as item
@@ -201,7 +201,7 @@ rule_keeps rule.IndefiniteArticle trees = veneer_called_keeps veneer.IndefiniteA
 rule_keeps rule.EnglishNumber trees = veneer_called_keeps veneer.EnglishNumber trees
 rule_keeps rule.Routine trees = called_with_keeps trees
 
-item_keeps : (set : CharSet) (tokens : List Spelled) (returns : Bool) (others : List Item) (i : Item) (trees : List Tree) → Keeps (item_code set tokens returns others i trees)
+item_keeps : (set : CharSet) (tokens : List SourceToken) (returns : Bool) (others : List Item) (i : Item) (trees : List Tree) → Keeps (item_code set tokens returns others i trees)
 item_keeps set tokens returns others (item.Text at) trees = printed_keeps (text_opcode returns others) (text_at set tokens at)
 item_keeps set tokens returns others item.Value trees = one_keeps opcode.PrintNum trees
 item_keeps set tokens returns others (item.Ruled r) trees = rule_keeps r trees
@@ -212,7 +212,7 @@ item_keeps set tokens returns others (item.Store at) trees = nothing_keeps
 item_keeps set tokens returns others (item.Branch at sense) trees = nothing_keeps
 item_keeps set tokens returns others (item.Jump at) trees = nothing_keeps
 
-items_keep : (set : CharSet) (tokens : List Spelled) (returns ends : Bool) (items : List Item) (trees : List Tree) → Keeps (items_printed set tokens returns ends items trees)
+items_keep : (set : CharSet) (tokens : List SourceToken) (returns ends : Bool) (items : List Item) (trees : List Tree) → Keeps (items_printed set tokens returns ends items trees)
 items_keep set tokens returns ends [] trees = items_ended_keeps ends
 items_keep set tokens returns ends (i ∷ items) trees =
     then_keeps (item_code set tokens returns items i trees) (items_printed set tokens returns (ends_behind i returns) items (trees_behind i trees))
@@ -411,12 +411,12 @@ branched_to_keeps name sense labels o =
     either_keeps (str_eq_ignore_ascii_case name (codes "rtrue")) holds (cond (str_eq_ignore_ascii_case name (codes "rfalse")) fails far) o (refl, refl)
     (either_keeps (str_eq_ignore_ascii_case name (codes "rfalse")) fails far o (refl, refl) (refl, refl))
 
-branched_keeps : (tokens : List Spelled) (b : Option (ℕ × Bool)) (labels : List NamedLabel) → LayingKeeps (branched tokens b labels)
+branched_keeps : (tokens : List SourceToken) (b : Option (ℕ × Bool)) (labels : List NamedLabel) → LayingKeeps (branched tokens b labels)
 unfolding branched
 branched_keeps tokens None labels o = (refl, refl)
 branched_keeps tokens (Some b) labels o = branched_to_keeps (bytes_at tokens b.0) b.1 labels o
 
-jumped_on_keeps : (tokens : List Spelled) (at : Option ℕ) (labels : List NamedLabel) → LayingKeeps (jumped_on tokens at labels)
+jumped_on_keeps : (tokens : List SourceToken) (at : Option ℕ) (labels : List NamedLabel) → LayingKeeps (jumped_on tokens at labels)
 jumped_on_keeps tokens None labels o = (refl, refl)
 jumped_on_keeps tokens (Some at) labels o = let l = labelled (bytes_at tokens at) labels o in jumped_keeps l.0.0 l.1
 
@@ -429,33 +429,33 @@ unfolding instructed
 instructed_keeps true op trees store branch = named_first_keeps op trees store branch
 instructed_keeps false op trees store branch = instruction_keeps op (operands_in trees) store branch
 
-line_instructed_keeps : (locals : List Local) (tokens : List Spelled) (op : Opcode) (e : Ends) (trees : List Tree) (labels : List NamedLabel) → LayingKeeps (line_instructed locals tokens op e trees labels)
+line_instructed_keeps : (locals : List Local) (tokens : List SourceToken) (op : Opcode) (e : Ends) (trees : List Tree) (labels : List NamedLabel) → LayingKeeps (line_instructed locals tokens op e trees labels)
 line_instructed_keeps locals tokens op e trees labels o =
     let b = branched tokens e.branch labels o in
     let code = instructed (row_of op).names_variable op trees (store_of locals b.1.names tokens e.store) b.0.0 in
     same_then o b.1 (code b.1) (branched_keeps tokens e.branch labels o)
     (instructed_keeps (row_of op).names_variable op trees (store_of locals b.1.names tokens e.store) b.0.0 b.1)
 
-text_printed_keeps : (set : CharSet) (tokens : List Spelled) (op : Option Opcode) (at : ℕ) → Keeps (text_printed set tokens op at)
+text_printed_keeps : (set : CharSet) (tokens : List SourceToken) (op : Option Opcode) (at : ℕ) → Keeps (text_printed set tokens op at)
 text_printed_keeps set tokens None at = nothing_keeps
 text_printed_keeps set tokens (Some op) at = printed_keeps op (text_at set tokens at)
 
-some_printed_keeps : (set : CharSet) (tokens : List Spelled) (op : Opcode) (at : Option ℕ) → Keeps (some_printed set tokens op at)
+some_printed_keeps : (set : CharSet) (tokens : List SourceToken) (op : Opcode) (at : Option ℕ) → Keeps (some_printed set tokens op at)
 some_printed_keeps set tokens op None = nothing_keeps
 some_printed_keeps set tokens op (Some at) = text_printed_keeps set tokens (printing_of op) at
 
-line_laid_by_keeps : (jumps has_text : Bool) (set : CharSet) (locals : List Local) (tokens : List Spelled) (op : Opcode) (e : Ends) (trees : List Tree) (labels : List NamedLabel)
+line_laid_by_keeps : (jumps has_text : Bool) (set : CharSet) (locals : List Local) (tokens : List SourceToken) (op : Opcode) (e : Ends) (trees : List Tree) (labels : List NamedLabel)
     → LayingKeeps (line_laid_by jumps has_text set locals tokens op e trees labels)
 line_laid_by_keeps true has_text set locals tokens op e trees labels = jumped_on_keeps tokens e.jump labels
 line_laid_by_keeps false true set locals tokens op e trees labels = some_printed_keeps set tokens op e.text
 line_laid_by_keeps false false set locals tokens op e trees labels = line_instructed_keeps locals tokens op e trees labels
 
-line_laid_as_keeps : (fits : Bool) (set : CharSet) (locals : List Local) (tokens : List Spelled) (op : Opcode) (e : Ends) (trees : List Tree) (labels : List NamedLabel)
+line_laid_as_keeps : (fits : Bool) (set : CharSet) (locals : List Local) (tokens : List SourceToken) (op : Opcode) (e : Ends) (trees : List Tree) (labels : List NamedLabel)
     → LayingKeeps (line_laid_as fits set locals tokens op e trees labels)
 line_laid_as_keeps true set locals tokens op e trees labels o = line_laid_by_keeps (row_of op).jumps (row_of op).has_text set locals tokens op e trees labels o
 line_laid_as_keeps false set locals tokens op e trees labels o = (refl, refl)
 
-line_keeps : (set : CharSet) (locals : List Local) (tokens : List Spelled) (op : Option Opcode) (e : Ends) (trees : List Tree) (labels : List NamedLabel)
+line_keeps : (set : CharSet) (locals : List Local) (tokens : List SourceToken) (op : Option Opcode) (e : Ends) (trees : List Tree) (labels : List NamedLabel)
     → LayingKeeps (line_laid set locals tokens op e trees labels)
 unfolding line_laid
 line_keeps set locals tokens None e trees labels o = (refl, refl)
@@ -543,7 +543,7 @@ action_leaf_same : (n : Option Name) (o : Out) → SameLimits o (settled_action 
 action_leaf_same None o = (refl, refl)
 action_leaf_same (Some n) o = action_same n.bytes n.place o
 
-leaf_same : (set : CharSet) (locals : List Local) (tokens : List Spelled) (l : Leaf) (o : Out) → SameLimits o (settled_leaf set locals tokens l o).0
+leaf_same : (set : CharSet) (locals : List Local) (tokens : List SourceToken) (l : Leaf) (o : Out) → SameLimits o (settled_leaf set locals tokens l o).0
 leaf_same set locals tokens (leaf.Name at) o = name_same locals (name_at tokens at) o
 leaf_same set locals tokens (leaf.Alone at) o =
     alone_same (is_stack (bytes_at tokens at) (number_of (bytes_at tokens at) locals)) (o, operand.Variable 0) (settled_name locals (name_at tokens at) o) o
@@ -555,14 +555,14 @@ leaf_same set locals tokens (leaf.Text at) o = text_same (text_at set tokens at)
 leaf_same set locals tokens (leaf.Action at) o = action_leaf_same (name_at tokens at) o
 leaf_same set locals tokens (leaf.System at) o = (refl, refl)
 
-pub leaves_same : (set : CharSet) (locals : List Local) (tokens : List Spelled) (leaves : List Leaf) (s : Settled) → SameLimits s.out (settled set locals tokens leaves s).out
+pub leaves_same : (set : CharSet) (locals : List Local) (tokens : List SourceToken) (leaves : List Leaf) (s : Settled) → SameLimits s.out (settled set locals tokens leaves s).out
 leaves_same set locals tokens [] s = (refl, refl)
 leaves_same set locals tokens (l ∷ leaves) s =
     let next = with_settled (settled_leaf set locals tokens l s.out) s.operands in
     same_then s.out next.out (settled set locals tokens leaves next).out (leaf_same set locals tokens l s.out) (leaves_same set locals tokens leaves next)
 
 -- leaves of a constant
-one_added_keeps : (set : CharSet) (tokens : List Spelled) (l : Leaf) → Keeps (one_added set tokens l)
+one_added_keeps : (set : CharSet) (tokens : List SourceToken) (l : Leaf) → Keeps (one_added set tokens l)
 one_added_keeps set tokens (leaf.Text at) o = text_same (text_at set tokens at) o
 one_added_keeps set tokens (leaf.Word word) o = word_same word o
 one_added_keeps set tokens (leaf.Action at) o = action_leaf_same (name_at tokens at) o
@@ -572,7 +572,7 @@ one_added_keeps set tokens (leaf.Number number) o = (refl, refl)
 one_added_keeps set tokens (leaf.Char zscii) o = (refl, refl)
 one_added_keeps set tokens (leaf.System at) o = (refl, refl)
 
-pub leaf_added_keeps : (set : CharSet) (tokens : List Spelled) (leaves : List Leaf) → Keeps (leaf_added set tokens leaves)
+pub leaf_added_keeps : (set : CharSet) (tokens : List SourceToken) (leaves : List Leaf) → Keeps (leaf_added set tokens leaves)
 leaf_added_keeps set tokens [] o = (refl, refl)
 leaf_added_keeps set tokens (l ∷ leaves) o =
     let next = one_added set tokens l o in

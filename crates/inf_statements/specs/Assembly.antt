@@ -20,9 +20,9 @@ use Rattle.inf_output.specs.declared.operands.Simple.{Simple}
 use Rattle.inf_output.specs.declared.operands.Simple.TheVariants as simple
 use Rattle.inf_output.specs.Output.{Code, behind, instruction, jumped, naming, next_label, nothing}
 use Rattle.inf_templates.specs.Meaning.{meaning}
-use Rattle.inf_symbol.specs.Locals.{Local, number_of}
+use Rattle.inf_sinks.specs.Locals.{Local, number_of}
 use Rattle.inf_unit.specs.Opcodes.{opcode_of}
-use Rattle.inf_unit.specs.Tokens.{Spelled}
+use Rattle.inf_unit.specs.Tokens.{SourceToken}
 use Rattle.inf_unit.specs.Units.{bytes_at, next_place, order}
 use Rattle.inf_unit.specs.declared.items.Item.{Item}
 use Rattle.inf_unit.specs.declared.items.Item.TheVariants as item
@@ -111,7 +111,7 @@ abbrev pub store_variable : List Local → Table Place → List ℕ → Option �
 store_variable locals names name = if is_stack name (number_of name locals) then Some 0 else stored_in (looked_name locals names name)
 
 -- (what is no variable is an error of its line)
-abbrev pub store_of : List Local → Table Place → List Spelled → Option ℕ → Option ℕ
+abbrev pub store_of : List Local → Table Place → List SourceToken → Option ℕ → Option ℕ
 store_of locals names tokens None = None
 store_of locals names tokens (Some at) = Some (unwrap_or (store_variable locals names (bytes_at tokens at)) 0)
 
@@ -119,11 +119,11 @@ abbrev pub store_finding_by : Option ℕ → ℕ → Option Finding
 store_finding_by None at = Some (wrong_kind (order at))
 store_finding_by (Some v) at = None
 
-abbrev pub store_finding : List Local → Table Place → List Spelled → Option ℕ → Option Finding
+abbrev pub store_finding : List Local → Table Place → List SourceToken → Option ℕ → Option Finding
 store_finding locals names tokens None = None
 store_finding locals names tokens (Some at) = store_finding_by (store_variable locals names (bytes_at tokens at)) at
 
-abbrev pub line_finding : List Local → Table Place → List Spelled → ℕ → Ends → List Tree → Option Finding
+abbrev pub line_finding : List Local → Table Place → List SourceToken → ℕ → Ends → List Tree → Option Finding
 line_finding locals names tokens begun e trees =
     let stores = store_finding locals names tokens e.store in
     if fits_some (opcode_of (bytes_at tokens (next_place begun))) trees e then stores else least_of_both stores (Some (wrong_opcode (order (next_place begun))))
@@ -143,11 +143,11 @@ branched_to name sense labels o =
     if str_eq_ignore_ascii_case name (codes "rfalse") then ((branch_to sense destination.ReturnFalse, labels), o) else
     let l = labelled name labels o in ((branch_to sense (destination.To l.0.0), l.0.1), l.1)
 
-unfoldable pub branched : List Spelled → Option (ℕ × Bool) → List NamedLabel → Laying (Option Branch × List NamedLabel)
+unfoldable pub branched : List SourceToken → Option (ℕ × Bool) → List NamedLabel → Laying (Option Branch × List NamedLabel)
 branched tokens None labels o = ((None, labels), o)
 branched tokens (Some b) labels o = branched_to (bytes_at tokens b.0) b.1 labels o
 
-abbrev pub jumped_on : List Spelled → Option ℕ → List NamedLabel → Laying (List NamedLabel)
+abbrev pub jumped_on : List SourceToken → Option ℕ → List NamedLabel → Laying (List NamedLabel)
 jumped_on tokens None labels o = (labels, o)
 jumped_on tokens (Some at) labels o = let l = labelled (bytes_at tokens at) labels o in (l.0.1, jumped l.0.0 l.1)
 
@@ -159,7 +159,7 @@ unfoldable pub instructed : Bool → Opcode → List Tree → Option ℕ → Opt
 instructed true op trees store branch = named_first op trees store branch
 instructed false op trees store branch = instruction op (operands_in trees) store branch
 
-abbrev pub line_instructed : List Local → List Spelled → Opcode → Ends → List Tree → List NamedLabel → Laying (List NamedLabel)
+abbrev pub line_instructed : List Local → List SourceToken → Opcode → Ends → List Tree → List NamedLabel → Laying (List NamedLabel)
 line_instructed locals tokens op e trees labels o =
     let b = branched tokens e.branch labels o in
     (b.0.1, instructed (row_of op).names_variable op trees (store_of locals b.1.names tokens e.store) b.0.0 b.1)
@@ -171,24 +171,24 @@ prints row = row.has_text && not row.jumps && not row.stores && not row.branches
 abbrev pub printing_of : Opcode → Option Opcode
 printing_of op = if prints (row_of op) then Some op else None
 
-abbrev pub text_printed : CharSet → List Spelled → Option Opcode → ℕ → Code
+abbrev pub text_printed : CharSet → List SourceToken → Option Opcode → ℕ → Code
 text_printed set tokens None at = nothing
 text_printed set tokens (Some op) at = printed op (text_at set tokens at)
 
-abbrev pub some_printed : CharSet → List Spelled → Opcode → Option ℕ → Code
+abbrev pub some_printed : CharSet → List SourceToken → Opcode → Option ℕ → Code
 some_printed set tokens op None = nothing
 some_printed set tokens op (Some at) = text_printed set tokens (printing_of op) at
 
-abbrev pub line_laid_by : Bool → Bool → CharSet → List Local → List Spelled → Opcode → Ends → List Tree → List NamedLabel → Laying (List NamedLabel)
+abbrev pub line_laid_by : Bool → Bool → CharSet → List Local → List SourceToken → Opcode → Ends → List Tree → List NamedLabel → Laying (List NamedLabel)
 line_laid_by true has_text set locals tokens op e trees labels = jumped_on tokens e.jump labels
 line_laid_by false true set locals tokens op e trees labels = giving labels (some_printed set tokens op e.text)
 line_laid_by false false set locals tokens op e trees labels = line_instructed locals tokens op e trees labels
 
-abbrev pub line_laid_as : Bool → CharSet → List Local → List Spelled → Opcode → Ends → List Tree → List NamedLabel → Laying (List NamedLabel)
+abbrev pub line_laid_as : Bool → CharSet → List Local → List SourceToken → Opcode → Ends → List Tree → List NamedLabel → Laying (List NamedLabel)
 line_laid_as true set locals tokens op e trees labels = line_laid_by (row_of op).jumps (row_of op).has_text set locals tokens op e trees labels
 line_laid_as false set locals tokens op e trees labels = giving labels nothing
 
 -- of a line without an error
-unfoldable pub line_laid : CharSet → List Local → List Spelled → Option Opcode → Ends → List Tree → List NamedLabel → Laying (List NamedLabel)
+unfoldable pub line_laid : CharSet → List Local → List SourceToken → Option Opcode → Ends → List Tree → List NamedLabel → Laying (List NamedLabel)
 line_laid set locals tokens None e trees labels o = (labels, o)
 line_laid set locals tokens (Some op) e trees labels o = line_laid_as (fits op trees e) set locals tokens op e trees labels o

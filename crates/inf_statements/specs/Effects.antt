@@ -11,9 +11,9 @@ use Rattle.inf_expressions.specs.Findings.{wrong_kind}
 use Rattle.inf_expressions.specs.Trees.{Tree}
 use Rattle.inf_names.specs.Symbols.{Table}
 use Rattle.inf_output.specs.Output.{Code, jumped, marked, nothing, ◌▸◌}
-use Rattle.inf_symbol.specs.Locals.{Local}
+use Rattle.inf_sinks.specs.Locals.{Local}
 use Rattle.inf_unit.specs.Opcodes.{opcode_of}
-use Rattle.inf_unit.specs.Tokens.{Spelled}
+use Rattle.inf_unit.specs.Tokens.{SourceToken}
 use Rattle.inf_unit.specs.Units.{bytes_at, next_place, order}
 use Rattle.inf_unit.specs.declared.items.Item.{Item}
 use Rattle.inf_unit.specs.declared.items.Item.TheVariants as item
@@ -30,7 +30,7 @@ use Rattle.inf_statements.specs.declared.statements.Statement.TheVariants as sta
 -- expressions; the locals of its routine; and the statements that hold it, the innermost first.
 pub record Site : Type 0 where
   pub set : CharSet
-  pub tokens : List Spelled
+  pub tokens : List SourceToken
   pub begun : ℕ
   pub items : List Item
   pub locals : List Local
@@ -79,7 +79,7 @@ wanted_by _ = wanted.Value
 -- What it does
 
 -- the text that it has beside its expressions
-abbrev pub text_in : CharSet → List Spelled → List Item → Option (List TextItem)
+abbrev pub text_in : CharSet → List SourceToken → List Item → Option (List TextItem)
 text_in set tokens ((item.Text at) ∷ items) = text_at set tokens at
 text_in set tokens _ = None
 

@@ -22,9 +22,9 @@ use Rattle.inf_names.specs.declared.meanings.Meaning.{Meaning}
 use Rattle.inf_names.specs.declared.meanings.Meaning.TheVariants as meaning
 use Rattle.inf_names.specs.declared.symbols.Found.{Found}
 use Rattle.inf_names.specs.declared.symbols.Found.TheVariants as found
-use Rattle.inf_symbol.specs.Locals.{Local, number_of, with_named}
-use Rattle.inf_symbol.specs.Spellings.{Name}
-use Rattle.inf_unit.specs.Tokens.{Spelled}
+use Rattle.inf_sinks.specs.Locals.{Local, number_of, with_named}
+use Rattle.inf_sinks.specs.Spellings.{Name}
+use Rattle.inf_unit.specs.Tokens.{SourceToken}
 use Rattle.inf_unit.specs.Units.{bytes_at, name_at}
 use Rattle.inf_unit.specs.declared.items.Item.{Item}
 use Rattle.inf_unit.specs.declared.items.Item.TheVariants as item
@@ -97,7 +97,7 @@ abbrev pub word_operand : DictionaryWord → Operand
 word_operand word = operand.Later (target.Word word.text)
 
 -- What a leaf that is no action stands for, where its name is only looked up: a text is some string. System constants are in no expression yet.
-abbrev pub looked : List Local → Table Place → List Spelled → Leaf → Operand
+abbrev pub looked : List Local → Table Place → List SourceToken → Leaf → Operand
 looked locals names tokens (leaf.Name at) = looked_name locals names (bytes_at tokens at)
 looked locals names tokens (leaf.Alone at) = looked_alone locals names (bytes_at tokens at)
 looked locals names tokens (leaf.Number number) = operand.Known number
@@ -127,16 +127,16 @@ looked_action None o ahead = (ahead, operand.Known 0)
 looked_action (Some n) o ahead = looked_action_by (action_number n.bytes o) n o ahead
 
 -- a leaf behind others with new actions, and all of them
-abbrev pub looked_leaf : List Local → Out → List Spelled → Leaf → Table Place → Table Place × Operand
+abbrev pub looked_leaf : List Local → Out → List SourceToken → Leaf → Table Place → Table Place × Operand
 looked_leaf locals o tokens (leaf.Action at) ahead = looked_action (name_at tokens at) o ahead
 looked_leaf locals o tokens l ahead = (ahead, looked locals o.names tokens l)
 
-abbrev pub looked_from : List Local → Out → List Spelled → List Leaf → Table Place → List Operand → List Operand
+abbrev pub looked_from : List Local → Out → List SourceToken → List Leaf → Table Place → List Operand → List Operand
 looked_from locals o tokens [] ahead operands = operands
 looked_from locals o tokens (l ∷ leaves) ahead operands =
     let s = looked_leaf locals o tokens l ahead in looked_from locals o tokens leaves s.0 (operands ++ s.1 ∷ [])
 
-abbrev pub all_looked : List Local → Out → List Spelled → List Leaf → List Operand
+abbrev pub all_looked : List Local → Out → List SourceToken → List Leaf → List Operand
 all_looked locals o tokens leaves = looked_from locals o tokens leaves (no_names 4294967295 false) []
 
 -- Settling
@@ -159,7 +159,7 @@ abbrev pub settled_name : List Local → Option Name → Out → Out × Operand
 settled_name locals None o = (o, operand.Known 0)
 settled_name locals (Some n) o = settled_by (number_of n.bytes locals) n.bytes n.place o
 
-abbrev pub settled_alone : List Local → List Spelled → ℕ → Out → Out × Operand
+abbrev pub settled_alone : List Local → List SourceToken → ℕ → Out → Out × Operand
 settled_alone locals tokens at o =
     if is_stack (bytes_at tokens at) (number_of (bytes_at tokens at) locals) then (o, operand.Variable 0) else settled_name locals (name_at tokens at) o
 
@@ -178,7 +178,7 @@ settled_action None o = (o, operand.Known 0)
 settled_action (Some n) o = as_known (action_of n.bytes n.place o)
 
 -- a leaf, whose name is used where it is no local
-abbrev pub settled_leaf : CharSet → List Local → List Spelled → Leaf → Out → Out × Operand
+abbrev pub settled_leaf : CharSet → List Local → List SourceToken → Leaf → Out → Out × Operand
 settled_leaf set locals tokens (leaf.Name at) o = settled_name locals (name_at tokens at) o
 settled_leaf set locals tokens (leaf.Alone at) o = settled_alone locals tokens at o
 settled_leaf set locals tokens (leaf.Number number) o = (o, operand.Known number)
@@ -189,13 +189,13 @@ settled_leaf set locals tokens (leaf.Action at) o = settled_action (name_at toke
 settled_leaf set locals tokens (leaf.System at) o = (o, operand.Unknown)
 
 -- what leaves add to a story that are texts, words or actions
-abbrev pub one_added : CharSet → List Spelled → Leaf → Code
+abbrev pub one_added : CharSet → List SourceToken → Leaf → Code
 one_added set tokens (leaf.Text at) o = (settled_text (text_at set tokens at) o).0
 one_added set tokens (leaf.Word word) o = (settled_word word o).0
 one_added set tokens (leaf.Action at) o = (settled_action (name_at tokens at) o).0
 one_added set tokens _ o = o
 
-abbrev pub leaf_added : CharSet → List Spelled → List Leaf → Code
+abbrev pub leaf_added : CharSet → List SourceToken → List Leaf → Code
 leaf_added set tokens [] o = o
 leaf_added set tokens (l ∷ leaves) o = leaf_added set tokens leaves (one_added set tokens l o)
 
@@ -203,25 +203,25 @@ abbrev pub with_settled : Out × Operand → List Operand → Settled
 with_settled s operands = record { out = s.0; operands = operands ++ s.1 ∷ [] }
 
 -- the leaves from left to right
-abbrev pub settled : CharSet → List Local → List Spelled → List Leaf → Settled → Settled
+abbrev pub settled : CharSet → List Local → List SourceToken → List Leaf → Settled → Settled
 settled set locals tokens [] s = s
 settled set locals tokens (l ∷ leaves) s = settled set locals tokens leaves (with_settled (settled_leaf set locals tokens l s.out) s.operands)
 
 -- a unit names its locals
-abbrev pub leaf_named : List Spelled → Leaf → List Local → List Local
+abbrev pub leaf_named : List SourceToken → Leaf → List Local → List Local
 leaf_named tokens (leaf.Name at) locals = with_named (bytes_at tokens at) locals
 leaf_named tokens (leaf.Alone at) locals = with_named (bytes_at tokens at) locals
 leaf_named tokens _ locals = locals
 
-abbrev pub leaves_named : List Spelled → List Leaf → List Local → List Local
+abbrev pub leaves_named : List SourceToken → List Leaf → List Local → List Local
 leaves_named tokens [] locals = locals
 leaves_named tokens (l ∷ leaves) locals = leaves_named tokens leaves (leaf_named tokens l locals)
 
 -- and the locals in which it stores
-abbrev pub store_named : List Spelled → Item → List Local → List Local
+abbrev pub store_named : List SourceToken → Item → List Local → List Local
 store_named tokens (item.Store at) locals = with_named (bytes_at tokens at) locals
 store_named tokens _ locals = locals
 
-abbrev pub stores_named : List Spelled → List Item → List Local → List Local
+abbrev pub stores_named : List SourceToken → List Item → List Local → List Local
 stores_named tokens [] locals = locals
 stores_named tokens (i ∷ items) locals = stores_named tokens items (store_named tokens i locals)

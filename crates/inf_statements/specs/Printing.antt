@@ -11,7 +11,7 @@ use Rattle.inf_output.specs.Output.{Code, nothing, ◌▸◌}
 use Rattle.inf_templates.specs.Meaning.{meaning, part}
 use Rattle.inf_templates.specs.Parts.{call, call_routine}
 use Rattle.inf_unit.specs.Texts.{read_of}
-use Rattle.inf_unit.specs.Tokens.{Spelled}
+use Rattle.inf_unit.specs.Tokens.{SourceToken}
 use Rattle.inf_unit.specs.declared.items.Item.{Item}
 use Rattle.inf_unit.specs.declared.items.Item.TheVariants as item
 use Rattle.inf_unit.specs.declared.items.PrintRule.{PrintRule}
@@ -23,11 +23,11 @@ abbrev pub text_opcode : Bool → List Item → Opcode
 text_opcode true [] = opcode.PrintRet
 text_opcode _ _ = opcode.Print
 
-abbrev pub text_by : CharSet → Option Spelled → Option (List TextItem)
+abbrev pub text_by : CharSet → Option SourceToken → Option (List TextItem)
 text_by set None = None
 text_by set (Some t) = read_of set t
 
-abbrev pub text_at : CharSet → List Spelled → ℕ → Option (List TextItem)
+abbrev pub text_at : CharSet → List SourceToken → ℕ → Option (List TextItem)
 text_at set tokens at = text_by set (slice_get tokens at)
 
 abbrev pub ended : Bool → Code
@@ -61,7 +61,7 @@ rest_behind rule.Routine trees = rest (rest trees)
 rest_behind _ trees = rest trees
 
 -- One item, with how many of those behind it there are: its code, the trees behind it, and whether something other than a text was printed last.
-abbrev pub item_code : CharSet → List Spelled → Bool → List Item → Item → List Tree → Code
+abbrev pub item_code : CharSet → List SourceToken → Bool → List Item → Item → List Tree → Code
 item_code set tokens returns others (item.Text at) trees = printed (text_opcode returns others) (text_at set tokens at)
 item_code set tokens returns others item.Value trees = one_worked opcode.PrintNum trees
 item_code set tokens returns others (item.Ruled r) trees = rule_code r trees
@@ -76,7 +76,7 @@ abbrev pub ends_behind : Item → Bool → Bool
 ends_behind (item.Text at) returns = false
 ends_behind _ returns = returns
 
-abbrev pub items_printed : CharSet → List Spelled → Bool → Bool → List Item → List Tree → Code
+abbrev pub items_printed : CharSet → List SourceToken → Bool → Bool → List Item → List Tree → Code
 items_printed set tokens returns ends [] trees = ended ends
 items_printed set tokens returns ends (i ∷ items) trees =
     item_code set tokens returns items i trees ▸ items_printed set tokens returns (ends_behind i returns) items (trees_behind i trees)

@@ -26,7 +26,7 @@ use Rattle.inf_output.specs.declared.veneer.Veneer.TheVariants as veneer
 use Rattle.inf_output.specs.Output.{Code, instruction, jumped, laid, low_string_at, nothing, with_low_text, ◌▸◌}
 use Rattle.inf_templates.specs.Meaning.{Meaning, meaning, part}
 use Rattle.inf_templates.specs.Parts.{Part, SP, TEMP, call_routine, is, worked}
-use Rattle.inf_unit.specs.Tokens.{Spelled, is_word}
+use Rattle.inf_unit.specs.Tokens.{SourceToken, is_word}
 use Rattle.inf_unit.specs.declared.items.Item.{Item}
 use Rattle.inf_unit.specs.declared.items.Item.TheVariants as item
 use Rattle.inf_statements.specs.Cases.{SWITCHED}
@@ -34,7 +34,7 @@ use Rattle.inf_statements.specs.declared.statements.Statement.{Statement}
 use Rattle.inf_statements.specs.declared.statements.Statement.TheVariants as statement
 
 -- What a statement is that begins with this token, where that is a word or a mark. Designer's Manual, fourth edition, sections 1.4 to 1.12.
-abbrev pub word_statement : Spelled → Statement
+abbrev pub word_statement : SourceToken → Statement
 word_statement t =
     if is_word (codes "print") t then statement.Print else
     if is_word (codes "print_ret") t then statement.PrintReturn else
@@ -65,18 +65,18 @@ abbrev pub text_statement : List Item → Statement
 text_statement [] = statement.Expression
 text_statement (i ∷ items) = statement.PrintReturn
 
-abbrev pub statement_of_kind : TokenKind → Spelled → List Item → Statement
+abbrev pub statement_of_kind : TokenKind → SourceToken → List Item → Statement
 statement_of_kind kind.Name t items = word_statement t
 statement_of_kind kind.Text t items = text_statement items
 statement_of_kind (kind.Mark m) t items = mark_statement m
 statement_of_kind _ t items = statement.Expression
 
 -- one without tokens is empty
-abbrev pub statement_by : Option Spelled → List Item → Statement
+abbrev pub statement_by : Option SourceToken → List Item → Statement
 statement_by None items = statement.Empty
 statement_by (Some t) items = statement_of_kind t.kind t items
 
-unfoldable pub statement_in : List Spelled → ℕ → List Item → Statement
+unfoldable pub statement_in : List SourceToken → ℕ → List Item → Statement
 statement_in tokens begun items = statement_by (slice_get tokens begun) items
 
 -- the trees of a unit, by where they stand among its nodes

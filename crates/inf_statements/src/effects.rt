@@ -22,7 +22,7 @@ use inf_names::symbols::Symbols;
 use inf_opcode::{Label, Opcode};
 use inf_output::Output;
 use inf_scanner::Place;
-use inf_symbol::locals::Locals;
+use inf_sinks::locals::Locals;
 use inf_templates::Tasks;
 use inf_text::{CharSet, Text, pack};
 use inf_unit::items::Item;

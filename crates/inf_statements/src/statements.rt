@@ -19,7 +19,7 @@ use inf_templates::{
     Argument, Tasks, lay_alone, lay_branch, lay_instruction, lay_routine_call, lay_value, simple_of,
 };
 use inf_unit::items::Item;
-use inf_unit::tokens::{Spelled, is_word};
+use inf_unit::tokens::{SourceToken, is_word};
 use inf_unit::unit_tokens::UnitTokens;
 use std::alloc::AllocError;
 
@@ -64,7 +64,7 @@ pub enum Statement {
 }
 
 /// What a statement is that begins with a token, by its word.
-fn word_statement(token: &Spelled<'_>) -> Statement
+fn word_statement(token: &SourceToken<'_>) -> Statement
     ensures { result ≡ word_statement (spelled token.now) }
 {
     if is_word(token, b"print") {
@@ -129,7 +129,7 @@ fn text_statement(items: &[Item]) -> Statement
 }
 
 /// What a statement is that begins with a token and has this.
-fn statement_of(token: &Spelled<'_>, items: &[Item]) -> Statement
+fn statement_of(token: &SourceToken<'_>, items: &[Item]) -> Statement
     ensures { result ≡ statement_of_kind token.now.kind (spelled token.now) items.now }
 {
     match token.kind {

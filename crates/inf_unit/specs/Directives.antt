@@ -4,26 +4,26 @@ use Rattle.std.specs.Str.{str_eq_ignore_ascii_case}
 use Rattle.inf_scanner.specs.declared.tokens.Place.{Place}
 use Rattle.inf_report.specs.declared.messages.Kind.{Kind}
 use Rattle.inf_report.specs.declared.messages.Kind.TheVariants as weight
-use Rattle.inf_symbol.specs.Spellings.{Name}
+use Rattle.inf_sinks.specs.Spellings.{Name}
 use Rattle.inf_unit.specs.declared.directives.Directive.{Directive}
 use Rattle.inf_unit.specs.declared.directives.Directive.TheVariants as directive
-use Rattle.inf_unit.specs.declared.directives.Asked.{Asked as CodeAsked}
-use Rattle.inf_unit.specs.declared.directives.Asked.TheVariants as code
+use Rattle.inf_unit.specs.declared.directives.Request.{Request as CodeRequest}
+use Rattle.inf_unit.specs.declared.directives.Request.TheVariants as code
 
 -- What a finished directive asks of the reading: that the file of a name is read, for a directive that begins at a place; that
 -- reading ends.
-pub data Asked : Type 0 where
-  Nothing : Asked
-  Include : (text : List ℕ) (unit : Place) → Asked
-  End : Asked
+pub data Request : Type 0 where
+  Nothing : Request
+  Include : (text : List ℕ) (unit : Place) → Request
+  End : Request
 
 -- whether something is asked
-abbrev pub asks : Asked → Bool
+abbrev pub asks : Request → Bool
 asks Nothing = false
 asks _ = true
 
 -- what the code's words stand for
-abbrev pub asked : CodeAsked → Asked
+abbrev pub asked : CodeRequest → Request
 asked code.Nothing = Nothing
 asked (code.Include text unit) = Include text.items unit
 asked code.End = End

@@ -1,6 +1,6 @@
 pub mod Tokens
 pub mod Messages
-pub mod Blames
+pub mod Diagnostics
 pub mod Names
 pub mod Kept
 pub mod Steps

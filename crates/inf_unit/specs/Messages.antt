@@ -1,8 +1,8 @@
 -- The messages of a compilation so far, and where they stand.
 use Rattle.std.specs.Prelude.{ℕ, List, [], ◌++◌, Bool, true, Option, Some, None, slice_get, unwrap_or}
 use Rattle.inf_scanner.specs.declared.tokens.Place.{Place}
-use Rattle.inf_assembler.specs.declared.routines.Setting.{Setting as CodeSetting}
-use Rattle.inf_assembler.specs.declared.routines.Setting.TheVariants as code_setting
+use Rattle.inf_assembler.specs.declared.routines.Limit.{Limit as CodeLimit}
+use Rattle.inf_assembler.specs.declared.routines.Limit.TheVariants as code_setting
 use Rattle.inf_settings.specs.declared.setting.Setting.{Setting}
 use Rattle.inf_settings.specs.declared.setting.Setting.TheVariants as setting
 use Rattle.inf_report.specs.Messages.{Location, Message, ErrorText, WarningText, Exceeded, FatalText}
@@ -20,7 +20,7 @@ abbrev pub location : FileNames → Place → Location
 location files p = record { file = unwrap_or (slice_get files p.file) []; line = p.line }
 
 -- A message at a place.
-pub record Blame : Type 0 where
+pub record Diagnostic : Type 0 where
   pub place : Place
   pub message : Message
 
@@ -66,12 +66,12 @@ abbrev pub with_closing : Reported → Reported
 with_closing r = record r { lines = r.lines ++ closing_lines r.counts }
 
 -- the report after the unit that begins at a place had this error, if any
-abbrev pub with_fault : FileNames → Place → Option Blame → Reported → Reported
+abbrev pub with_fault : FileNames → Place → Option Diagnostic → Reported → Reported
 with_fault files unit None r = r
 with_fault files unit (Some b) r = with_error (location files b.place) (location files unit) b.message r
 
 -- the setting that bounds what code has
-abbrev pub setting_of : CodeSetting → Setting
+abbrev pub setting_of : CodeLimit → Setting
 setting_of code_setting.Labels = setting.Labels
 setting_of code_setting.Code = setting.Code
 setting_of code_setting.Refs = setting.References

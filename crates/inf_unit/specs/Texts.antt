@@ -7,7 +7,7 @@ use Rattle.inf_characters.specs.declared.reading.TextFault.{TextFault}
 use Rattle.inf_characters.specs.declared.texts.TextItem.{TextItem}
 use Rattle.inf_scanner.specs.declared.tokens.TokenKind.{TokenKind}
 use Rattle.inf_scanner.specs.declared.tokens.TokenKind.TheVariants as kind
-use Rattle.inf_unit.specs.Tokens.{Spelled}
+use Rattle.inf_unit.specs.Tokens.{SourceToken}
 
 -- the characters of a text of a source in a character set
 abbrev pub characters : CharSet → List ℕ → Result (List TextItem) TextFault
@@ -23,5 +23,5 @@ abbrev pub read_of_kind : CharSet → TokenKind → List ℕ → Option (List Te
 read_of_kind set kind.Text bytes = fit_characters (characters set bytes)
 read_of_kind set _ bytes = None
 
-abbrev pub read_of : CharSet → Spelled → Option (List TextItem)
+abbrev pub read_of : CharSet → SourceToken → Option (List TextItem)
 read_of set t = read_of_kind set t.kind t.bytes

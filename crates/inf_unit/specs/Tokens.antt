@@ -7,16 +7,16 @@ use Rattle.inf_scanner.specs.declared.tokens.TokenKind.{TokenKind}
 use Rattle.inf_scanner.specs.declared.tokens.TokenKind.TheVariants as kind
 use Rattle.inf_scanner.specs.declared.tokens.Place.{Place}
 use Rattle.inf_report.specs.Messages.{Told, Bytes, Quote, Text, End}
-use Rattle.inf_symbol.specs.Spellings.{Name}
-use Rattle.inf_unit.specs.declared.tokens.Spelled as code
+use Rattle.inf_sinks.specs.Spellings.{Name}
+use Rattle.inf_unit.specs.declared.tokens.SourceToken as code
 
 -- A token: what it is, its bytes (of a text or quote those between its quotes), and the place of its first byte.
-pub record Spelled : Type 0 where
+pub record SourceToken : Type 0 where
   pub kind : TokenKind
   pub bytes : List ℕ
   pub place : Place
 
-abbrev pub spelled : code.Spelled → Spelled
+abbrev pub spelled : code.SourceToken → SourceToken
 spelled t = record { kind = t.kind; bytes = t.bytes.now; place = t.place }
 
 -- this mark
@@ -38,7 +38,7 @@ abbrev pub is_word_kind : List ℕ → TokenKind → List ℕ → Bool
 is_word_kind word kind.Name bytes = str_eq_ignore_ascii_case bytes word
 is_word_kind word _ bytes = false
 
-abbrev pub is_word : List ℕ → Spelled → Bool
+abbrev pub is_word : List ℕ → SourceToken → Bool
 is_word word t = is_word_kind word t.kind t.bytes
 
 -- how messages name a token
@@ -49,7 +49,7 @@ told_kind (kind.Word w) bytes = Quote bytes
 told_kind kind.End bytes = End
 told_kind _ bytes = Bytes bytes
 
-abbrev pub told : Spelled → Told
+abbrev pub told : SourceToken → Told
 told t = told_kind t.kind t.bytes
 
 -- the name that a token is, if it is one
@@ -57,5 +57,5 @@ abbrev pub name_of_kind : TokenKind → List ℕ → Place → Option Name
 name_of_kind kind.Name bytes place = Some (record { bytes = bytes; place = place })
 name_of_kind _ bytes place = None
 
-abbrev pub name_of : Spelled → Option Name
+abbrev pub name_of : SourceToken → Option Name
 name_of t = name_of_kind t.kind t.bytes t.place

@@ -8,12 +8,12 @@ use Rattle.inf_scanner.specs.declared.tokens.TokenKind.TheVariants as kind
 use Rattle.inf_gathering.specs.declared.gathering.Leaf.{Leaf}
 use Rattle.inf_gathering.specs.declared.gathering.Leaf.TheVariants as leaf
 use Rattle.inf_gathering.specs.Gatherings.{Gathering, nothing_gathered, with_bracket, with_call, with_closed_bracket, with_comma, with_leaf, with_list, with_part, with_prefix, with_rule, with_suffix, with_test, with_two}
-use Rattle.inf_symbol.specs.Spellings.{Name}
+use Rattle.inf_sinks.specs.Spellings.{Name}
 use Rattle.inf_opcode.specs.declared.opcodes.Opcode.{Opcode}
 use Rattle.inf_opcode.specs.Opcodes.{row_of}
 use Rattle.inf_syntax.specs.declared.actions.Action.{Action}
 use Rattle.inf_syntax.specs.declared.actions.Action.TheVariants as action
-use Rattle.inf_unit.specs.Tokens.{Spelled, is_mark, name_of}
+use Rattle.inf_unit.specs.Tokens.{SourceToken, is_mark, name_of}
 use Rattle.inf_unit.specs.Steps.{step_of}
 use Rattle.inf_unit.specs.declared.steps.Step.{Step}
 use Rattle.inf_unit.specs.declared.steps.Step.TheVariants as step
@@ -28,7 +28,7 @@ use Rattle.inf_unit.specs.Opcodes.{opcode_of, takes_text}
 -- open, and whether that surely is one; whether the unit has ended, but for its last token; how many brackets and braces of its piece are open; and how many
 -- tokens it has, where it is whole and waits for what follows it.
 pub record Unit : Type 0 where
-  pub tokens : List Spelled
+  pub tokens : List SourceToken
   pub begun : ℕ
   pub gathering : Gathering
   pub items : List Item
@@ -51,7 +51,7 @@ abbrev pub forgotten : Unit → Unit
 forgotten u = record no_unit { tokens = u.tokens; begun = u.begun; depth = u.depth }
 
 -- The unit has ended, and its last token is still to come, or not. Where it waited, the first of the tokens behind it stays.
-abbrev pub behind_held : Option ℕ → List Spelled → List Spelled
+abbrev pub behind_held : Option ℕ → List SourceToken → List SourceToken
 behind_held None tokens = []
 behind_held (Some count) tokens = take 1 (drop count tokens)
 
@@ -72,28 +72,28 @@ depth_behind (kind.Mark m) depth = opened_more m depth
 depth_behind _ depth = depth
 
 -- a token is taken
-abbrev pub taken : Spelled → Unit → Unit
+abbrev pub taken : SourceToken → Unit → Unit
 taken t u =
     if u.is_over then record u { is_over = false }
     else record u { tokens = u.tokens ++ t ∷ []; depth = depth_behind t.kind u.depth }
 
 -- the kind and the place of the token at a place of the unit, where there is one
-abbrev pub kind_at : List Spelled → ℕ → Option TokenKind
-kind_at tokens at = option_map (λ (t : Spelled). t.kind) (slice_get tokens at)
+abbrev pub kind_at : List SourceToken → ℕ → Option TokenKind
+kind_at tokens at = option_map (λ (t : SourceToken). t.kind) (slice_get tokens at)
 
-abbrev pub place_at : List Spelled → ℕ → Option Place
-place_at tokens at = option_map (λ (t : Spelled). t.place) (slice_get tokens at)
+abbrev pub place_at : List SourceToken → ℕ → Option Place
+place_at tokens at = option_map (λ (t : SourceToken). t.place) (slice_get tokens at)
 
 -- the name that a token is, if it is one; no name has more than 32 bytes
-abbrev pub short_name_of : Spelled → Option Name
+abbrev pub short_name_of : SourceToken → Option Name
 short_name_of t = if nat_le (length t.bytes) 32 then name_of t else None
 
 -- the name at a place of the unit, if the token there is one
-abbrev pub name_by : Option Spelled → Option Name
+abbrev pub name_by : Option SourceToken → Option Name
 name_by None = None
 name_by (Some t) = short_name_of t
 
-abbrev pub name_at : List Spelled → ℕ → Option Name
+abbrev pub name_at : List SourceToken → ℕ → Option Name
 name_at tokens at = name_by (slice_get tokens at)
 
 -- its bytes
@@ -101,11 +101,11 @@ abbrev pub bytes_of : Option Name → List ℕ
 bytes_of None = []
 bytes_of (Some n) = n.bytes
 
-abbrev pub bytes_at : List Spelled → ℕ → List ℕ
+abbrev pub bytes_at : List SourceToken → ℕ → List ℕ
 bytes_at tokens at = bytes_of (name_at tokens at)
 
 -- the place of the first token; where there is none yet, that of the next
-abbrev pub first_place : List Spelled → Place → Place
+abbrev pub first_place : List SourceToken → Place → Place
 first_place tokens next = unwrap_or (place_at tokens 0) next
 
 -- the same of the first token of the unit itself
@@ -113,7 +113,7 @@ abbrev pub own_place : Unit → Place → Place
 own_place u next = unwrap_or (place_at u.tokens u.begun) next
 
 -- the place of the last token, where there is one
-abbrev pub last_place : List Spelled → Place → Place
+abbrev pub last_place : List SourceToken → Place → Place
 last_place tokens other = unwrap_or (place_at tokens (length tokens - 1)) other
 
 -- the bytes of the first text among them
@@ -121,7 +121,7 @@ abbrev pub quoted_by : TokenKind → List ℕ → List ℕ → List ℕ
 quoted_by kind.Text bytes others = bytes
 quoted_by _ bytes others = others
 
-abbrev pub quoted_in : List Spelled → List ℕ
+abbrev pub quoted_in : List SourceToken → List ℕ
 quoted_in [] = []
 quoted_in (t ∷ tokens) = quoted_by t.kind t.bytes (quoted_in tokens)
 
@@ -131,7 +131,7 @@ is_some_mark m None = false
 is_some_mark m (Some k) = is_mark m k
 
 -- the order of the name that a directive declares: behind its word, before which a `#` may stand
-abbrev pub name_order : List Spelled → ℕ
+abbrev pub name_order : List SourceToken → ℕ
 name_order tokens = if is_some_mark mark.Hash (kind_at tokens 0) then 2 else 1
 
 -- the names among the tokens, in order
@@ -139,29 +139,29 @@ abbrev pub with_name : Option Name → List Name → List Name
 with_name None names = names
 with_name (Some n) names = names ++ n ∷ []
 
-abbrev pub names_from : List Spelled → List Name → List Name
+abbrev pub names_from : List SourceToken → List Name → List Name
 names_from [] names = names
 names_from (t ∷ tokens) names = names_from tokens (with_name (short_name_of t) names)
 
-abbrev pub names_in : List Spelled → List Name
+abbrev pub names_in : List SourceToken → List Name
 names_in tokens = names_from tokens []
 
 -- the names behind the last mark of a kind
-abbrev pub names_step : Mark → Spelled → List Name → List Name
+abbrev pub names_step : Mark → SourceToken → List Name → List Name
 names_step m t names = if is_mark m t.kind then [] else with_name (short_name_of t) names
 
-abbrev pub names_behind_from : Mark → List Spelled → List Name → List Name
+abbrev pub names_behind_from : Mark → List SourceToken → List Name → List Name
 names_behind_from m [] names = names
 names_behind_from m (t ∷ tokens) names = names_behind_from m tokens (names_step m t names)
 
-abbrev pub names_behind : Mark → List Spelled → List Name
+abbrev pub names_behind : Mark → List SourceToken → List Name
 names_behind m tokens = names_behind_from m tokens []
 
 -- Where the first token stands by which the outermost expression is too long, if it may have so many and surely is one.
-abbrev pub long_from : List Spelled → ℕ → ℕ → Bool → Option Place
+abbrev pub long_from : List SourceToken → ℕ → ℕ → Bool → Option Place
 long_from tokens most outer is_sure = if is_sure && nat_lt most (length tokens - outer) then place_at tokens (outer + most) else None
 
-abbrev pub long_by : List Spelled → ℕ → Bool → Option ℕ → Option Place
+abbrev pub long_by : List SourceToken → ℕ → Bool → Option ℕ → Option Place
 long_by tokens most is_sure None = None
 long_by tokens most is_sure (Some outer) = long_from tokens most outer is_sure
 
@@ -169,7 +169,7 @@ abbrev pub long_at : ℕ → Unit → Option Place
 long_at most u = long_by u.tokens most u.is_sure u.outer
 
 -- How many tokens the outermost expression has so far; none, where it may be none.
-abbrev pub outer_count : List Spelled → Bool → Option ℕ → ℕ
+abbrev pub outer_count : List SourceToken → Bool → Option ℕ → ℕ
 outer_count tokens is_sure None = 0
 outer_count tokens is_sure (Some outer) = if is_sure then length tokens - outer else 0
 
@@ -227,7 +227,7 @@ is_sign (Some (kind.Mark mark.DoubleHash)) = true
 is_sign (Some (kind.Mark mark.Hash)) = true
 is_sign _ = false
 
-abbrev pub marked_from : List Spelled → ℕ → ℕ
+abbrev pub marked_from : List SourceToken → ℕ → ℕ
 marked_from tokens at = if is_sign (kind_at tokens (at - 1)) then at - 1 else at
 
 abbrev pub action_gathered : Unit → Unit
@@ -236,7 +236,7 @@ action_gathered u =
     record u { gathering = with_leaf (order (marked_from u.tokens at)) (order at) (leaf.Action at) u.gathering }
 
 -- what is gathered of an operator behind some tokens
-abbrev pub gathered : Step → List Spelled → Gathering → Gathering
+abbrev pub gathered : Step → List SourceToken → Gathering → Gathering
 gathered step.Leaf tokens g = g
 gathered step.Action tokens g = g
 gathered (step.Prefix op) tokens g = with_prefix op g

@@ -1,11 +1,11 @@
 //! The directives that are one unit, and what they ask of the reading.
 ghost use Rattle.std.specs.Prelude.{◌≡◌, map};
-ghost use Rattle.inf_symbol.specs.Spellings.{as_name};
+ghost use Rattle.inf_sinks.specs.Spellings.{as_name};
 ghost use Rattle.inf_unit.specs.Directives.{declaration_of, directive_of, weight_of, weight_of_word};
 
 use inf_report::messages::Kind;
 use inf_scanner::Place;
-use inf_symbol::spellings::Name;
+use inf_sinks::spellings::Name;
 
 /// What a directive is, told by its word.
 #[derive(Clone, Copy, Debug, PartialEq, Eq)]
@@ -26,7 +26,7 @@ pub enum Directive {
 
 /// What a finished directive asks of the reading.
 #[derive(Debug, Drop)]
-pub enum Asked {
+pub enum Request {
     Nothing,
     /// That a file is read, whose name stands in this text, for the directive that begins at this place.
     Include { text: Vec<u8>, unit: Place },

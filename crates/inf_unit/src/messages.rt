@@ -2,23 +2,23 @@
 ghost use Rattle.std.specs.Prelude.{◌≡◌, IsOk, OnErr, OnOk, option_map};
 ghost use Rattle.inf_report.specs.Meant.{located, meant, worded};
 ghost use Rattle.inf_report.specs.Writing.{Writes};
-ghost use Rattle.inf_unit.specs.Blames.{blamed};
+ghost use Rattle.inf_unit.specs.Diagnostics.{blamed};
 ghost use Rattle.inf_unit.specs.Messages.{flushed, location, none_reported, setting_of, with_closing, with_error, with_fatal, with_fault, with_full, with_plain, with_warning, with_words};
 
-use inf_assembler::Setting as CodeSetting;
+use inf_assembler::Limit as CodeLimit;
 use inf_lexer::{Place, Stack};
 use inf_report::messages::{Kind, Location, Message};
 use inf_report::own_words::OwnWords;
 use inf_report::report::{Report, ReportFault};
 use inf_settings::setting::Setting;
-use inf_symbol::memory_sink::MemorySink;
-use inf_symbol::sinks::{Sink, write_whole};
+use inf_sinks::memory_sink::MemorySink;
+use inf_sinks::sinks::{Sink, write_whole};
 use std::alloc::{AllocError, Global};
 use std::marker::Model;
 
 /// A message at a place.
 #[derive(Clone, Copy, Debug)]
-pub struct Blame<'a> {
+pub struct Diagnostic<'a> {
     pub place: Place,
     pub message: Message<'a>,
 }
@@ -38,13 +38,13 @@ pub fn location(files: &Stack, place: Place) -> Location<'_>
 }
 
 /// The setting that bounds what code has.
-pub fn setting_of(full: CodeSetting) -> Setting
+pub fn setting_of(full: CodeLimit) -> Setting
     ensures { result ≡ setting_of full }
 {
     match full {
-        CodeSetting::Labels => Setting::Labels,
-        CodeSetting::Code => Setting::Code,
-        CodeSetting::Refs => Setting::References,
+        CodeLimit::Labels => Setting::Labels,
+        CodeLimit::Code => Setting::Code,
+        CodeLimit::Refs => Setting::References,
     }
 }
 
@@ -52,12 +52,12 @@ pub fn setting_of(full: CodeSetting) -> Setting
 ///
 /// Each call adds its line, or refuses where no memory was left: a part of the line may then stand there.
 #[derive(Drop)]
-pub struct Messages {
+pub struct Diagnostics {
     report: Report,
     lines: MemorySink,
 }
 
-impl Model for Messages {
+impl Model for Diagnostics {
     ghost use Rattle.inf_unit.specs.Messages.{Reported};
 
     ghost Value = { Reported };
@@ -65,12 +65,12 @@ impl Model for Messages {
     ghost view = { λ m. record { lines = m.lines.bytes; counts = m.report } };
 }
 
-impl Messages {
+impl Diagnostics {
     /// Nothing was told yet, and warnings are told or not. It takes no memory until something is told.
-    pub fn new(alloc: Global, has_warnings: bool) -> Messages
+    pub fn new(alloc: Global, has_warnings: bool) -> Diagnostics
         ensures { result ≡ none_reported has_warnings }
     {
-        Messages {
+        Diagnostics {
             report: Report::new(has_warnings),
             lines: MemorySink::new(alloc),
         }
@@ -108,7 +108,7 @@ impl Messages {
         &mut self,
         files: &Stack,
         unit: Place,
-        fault: Option<Blame<'_>>,
+        fault: Option<Diagnostic<'_>>,
     ) -> Result<(), AllocError>
         ensures { OnOk result (self.new ≡ with_fault files.now.names unit (option_map blamed fault.entry) self.old) }
     {

@@ -2,7 +2,7 @@
 ghost use Rattle.std.specs.Prelude.{◌≡◌, OnOk};
 ghost use Rattle.inf_unit.specs.Names.{main_of, no_symbols, routine_of, with_all_undeclared};
 
-use crate::messages::{Messages, location};
+use crate::messages::{Diagnostics, location};
 use inf_lexer::{Place, Stack};
 use inf_names::meanings::Meaning;
 use inf_names::symbols::{Found, Symbols};
@@ -42,7 +42,7 @@ fn routine_of(meaning: Meaning) -> Option<usize>
 pub fn tell_undeclared(
     names: &Symbols<Place>,
     files: &Stack,
-    messages: &mut Messages,
+    messages: &mut Diagnostics,
 ) -> Result<(), AllocError>
     ensures { OnOk result (messages.new ≡ with_all_undeclared files.now.names names.now.names messages.old) }
 {

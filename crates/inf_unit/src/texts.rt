@@ -3,13 +3,17 @@ ghost use Rattle.std.specs.Prelude.{◌≡◌, IfOk};
 ghost use Rattle.inf_unit.specs.Texts.{read_of};
 ghost use Rattle.inf_unit.specs.Tokens.{spelled};
 
-use crate::tokens::Spelled;
+use crate::tokens::SourceToken;
 use inf_scanner::TokenKind;
 use inf_text::{CharSet, Mode, Text, TextFault, read_text};
 use std::alloc::{AllocError, Global};
 
 /// The characters of a token of a source in a character set, where it is a text.
-pub fn text_of(alloc: Global, set: CharSet, token: &Spelled<'_>) -> Result<Option<Text>, AllocError>
+pub fn text_of(
+    alloc: Global,
+    set: CharSet,
+    token: &SourceToken<'_>,
+) -> Result<Option<Text>, AllocError>
     ensures { IfOk result (λ o. o ≡ read_of set (spelled token.now)) }
 {
     if !matches!(token.kind, TokenKind::Text) {

@@ -9,7 +9,7 @@ use inf_scanner::{Mark, Place, TokenKind};
 /// A token of a source: what it is, its bytes (of a text or quote those between its quotes), and the place of its first
 /// byte.
 #[derive(Clone, Copy)]
-pub struct Spelled<'a> {
+pub struct SourceToken<'a> {
     pub kind: TokenKind,
     pub bytes: &'a [u8],
     pub place: Place,
@@ -43,14 +43,14 @@ pub fn number_of(kind: TokenKind) -> Option<u16>
 }
 
 /// Whether a token is a word of the language, in any case.
-pub fn is_word(token: &Spelled<'_>, word: &[u8]) -> bool
+pub fn is_word(token: &SourceToken<'_>, word: &[u8]) -> bool
     ensures { result ≡ is_word word.now (spelled token.now) }
 {
     matches!(token.kind, TokenKind::Name) && token.bytes.eq_ignore_ascii_case(word)
 }
 
 /// How messages name a token.
-pub fn told<'t>(token: &Spelled<'t>) -> Told<'t>
+pub fn told<'t>(token: &SourceToken<'t>) -> Told<'t>
     ensures { named result ≡ told (spelled token.now) }
 {
     match token.kind {

@@ -8,7 +8,7 @@ ghost use Rattle.inf_unit.specs.Units.{acted, begun, depth_behind, first_place, 
 use crate::items::{Item, rule_of};
 use crate::opcodes::{opcode_of, takes_text};
 use crate::steps::{Step, step_of};
-use crate::tokens::{Spelled, is_mark};
+use crate::tokens::{SourceToken, is_mark};
 use crate::unit_tokens::UnitTokens;
 use inf_gathering::gathering::{Gathering, Leaf};
 use inf_scanner::{Mark, Place, TokenKind};
@@ -178,7 +178,7 @@ impl Unit {
     }
 
     /// A token is taken.
-    pub fn take(&mut self, token: &Spelled<'_>) -> Result<(), AllocError>
+    pub fn take(&mut self, token: &SourceToken<'_>) -> Result<(), AllocError>
         ensures { OnOk result (unit self.new ≡ taken (spelled token.now) (unit self.old)) }
     {
         if self.is_over {

@@ -1,14 +1,14 @@
 //! The tokens of a unit.
 ghost use Rattle.std.specs.Prelude.{◌≡◌, ◌≤◌, [], ◌∷◌, ◌++◌, drop, IfOk, IfSome, OnOk, length, map, option_map, slice_get, take};
-ghost use Rattle.inf_symbol.specs.Spellings.{as_name};
+ghost use Rattle.inf_sinks.specs.Spellings.{as_name};
 ghost use Rattle.inf_unit.specs.Kept.{as_spelled};
 ghost use Rattle.inf_unit.specs.NameTokens.{named};
 ghost use Rattle.inf_unit.specs.Tokens.{spelled};
 ghost use Rattle.inf_unit.specs.Units.{bytes_at, kind_at, last_place, name_at, name_order, names_behind, names_in, place_at, quoted_in, short_name_of, with_name};
 
-use crate::tokens::{Spelled, is_mark};
+use crate::tokens::{SourceToken, is_mark};
 use inf_scanner::{Mark, Place, TokenKind};
-use inf_symbol::spellings::{MOST_NAME_BYTES, Name};
+use inf_sinks::spellings::{MOST_NAME_BYTES, Name};
 use std::alloc::{AllocError, Global};
 use std::marker::Model;
 
@@ -37,16 +37,16 @@ pub struct UnitTokens {
 
 impl Model for UnitTokens {
     ghost use Rattle.std.specs.Prelude.{List, map};
-    ghost use Rattle.inf_unit.specs.Tokens.{Spelled};
+    ghost use Rattle.inf_unit.specs.Tokens.{SourceToken};
     ghost use Rattle.inf_unit.specs.Kept.{as_spelled};
 
-    ghost Value = { List Spelled };
+    ghost Value = { List SourceToken };
 
     ghost view = { λ t. map as_spelled t.kept.items };
 }
 
 /// The name that a token is, if it is one. It has at most 32 bytes.
-fn name_of<'t>(token: &Spelled<'t>) -> Option<NameToken<'t>>
+fn name_of<'t>(token: &SourceToken<'t>) -> Option<NameToken<'t>>
     ensures value { option_map named result ≡ short_name_of (spelled token.now) }
     ensures few { IfSome result (λ name. length name.bytes.now ≤ 32) }
 {
@@ -61,10 +61,10 @@ fn name_of<'t>(token: &Spelled<'t>) -> Option<NameToken<'t>>
 
 impl Kept {
     /// As units see it.
-    fn spelled(&self) -> Spelled<'_>
+    fn spelled(&self) -> SourceToken<'_>
         ensures { spelled result ≡ as_spelled self.now }
     {
-        Spelled {
+        SourceToken {
             kind: self.kind,
             bytes: self.bytes.as_slice(),
             place: self.place,
@@ -117,7 +117,7 @@ impl UnitTokens {
     }
 
     /// One more.
-    pub fn add(&mut self, token: &Spelled<'_>) -> Result<(), AllocError>
+    pub fn add(&mut self, token: &SourceToken<'_>) -> Result<(), AllocError>
         ensures { OnOk result (self.new ≡ self.old ++ spelled token.now ∷ []) }
     {
         let mut bytes = Vec::new(self.alloc);
@@ -131,7 +131,7 @@ impl UnitTokens {
     }
 
     /// The token at a place among them, counted from 0.
-    pub fn get(&self, at: usize) -> Option<Spelled<'_>>
+    pub fn get(&self, at: usize) -> Option<SourceToken<'_>>
         ensures { option_map spelled result ≡ slice_get self.now at }
     {
         match self.kept.get(at) {

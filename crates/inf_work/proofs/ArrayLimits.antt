@@ -12,11 +12,11 @@ use Rattle.inf_output.proofs.Keeping.{declared_keeps, same_then as out_same_then
 use Rattle.inf_scanner.specs.declared.tokens.Place.{Place}
 use Rattle.inf_statements.specs.Printing.{text_at}
 use Rattle.inf_statements.proofs.Keeping.{leaves_same}
-use Rattle.inf_symbol.specs.Spellings.{Name}
+use Rattle.inf_sinks.specs.Spellings.{Name}
 use Rattle.inf_unit.specs.Messages.{FileNames}
 use Rattle.inf_unit.specs.Units.{first_place, name_order, names_in}
 use Rattle.inf_unit.proofs.Cases.{of_both}
-use Rattle.inf_work.specs.Actions.{Work, settled_of}
+use Rattle.inf_work.specs.Actions.{Compilation, settled_of}
 use Rattle.inf_work.specs.Arrays.{added, adding, array_header, array_named, array_opened, array_opened_by, bare_text, class_named, codes_of, entry_added, entry_added_by, entry_ended, entry_finding, entry_with, header_as, header_ended, header_of, heading_of, is_alone, kind_in, listed, lost_added, one_more, story_added, text_added, value_added, with_arrays}
 use Rattle.inf_work.specs.Declarations.{plainly_known, value_of}
 use Rattle.inf_work.specs.Limits.{SameLimits}
@@ -32,31 +32,31 @@ opened_same None k name o =
     declared_keeps name.bytes name.place (meaning_of.Array (arrays_size (all_of o.tables.arrays))) (with_arrays (opened k o.tables.arrays) o)
 opened_same (Some f) k name o = (refl, refl)
 
-listed_same : (f : Option Finding) (k : ArrayKind) (name : Name) (w : Work) → SameLimits w (listed f k name w)
+listed_same : (f : Option Finding) (k : ArrayKind) (name : Name) (w : Compilation) → SameLimits w (listed f k name w)
 listed_same None k name w = opened_same (open_fault k w.output.tables.arrays) k name w.output
 listed_same (Some f) k name w = (refl, refl)
 
-array_named_same : (files : FileNames) (first : Place) (names : List Name) (w : Work) → SameLimits w (array_named files first names w)
+array_named_same : (files : FileNames) (first : Place) (names : List Name) (w : Compilation) → SameLimits w (array_named files first names w)
 array_named_same files first [] w = (refl, refl)
 array_named_same files first (name ∷ names) w =
     listed_same (plainly_known files name (name_order w.unit.tokens) w).finding (kind_in w.unit.tokens) name w
 
-class_named_same : (files : FileNames) (first : Place) (names : List Name) (w : Work) → SameLimits w (class_named files first names w)
+class_named_same : (files : FileNames) (first : Place) (names : List Name) (w : Compilation) → SameLimits w (class_named files first names w)
 class_named_same files first [] w = (refl, refl)
 class_named_same files first (name ∷ names) w = class_header_same files first name w
 
-header_as_same : (files : FileNames) (first : Place) (what : Heading) (names : List Name) (w : Work) → SameLimits w (header_as what files first names w)
+header_as_same : (files : FileNames) (first : Place) (what : Heading) (names : List Name) (w : Compilation) → SameLimits w (header_as what files first names w)
 header_as_same files first heading.Array names w = array_named_same files first names w
 header_as_same files first heading.Class names w = class_named_same files first names w
 header_as_same files first heading.Object names w = object_header_same files first w
 header_as_same files first heading.Verb names w = verb_header_same files first w
 header_as_same files first heading.Extend names w = extend_header_same files first w
 
-header_of_same : (files : FileNames) (first : Place) (names : List Name) (w : Work) → SameLimits w (header_of files first names w)
+header_of_same : (files : FileNames) (first : Place) (names : List Name) (w : Compilation) → SameLimits w (header_of files first names w)
 header_of_same files first [] w = (refl, refl)
 header_of_same files first (word ∷ names) w = header_as_same files first (heading_of word.bytes) names w
 
-pub header_same : (files : FileNames) (place : Place) (w : Work) → SameLimits w (header_ended files place w)
+pub header_same : (files : FileNames) (place : Place) (w : Compilation) → SameLimits w (header_ended files place w)
 header_same files place w = header_of_same files (first_place w.unit.tokens place) (names_in w.unit.tokens) w
 
 -- Entries
@@ -65,32 +65,32 @@ story_same : (fault : Option ArrayFault) (a : Adding) (o : Out) → SameOutLimit
 story_same None a o = (refl, refl)
 story_same (Some f) a o = (refl, refl)
 
-added_same : (a : Adding) (w : Work) → SameLimits w (added a w)
+added_same : (a : Adding) (w : Compilation) → SameLimits w (added a w)
 added_same a w =
     of_both (SameLimits w) w.listing.is_lost (record w { lost = lost_added (added_fault a w.lost) a w.lost })
     (record w { output = story_added (added_fault a w.output.tables.arrays) a w.output })
     (λ _. (refl, refl)) (λ _. story_same (added_fault a w.output.tables.arrays) a w.output)
 
-text_same : (text : Option (List TextItem)) (w : Work) → SameLimits w (text_added text w)
+text_same : (text : Option (List TextItem)) (w : Compilation) → SameLimits w (text_added text w)
 text_same None w = (refl, refl)
 text_same (Some items) w = added_same (Characters (codes_of items)) w
 
-value_same : (alone : Bool) (w : Work) → SameLimits w (value_added alone w)
+value_same : (alone : Bool) (w : Compilation) → SameLimits w (value_added alone w)
 value_same alone w =
-    let settled : Work = record w { output = (settled_of w).out } in
+    let settled : Compilation = record w { output = (settled_of w).out } in
     out_same_then w.output settled.output (value_added alone w).output
     (leaves_same w.set w.locals w.unit.tokens w.unit.gathering.leaves (record { out = w.output; operands = [] }))
     (added_same (adding alone (value_of w)) settled)
 
-entry_added_same : (text : Option ℕ) (alone : Bool) (w : Work) → SameLimits w (entry_added_by text alone w)
+entry_added_same : (text : Option ℕ) (alone : Bool) (w : Compilation) → SameLimits w (entry_added_by text alone w)
 entry_added_same (Some at) alone w = text_same (text_at w.set w.unit.tokens at) w
 entry_added_same None alone w = value_same alone w
 
-with_same : (files : FileNames) (first : Place) (alone : Bool) (f : Option Finding) (w : Work) → SameLimits w (entry_with files first alone f w)
+with_same : (files : FileNames) (first : Place) (alone : Bool) (f : Option Finding) (w : Compilation) → SameLimits w (entry_with files first alone f w)
 with_same files first alone None w = entry_added_same (bare_text alone w) alone w
 with_same files first alone (Some f) w = (refl, refl)
 
-pub entry_same : (files : FileNames) (place : Place) (is_last : Bool) (w : Work) → SameLimits w (entry_ended files place is_last w)
+pub entry_same : (files : FileNames) (place : Place) (is_last : Bool) (w : Compilation) → SameLimits w (entry_ended files place is_last w)
 entry_same files place is_last w =
     let alone = is_alone is_last w in
     with_same files (first_place w.unit.tokens place) alone (entry_finding alone w) (one_more w)

@@ -15,8 +15,8 @@ use Rattle.inf_output.proofs.Keeping.{declared_keeps, opened_keeps, passed_table
 use Rattle.inf_scanner.specs.declared.tokens.Mark.TheVariants as mark
 use Rattle.inf_scanner.specs.declared.tokens.Place.{Place}
 use Rattle.inf_statements.proofs.Keeping.{leaves_same}
-use Rattle.inf_symbol.specs.Locals.{Headed, no_locals, with_locals}
-use Rattle.inf_symbol.specs.Spellings.{Name}
+use Rattle.inf_sinks.specs.Locals.{Headed, no_locals, with_locals}
+use Rattle.inf_sinks.specs.Spellings.{Name}
 use Rattle.inf_text.specs.Packing.{dictionary_bytes}
 use Rattle.inf_unit.proofs.Cases.{of_both}
 use Rattle.inf_unit.specs.Messages.{FileNames}
@@ -27,7 +27,7 @@ use Rattle.inf_world.specs.declared.faults.Misfit.{Misfit}
 use Rattle.inf_world.specs.declared.kinds.Parent.{Parent}
 use Rattle.inf_world.specs.Objects.{arrows_of, class_at, parent_of}
 use Rattle.inf_world.specs.World.{WorldOf, class_by, class_header_fault, class_of_fault, further_value_fault, given_of, given_property_fault, individual_fault, kind_of, lost_header_fault, no_body_fault, object_header_fault, set_attribute_fault, with_class_header, with_class_of, with_end, with_further_value, with_given_property, with_hung, with_individual, with_lost_header, with_lost_property, with_object_header, with_set_attribute}
-use Rattle.inf_work.specs.Actions.{Work, body_ended, finding_at, told, world_ended_by}
+use Rattle.inf_work.specs.Actions.{Compilation, body_ended, finding_at, told, world_ended_by}
 use Rattle.inf_work.specs.Arrays.{looked_value, variables_from}
 use Rattle.inf_work.specs.Bodies.{attribute_of, attribute_read, attribute_set_by, attribute_set_some, class_read, further_added_by, further_found, further_placed, given, given_finding, given_with, individual_declared, individual_given_by, individual_named, is_given, is_words, last_at, place_finding, placed, property_given, property_given_by, property_gives_by, property_lost, property_of, property_read}
 use Rattle.inf_work.specs.Declarations.{plainly_known, value_of, with_world}
@@ -102,12 +102,12 @@ class_by_same None short name o =
     (declared_keeps name.bytes name.place (meaning.Class ((5 + length o.tables.world.objects) % 65536)) b)
 class_by_same (Some f) short name o = noted_same f o
 
-class_opened_same : (f : Option Finding) (name : Name) (w : Work) → SameLimits w (class_opened f name w)
+class_opened_same : (f : Option Finding) (name : Name) (w : Compilation) → SameLimits w (class_opened f name w)
 class_opened_same None name w =
     class_by_same (class_header_fault (bracketed w.set name.bytes) w.output.tables.world) (bracketed w.set name.bytes) name w.output
 class_opened_same (Some f) name w = class_lost_same name w.output
 
-pub class_header_same : (files : FileNames) (first : Place) (name : Name) (w : Work) → SameLimits w (class_header files first name w)
+pub class_header_same : (files : FileNames) (first : Place) (name : Name) (w : Compilation) → SameLimits w (class_header files first name w)
 class_header_same files first name w = class_opened_same (plainly_known files name (name_order w.unit.tokens) w).finding name w
 
 joined_by_same : (f : Option AddFault) (number : ℕ) (o : Out) → SameOutLimits o (joined_by f number o)
@@ -142,25 +142,25 @@ object_by_same None p short class name o =
     (object_named_same class name number b)
 object_by_same (Some f) p short class name o = noted_same f o
 
-object_opened_same : (f : Option Finding) (h : Header) (name : Option Name) (w : Work) → SameLimits w (object_opened f h name w)
+object_opened_same : (f : Option Finding) (h : Header) (name : Option Name) (w : Compilation) → SameLimits w (object_opened f h name w)
 object_opened_same None h name w =
     let p = parent_in h.parent h.arrows w in
     let short = short_name h name w in
     object_by_same (object_header_fault p short w.output.tables.world) p short (class_of_word w) name w.output
 object_opened_same (Some f) h name w = object_lost_same name w.output
 
-object_ended_same : (files : FileNames) (first : Place) (name : Option Name) (d : Declared) (w : Work) → SameLimits w (object_ended files first name d w)
+object_ended_same : (files : FileNames) (first : Place) (name : Option Name) (d : Declared) (w : Compilation) → SameLimits w (object_ended files first name d w)
 object_ended_same files first None d w = same w.output
 object_ended_same files first (Some name) d w = same w.output
 
-object_with_same : (files : FileNames) (first : Place) (h : Header) (name : Option Name) (w : Work) → SameLimits w (object_with files first h name w)
+object_with_same : (files : FileNames) (first : Place) (h : Header) (name : Option Name) (w : Compilation) → SameLimits w (object_with files first h name w)
 object_with_same files first h name w =
     let d = object_known files h name w in
     let open_one = object_opened d.finding h name w in
     out_same_then w.output open_one.output (object_ended files first name d open_one).output
     (object_opened_same d.finding h name w) (object_ended_same files first name d open_one)
 
-pub object_header_same : (files : FileNames) (first : Place) (w : Work) → SameLimits w (object_header files first w)
+pub object_header_same : (files : FileNames) (first : Place) (w : Compilation) → SameLimits w (object_header files first w)
 object_header_same files first w = let h = header_in w.unit.tokens in object_with_same files first h (own_name h.own w) w
 
 -- Bodies
@@ -169,10 +169,10 @@ ended_by_same : (f : Option AddFault) (o : Out) → SameOutLimits o (with_world 
 ended_by_same None o = world_same o (with_end o.tables.world) refl
 ended_by_same (Some f) o = same o
 
-pub body_ended_same : (w : Work) → SameLimits w (body_ended w)
+pub body_ended_same : (w : Compilation) → SameLimits w (body_ended w)
 body_ended_same w = ended_by_same (no_body_fault w.output.tables.world) w.output
 
-pub class_read_same : (files : FileNames) (place : Place) (w : Work) → SameLimits w (class_read files place w)
+pub class_read_same : (files : FileNames) (place : Place) (w : Compilation) → SameLimits w (class_read files place w)
 class_read_same files place w = joined_some_same (class_of (found_at (last_at w.unit.tokens) w)) w.output
 
 attribute_by_same : (f : Option AddFault) (number : ℕ) (is_set : Bool) (o : Out) → SameOutLimits o (attribute_set_by f number is_set o)
@@ -183,7 +183,7 @@ attribute_some_same : (number : Option ℕ) (is_set : Bool) (o : Out) → SameOu
 attribute_some_same None is_set o = same o
 attribute_some_same (Some number) is_set o = attribute_by_same (set_attribute_fault number o.tables.world) number is_set o
 
-pub attribute_read_same : (files : FileNames) (place : Place) (w : Work) → SameLimits w (attribute_read files place w)
+pub attribute_read_same : (files : FileNames) (place : Place) (w : Compilation) → SameLimits w (attribute_read files place w)
 attribute_read_same files place w =
     let at = last_at w.unit.tokens in attribute_some_same (attribute_of (found_at at w)) (is_given w.unit.tokens at) w.output
 
@@ -220,62 +220,62 @@ further_by_same : (f : Option AddFault) (v : Value) (o : Out) → SameOutLimits 
 further_by_same None v o = world_same o (with_further_value v o.tables.world) refl
 further_by_same (Some f) v o = noted_same f o
 
-gives_by_same : (number : Option ℕ) (at : ℕ) (v : Option Value) (w : Work) → SameLimits w (property_gives_by number at v w)
+gives_by_same : (number : Option ℕ) (at : ℕ) (v : Option Value) (w : Compilation) → SameLimits w (property_gives_by number at v w)
 gives_by_same None at v w = individual_by_same (individual_fault w.output.tables.world) (name_at w.unit.tokens at) v w.output
 gives_by_same (Some number) at v w = property_given_same number v w.output
 
-given_with_same : (f : Option Finding) (at : ℕ) (v : Option Value) (w : Work) → SameLimits w (given_with f at v w)
+given_with_same : (f : Option Finding) (at : ℕ) (v : Option Value) (w : Compilation) → SameLimits w (given_with f at v w)
 given_with_same None at v w = gives_by_same (property_of (found_at at w)) at v w
 given_with_same (Some f) at v w = property_lost_same (name_at w.unit.tokens at) w.output
 
-given_same : (at : ℕ) (v : Option Value) (of_value : Option Finding) (w : Work) → SameLimits w (given at v of_value w)
+given_same : (at : ℕ) (v : Option Value) (of_value : Option Finding) (w : Compilation) → SameLimits w (given at v of_value w)
 given_same at v of_value w =
     given_with_same (given_finding at v of_value w) at v (record w { is_name = is_words (property_of (found_at at w)) })
 
-further_placed_same : (f : Option Finding) (v : Value) (w : Work) → SameLimits w (further_placed f v w)
+further_placed_same : (f : Option Finding) (v : Value) (w : Compilation) → SameLimits w (further_placed f v w)
 further_placed_same None v w = further_by_same (further_value_fault v w.output.tables.world) v w.output
 further_placed_same (Some f) v w = same w.output
 
-placed_same : (name : Option ℕ) (v : Value) (of_value : Option Finding) (w : Work) → SameLimits w (placed name v of_value w)
+placed_same : (name : Option ℕ) (v : Value) (of_value : Option Finding) (w : Compilation) → SameLimits w (placed name v of_value w)
 placed_same None v of_value w = further_placed_same (further_found v of_value w) v w
 placed_same (Some at) v of_value w = given_same at (Some v) of_value w
 
-pub property_read_same : (files : FileNames) (place : Place) (w : Work) → SameLimits w (property_read files place w)
+pub property_read_same : (files : FileNames) (place : Place) (w : Compilation) → SameLimits w (property_read files place w)
 property_read_same files place w = given_same (last_at w.unit.tokens) None None w
 
 -- Values
 
-word_used_same : (f : Option Finding) (items : List TextItem) (w : Work) → SameLimits w (word_used f items w)
+word_used_same : (f : Option Finding) (items : List TextItem) (w : Compilation) → SameLimits w (word_used f items w)
 word_used_same None items w = with_word_keeps (dictionary_bytes items) word_use.Other false w.output
 word_used_same (Some f) items w = same w.output
 
-text_by_same : (is_wrong : Bool) (name : Option ℕ) (items : List TextItem) (w : Work) → SameLimits w (text_placed_by is_wrong name items w)
+text_by_same : (is_wrong : Bool) (name : Option ℕ) (items : List TextItem) (w : Compilation) → SameLimits w (text_placed_by is_wrong name items w)
 text_by_same is_wrong name items w =
     let p = placed name (text_value is_wrong items) (wrong_if is_wrong) w in
     let f = text_finding_by is_wrong name items w in
     out_same_then w.output p.output (word_used f items p).output (placed_same name (text_value is_wrong items) (wrong_if is_wrong) w) (word_used_same f items p)
 
-settled_placed_same : (name : Option ℕ) (w : Work) → SameLimits w (settled_placed name w)
+settled_placed_same : (name : Option ℕ) (w : Compilation) → SameLimits w (settled_placed name w)
 settled_placed_same name w =
     let s = settled_work w in
     out_same_then w.output s.output (placed name (value_of w) None s).output
     (leaves_same w.set w.locals w.unit.tokens w.unit.gathering.leaves (record { out = w.output; operands = [] }))
     (placed_same name (value_of w) None s)
 
-value_by_same : (f : Option Finding) (name : Option ℕ) (judged : Option Finding) (looked : Value) (w : Work) → SameLimits w (value_by f name judged looked w)
+value_by_same : (f : Option Finding) (name : Option ℕ) (judged : Option Finding) (looked : Value) (w : Compilation) → SameLimits w (value_by f name judged looked w)
 value_by_same None name judged looked w = settled_placed_same name w
 value_by_same (Some f) name judged looked w = placed_same name looked judged w
 
-any_placed_same : (text : Option (List TextItem)) (name : Option ℕ) (w : Work) → SameLimits w (any_placed text name w)
+any_placed_same : (text : Option (List TextItem)) (name : Option ℕ) (w : Compilation) → SameLimits w (any_placed text name w)
 any_placed_same None name w =
     value_by_same (least_of_both (finding_at 0 wanted.Constant w) (place_finding name (looked_value w) w)) name (finding_at 0 wanted.Constant w) (looked_value w) w
 any_placed_same (Some items) name w = text_by_same (variables_from items false) name items w
 
-pub value_read_same : (files : FileNames) (place : Place) (w : Work) → SameLimits w (value_read files place w)
+pub value_read_same : (files : FileNames) (place : Place) (w : Compilation) → SameLimits w (value_read files place w)
 value_read_same files place w =
     let name = name_place w.unit.outer in any_placed_same (word_text (takes_words name w) w) name w
 
-embedded_same : (files : FileNames) (first : Place) (name : Option ℕ) (h : Headed) (w : Work) → SameLimits w (embedded files first name h w)
+embedded_same : (files : FileNames) (first : Place) (name : Option ℕ) (h : Headed) (w : Compilation) → SameLimits w (embedded files first name h w)
 embedded_same files first name h w =
     let b = blame_embedded files first name h w in
     let t = told files first b w in
@@ -283,7 +283,7 @@ embedded_same files first name h w =
     out_same_then w.output p.output (opened (length h.locals) (is_some b) p.output)
     (placed_same name (next_routine t) (wrong_if (is_some b)) t) (opened_keeps (length h.locals) (is_some b) p.output)
 
-pub embedded_read_same : (files : FileNames) (place : Place) (w : Work) → SameLimits w (embedded_read files place w)
+pub embedded_read_same : (files : FileNames) (place : Place) (w : Compilation) → SameLimits w (embedded_read files place w)
 embedded_read_same files place w =
     embedded_same files (first_place w.unit.tokens place) (place_before (bracket_in w.unit.tokens))
     (with_locals (names_behind mark.OpenBracket w.unit.tokens) no_locals) w

@@ -16,22 +16,22 @@ use Rattle.inf_names.specs.Symbols.{declare_fault, found_in}
 use Rattle.inf_output.specs.Output.{Code, Out, begun, closed, declared, opened, referred}
 use Rattle.inf_output.specs.Limits.{Keeps, SameLimits as SameOutLimits}
 use Rattle.inf_output.proofs.Keeping.{begun_keeps, closed_keeps, declared_keeps, opened_keeps, referred_keeps, same_then as out_same_then}
-use Rattle.inf_symbol.specs.Spellings.{Name}
-use Rattle.inf_symbol.specs.Locals.{Headed, no_locals, with_locals}
+use Rattle.inf_sinks.specs.Spellings.{Name}
+use Rattle.inf_sinks.specs.Locals.{Headed, no_locals, with_locals}
 use Rattle.inf_syntax.specs.declared.actions.Action.{Action}
 use Rattle.inf_syntax.specs.declared.actions.Action.TheVariants as action
 use Rattle.inf_unit.specs.Directives.{directive_of}
 use Rattle.inf_unit.specs.declared.directives.Directive.{Directive}
 use Rattle.inf_unit.specs.declared.directives.Directive.TheVariants as directive
 use Rattle.inf_report.specs.Messages.{ConstantOutOfRange}
-use Rattle.inf_report.specs.declared.messages.Countable.{Countable}
-use Rattle.inf_report.specs.declared.messages.Countable.TheVariants as countable
+use Rattle.inf_report.specs.declared.messages.FixedLimit.{FixedLimit}
+use Rattle.inf_report.specs.declared.messages.FixedLimit.TheVariants as countable
 use Rattle.inf_area.specs.declared.targets.Value.{Value}
 use Rattle.inf_world.specs.declared.faults.AddFault.{AddFault}
 use Rattle.inf_world.specs.World.{attribute_fault, property_fault}
 use Rattle.std.specs.Str.{str_eq_ignore_ascii_case}
-use Rattle.inf_unit.specs.Messages.{Blame, FileNames}
-use Rattle.inf_unit.specs.Tokens.{Spelled}
+use Rattle.inf_unit.specs.Messages.{Diagnostic, FileNames}
+use Rattle.inf_unit.specs.Tokens.{SourceToken}
 use Rattle.inf_unit.specs.Units.{acted as unit_acted, bytes_at, first_place, last_place, long_at, name_order, names_in, taken as unit_taken}
 use Rattle.inf_unit.proofs.Cases.{of_both}
 use Rattle.inf_statements.specs.Constructs.{Laying, are_own, begun as construct_begun, between, cases_begun, changed, condition_label, ended, entered, looped_over, next_case, stepped}
@@ -44,7 +44,7 @@ use Rattle.inf_statements.specs.declared.constructs.Kind.{Kind}
 use Rattle.inf_statements.specs.declared.constructs.Kind.TheVariants as kind
 use Rattle.inf_statements.specs.declared.constructs.Over.TheVariants as over
 use Rattle.inf_statements.proofs.Keeping.{all_ended_keep, alone_keep, begun_keeps as begun_construct_keeps, case_keeps, cases_begun_keeps, cases_keep, ended_keeps, joined_keeps, leaf_added_keeps, leaves_same, looped_over_keeps, statement_keeps, stepped_keeps, switched_keeps, tested_keeps}
-use Rattle.inf_work.specs.Actions.{Work, begun_at, body_ended, cases_ended, close, close_open, constant, constant_added, constant_finding, constant_meaning, constant_of, constant_with, cut, finding_at, given_up, header_end, header_of, header_with, is_deep, is_first_declared, is_replaced, kind_ended, name_finding, named, nested, new_stub, opened_with, opening_checked, opening_checked_at, opens, operands_of, passed, replace, routine_declared, settled_of, sized, stopped, stub, stub_code, stub_locals, stubbed, token_checked, told, took, trees_at, unit_ended}
+use Rattle.inf_work.specs.Actions.{Compilation, begun_at, body_ended, cases_ended, close, close_open, constant, constant_added, constant_finding, constant_meaning, constant_of, constant_with, cut, finding_at, given_up, header_end, header_of, header_with, is_deep, is_first_declared, is_replaced, kind_ended, name_finding, named, nested, new_stub, opened_with, opening_checked, opening_checked_at, opens, operands_of, passed, replace, routine_declared, settled_of, sized, stopped, stub, stub_code, stub_locals, stubbed, token_checked, told, took, trees_at, unit_ended}
 use Rattle.inf_work.specs.Declarations.{alias_by, is_alias, alias_finding, alias_meaning, alias_told, alias_with, aliased, attribute, attribute_added, attribute_number, attribute_with, global_added, global_variable, global_with, is_additive, last_meaning, new_attribute, new_attribute_by, new_global, new_property, new_property_by, nothing_of, name_known, property, property_added, property_named, property_names, property_number, property_order, property_with, value_of, valued, with_variable}
 use Rattle.inf_work.proofs.Bounds.{attribute_read_same, body_ended_same, class_read_same, embedded_read_same, property_read_same, value_read_same}
 use Rattle.inf_work.specs.Directives.{carried_out, default, directive_end, directive_of_names}
@@ -60,13 +60,13 @@ use Rattle.inf_work.specs.declared.parts.Part.TheVariants as part
 
 -- Units
 
-pub same_then : (a b c : Work) → SameLimits a b → SameLimits b c → SameLimits a c
+pub same_then : (a b c : Compilation) → SameLimits a b → SameLimits b c → SameLimits a c
 same_then a b c first second = out_same_then a.output b.output c.output first second
 
-laid_same : (laying : Laying (List Construct)) (w : Work) → LayingKeeps laying → SameLimits w (constructs_laid laying w)
+laid_same : (laying : Laying (List Construct)) (w : Compilation) → LayingKeeps laying → SameLimits w (constructs_laid laying w)
 laid_same laying w keeps = keeps w.output
 
-effect_same : (p : Part) (trees : List Rooted) (w : Work) → SameLimits w (part_effect p trees w)
+effect_same : (p : Part) (trees : List Rooted) (w : Compilation) → SameLimits w (part_effect p trees w)
 unfolding part_effect
 effect_same (part.Statement s) trees w = statement_keeps (site_of w) s (map tree_in trees) w.labels w.output
 effect_same part.Condition trees w = tested_keeps (condition_label w.constructs) (map tree_in trees) w.output
@@ -76,17 +76,17 @@ effect_same part.Loop trees w = looped_over_keeps trees w.constructs w.output
 effect_same part.Switched trees w = switched_keeps (map tree_in trees) w.output
 effect_same part.Case trees w = case_keeps (next_case w.constructs) (map tree_in trees) w.output
 
-actions_named_same : (b : Bool) (w : Work) → SameLimits w (actions_named b w)
+actions_named_same : (b : Bool) (w : Compilation) → SameLimits w (actions_named b w)
 actions_named_same true w = (refl, refl)
 actions_named_same false w = (refl, refl)
 
-prepared_same : (p : Part) (w : Work) → SameLimits w (case_prepared p w)
+prepared_same : (p : Part) (w : Compilation) → SameLimits w (case_prepared p w)
 prepared_same part.Case w =
     let begun = constructs_laid (cases_begun w.constructs) w in
     same_then w begun (actions_named (are_own begun.constructs) begun) (cases_begun_keeps w.constructs w.output) (actions_named_same (are_own begun.constructs) begun)
 prepared_same _ w = (refl, refl)
 
-carried_part_same : (files : FileNames) (first : Place) (p : Part) (f : Option Finding) (w : Work) → SameLimits w (part_carried files first p f w)
+carried_part_same : (files : FileNames) (first : Place) (p : Part) (f : Option Finding) (w : Compilation) → SameLimits w (part_carried files first p f w)
 carried_part_same files first p (Some f) w = (refl, refl)
 carried_part_same files first p None w =
     let s = settled_of w in
@@ -95,7 +95,7 @@ carried_part_same files first p None w =
     (leaves_same w.set w.locals w.unit.tokens w.unit.gathering.leaves (record { out = w.output; operands = [] }))
     (effect_same p (trees_at (order_of p w) (wanted_of p) s.operands w) ready)
 
-begun_part_same : (p : Part) (w : Work) → SameLimits w (part_begun p w)
+begun_part_same : (p : Part) (w : Compilation) → SameLimits w (part_begun p w)
 begun_part_same (part.Statement s) w = (refl, refl)
 begun_part_same part.Condition w = (refl, refl)
 begun_part_same part.Start w = (refl, refl)
@@ -104,31 +104,31 @@ begun_part_same part.Loop w = (refl, refl)
 begun_part_same part.Switched w = (refl, refl)
 begun_part_same part.Case w = cases_keep (is_default w.unit.items) w.constructs w.output
 
-finished_same : (files : FileNames) (first : Place) (p : Part) (w : Work) → SameLimits w (part_finished files first p w)
+finished_same : (files : FileNames) (first : Place) (p : Part) (w : Compilation) → SameLimits w (part_finished files first p w)
 finished_same files first p w =
     let ready = named (part_begun p w) in
     out_same_then w.output ready.output (part_carried files first p (found_in_part p w) ready).output
     (begun_part_same p w) (carried_part_same files first p (found_in_part p w) ready)
 
-part_same : (files : FileNames) (place : Place) (p : Part) (w : Work) → SameLimits w (part_ended files place p w)
+part_same : (files : FileNames) (place : Place) (p : Part) (w : Compilation) → SameLimits w (part_ended files place p w)
 part_same files place p w =
     let ready = case_prepared p (part_prepared w) in
     of_both (SameLimits w) w.is_passed_over (passed (has_last p) w) (part_finished files (place_of p place ready) p ready)
     (λ _. (refl, refl))
     (λ _. same_then w ready (part_finished files (place_of p place ready) p ready) (prepared_same p (part_prepared w)) (finished_same files (place_of p place ready) p ready))
 
-nested_same : (files : FileNames) (place : Place) (b : Bool) (w : Work) → SameLimits w (nested files place b w)
+nested_same : (files : FileNames) (place : Place) (b : Bool) (w : Compilation) → SameLimits w (nested files place b w)
 nested_same files place true w = (refl, refl)
 nested_same files place false w = (refl, refl)
 
-stopped_same : (files : FileNames) (place : Option Place) (w : Work) → SameLimits w (stopped files place w)
+stopped_same : (files : FileNames) (place : Option Place) (w : Compilation) → SameLimits w (stopped files place w)
 stopped_same files None w = (refl, refl)
 stopped_same files (Some place) w = (refl, refl)
 
-sized_same : (files : FileNames) (w : Work) → SameLimits w (sized files w)
+sized_same : (files : FileNames) (w : Compilation) → SameLimits w (sized files w)
 sized_same files w = stopped_same files (long_at w.longest w.unit) w
 
-opened_same : (files : FileNames) (place : Place) (k : Kind) (w : Work) → SameLimits w (construct_opened files place k w)
+opened_same : (files : FileNames) (place : Place) (k : Kind) (w : Compilation) → SameLimits w (construct_opened files place k w)
 opened_same files place k w =
     let told = nested files (last_place w.unit.tokens place) (is_deep w 1) w in
     out_same_then w.output told.output (construct_opened files place k w).output
@@ -136,21 +136,21 @@ opened_same files place k w =
 
 -- Routines
 
-header_with_same : (files : FileNames) (first : Place) (name : Name) (h : Headed) (w : Work) → SameLimits w (header_with files first name h w)
+header_with_same : (files : FileNames) (first : Place) (name : Name) (h : Headed) (w : Compilation) → SameLimits w (header_with files first name h w)
 header_with_same files first name h w =
     let d = routine_declared name w in
     let is_lost = is_some (header_fault files first (name_fault files name (declare_fault name.bytes w.output.names)) h) in
     out_same_then w.output d.output (opened (length h.locals) is_lost d.output)
     (declared_keeps name.bytes name.place (meaning_of.Routine (place_behind w.output.code.finished)) w.output) (opened_keeps (length h.locals) is_lost d.output)
 
-header_of_same : (files : FileNames) (first : Place) (names : List Name) (w : Work) → SameLimits w (header_of files first names w)
+header_of_same : (files : FileNames) (first : Place) (names : List Name) (w : Compilation) → SameLimits w (header_of files first names w)
 header_of_same files first [] w = (refl, refl)
 header_of_same files first (name ∷ locals) w =
     of_both (SameLimits w) (is_replaced name w) (passed true (record w { is_passed_over = true; is_embedded = false; constructs = [] }))
     (header_with files first name (with_locals locals no_locals) (record w { is_passed_over = false; is_embedded = false }))
     (λ _. (refl, refl)) (λ _. header_with_same files first name (with_locals locals no_locals) (record w { is_passed_over = false; is_embedded = false }))
 
-close_same : (files : FileNames) (place : Place) (w : Work) → SameLimits w (close files place w)
+close_same : (files : FileNames) (place : Place) (w : Compilation) → SameLimits w (close files place w)
 close_same files place w =
     let ended = cases_ended w in
     of_both (SameLimits w) w.is_passed_over (passed true w) (close_open files place w) (λ _. (refl, refl))
@@ -159,14 +159,14 @@ close_same files place w =
 
 -- Directives
 
-pub begun_at_same : (files : FileNames) (first : Place) (w : Work) → SameLimits w (begun_at files first w)
+pub begun_at_same : (files : FileNames) (first : Place) (w : Compilation) → SameLimits w (begun_at files first w)
 begun_at_same files first w = begun_keeps w.output
 
-constant_added_same : (least : Option Finding) (w : Work) → SameLimits w (constant_added least w)
+constant_added_same : (least : Option Finding) (w : Compilation) → SameLimits w (constant_added least w)
 constant_added_same None w = leaf_added_keeps w.set w.unit.tokens w.unit.gathering.leaves w.output
 constant_added_same (Some f) w = (refl, refl)
 
-constant_with_same : (files : FileNames) (first : Place) (name : Name) (m : Option Meaning) (found : Option Finding) (w : Work)
+constant_with_same : (files : FileNames) (first : Place) (name : Name) (m : Option Meaning) (found : Option Finding) (w : Compilation)
     → SameLimits w (constant_with files first name m found w)
 constant_with_same files first name m found w =
     let of_name = name_fault files name (declare_fault name.bytes w.output.names) in
@@ -176,18 +176,18 @@ constant_with_same files first name m found w =
     same_then w d (constant_added least d) (declared_keeps name.bytes name.place (constant_meaning m finding) w.output)
     (constant_added_same least d)
 
-constant_same : (files : FileNames) (first : Place) (names : List Name) (w : Work) → SameLimits w (constant files first names w)
+constant_same : (files : FileNames) (first : Place) (names : List Name) (w : Compilation) → SameLimits w (constant files first names w)
 constant_same files first [] w = (refl, refl)
 constant_same files first (name ∷ names) w =
     let found = finding_at 0 wanted.Constant w in
     let m = constant_of (map tree_in (trees_at 0 wanted.Constant (operands_of w) w)) w in
     constant_with_same files first name m found w
 
-replace_same : (files : FileNames) (first : Place) (names : List Name) (w : Work) → SameLimits w (replace files first names w)
+replace_same : (files : FileNames) (first : Place) (names : List Name) (w : Compilation) → SameLimits w (replace files first names w)
 replace_same files first [] w = (refl, refl)
 replace_same files first (name ∷ names) w = referred_keeps name.bytes name.place w.output
 
-stubbed_same : (files : FileNames) (first : Place) (w : Work) → SameLimits w (stubbed files first w)
+stubbed_same : (files : FileNames) (first : Place) (w : Compilation) → SameLimits w (stubbed files first w)
 stubbed_same files first w =
     let locals = stub_locals w.unit.tokens in
     of_both (SameLimits w) (nat_lt 4 locals) (unit_ended files first true (Some (record { place = first; message = ConstantOutOfRange })) w)
@@ -195,28 +195,28 @@ stubbed_same files first w =
     (λ _. (refl, refl))
     (λ _. out_same_then w.output (opened locals false w.output) (stub_code locals w.output) (opened_keeps locals false w.output) (closed_keeps routine_kind.Embedded (opened locals false w.output)))
 
-declared_stub_same : (files : FileNames) (first : Place) (name : Name) (w : Work) → SameLimits w (stubbed files first (routine_declared name w))
+declared_stub_same : (files : FileNames) (first : Place) (name : Name) (w : Compilation) → SameLimits w (stubbed files first (routine_declared name w))
 declared_stub_same files first name w =
     let d = routine_declared name w in
     same_then w d (stubbed files first d) (declared_keeps name.bytes name.place (meaning_of.Routine (place_behind w.output.code.finished)) w.output) (stubbed_same files first d)
 
-new_stub_same : (files : FileNames) (first : Place) (names : List Name) (w : Work) → SameLimits w (new_stub files first names w)
+new_stub_same : (files : FileNames) (first : Place) (names : List Name) (w : Compilation) → SameLimits w (new_stub files first names w)
 new_stub_same files first [] w = (refl, refl)
 new_stub_same files first (name ∷ names) w = declared_stub_same files first name w
 
-stub_same : (files : FileNames) (first : Place) (names : List Name) (w : Work) → SameLimits w (stub files first names w)
+stub_same : (files : FileNames) (first : Place) (names : List Name) (w : Compilation) → SameLimits w (stub files first names w)
 stub_same files first names w =
     of_both (SameLimits w) (is_first_declared names w.output.names) (unit_ended files first true None w) (new_stub files first names w)
     (λ _. (refl, refl)) (λ _. new_stub_same files first names w)
 
-default_same : (files : FileNames) (first : Place) (names : List Name) (w : Work) → SameLimits w (default files first names w)
+default_same : (files : FileNames) (first : Place) (names : List Name) (w : Compilation) → SameLimits w (default files first names w)
 default_same files first names w =
     of_both (SameLimits w) (is_first_declared names w.output.names) (unit_ended files first true None w) (constant files first names w)
     (λ _. (refl, refl)) (λ _. constant_same files first names w)
 
 -- Declarations
 
-alias_same : (files : FileNames) (first : Place) (name : Name) (at : ℕ) (kind : Countable) (w : Work) → SameLimits w (alias_told files first name at kind w)
+alias_same : (files : FileNames) (first : Place) (name : Name) (at : ℕ) (kind : FixedLimit) (w : Compilation) → SameLimits w (alias_told files first name at kind w)
 alias_same files first name at kind w =
     let m = last_meaning kind w in
     let finding = least_of_both (name_known files name at false w).finding (alias_finding w.unit.tokens m) in
@@ -233,7 +233,7 @@ attribute_added_same None name o =
     out_same_then o d (new_attribute d) (declared_keeps name.bytes name.place (meaning_of.Attribute (attribute_number o)) o)
     (new_attribute_same (attribute_fault d.tables.world) d)
 
-attribute_same : (files : FileNames) (first : Place) (names : List Name) (w : Work) → SameLimits w (attribute files first names w)
+attribute_same : (files : FileNames) (first : Place) (names : List Name) (w : Compilation) → SameLimits w (attribute files first names w)
 attribute_same files first [] w = (refl, refl)
 attribute_same files first (name ∷ names) w =
     of_both (SameLimits w) (is_alias names w.unit.gathering.leaves) (alias_told files first name (name_order w.unit.tokens) countable.Attributes w)
@@ -241,14 +241,14 @@ attribute_same files first (name ∷ names) w =
     (λ _. alias_same files first name (name_order w.unit.tokens) countable.Attributes w)
     (λ _. attribute_added_same (name_known files name (name_order w.unit.tokens) (nat_le 48 w.output.tables.world.attributes) w).finding name w.output)
 
-settled_same : (w : Work) → SameOutLimits w.output (settled_of w).out
+settled_same : (w : Compilation) → SameOutLimits w.output (settled_of w).out
 settled_same w = leaves_same w.set w.locals w.unit.tokens w.unit.gathering.leaves (record { out = w.output; operands = [] })
 
 new_property_same : (fault : Option AddFault) (is_additive : Bool) (v : Value) (o : Out) → SameOutLimits o (new_property_by fault is_additive v o)
 new_property_same None is_additive v o = (refl, refl)
 new_property_same (Some fault) is_additive v o = (refl, refl)
 
-property_added_same : (f : Option Finding) (name : Name) (is_additive : Bool) (w : Work) → SameOutLimits w.output (property_added f name is_additive w)
+property_added_same : (f : Option Finding) (name : Name) (is_additive : Bool) (w : Compilation) → SameOutLimits w.output (property_added f name is_additive w)
 property_added_same (Some f) name is_additive w = declared_keeps name.bytes name.place (nothing_of countable.Properties) w.output
 property_added_same None name is_additive w =
     let o = (settled_of w).out in
@@ -257,7 +257,7 @@ property_added_same None name is_additive w =
     (out_same_then o d (new_property is_additive (value_of w) d) (declared_keeps name.bytes name.place (meaning_of.Property (property_number o) is_additive) o)
     (new_property_same (property_fault d.tables.world) is_additive (value_of w) d))
 
-property_named_same : (files : FileNames) (first : Place) (is_additive : Bool) (names : List Name) (w : Work) → SameLimits w (property_named files first is_additive names w)
+property_named_same : (files : FileNames) (first : Place) (is_additive : Bool) (names : List Name) (w : Compilation) → SameLimits w (property_named files first is_additive names w)
 property_named_same files first is_additive [] w = (refl, refl)
 property_named_same files first is_additive (name ∷ names) w =
     let at = property_order w.unit.tokens is_additive in
@@ -265,13 +265,13 @@ property_named_same files first is_additive (name ∷ names) w =
     (λ _. alias_same files first name at countable.Properties w)
     (λ _. property_added_same (valued files name at (nat_le 60 (length w.output.tables.world.declared)) w).finding name is_additive w)
 
-property_same : (files : FileNames) (first : Place) (names : List Name) (w : Work) → SameLimits w (property files first names w)
+property_same : (files : FileNames) (first : Place) (names : List Name) (w : Compilation) → SameLimits w (property files first names w)
 property_same files first names w = property_named_same files first (is_additive names) (property_names names) w
 
 new_global_same : (v : Value) (o : Out) → SameOutLimits o (new_global v o)
 new_global_same v o = of_both (SameOutLimits o) (nat_le 235 (length o.tables.globals)) o (with_variable v o) (λ _. (refl, refl)) (λ _. (refl, refl))
 
-global_added_same : (f : Option Finding) (name : Name) (w : Work) → SameOutLimits w.output (global_added f name w)
+global_added_same : (f : Option Finding) (name : Name) (w : Compilation) → SameOutLimits w.output (global_added f name w)
 global_added_same (Some f) name w = declared_keeps name.bytes name.place (nothing_of countable.Globals) w.output
 global_added_same None name w =
     let o = (settled_of w).out in
@@ -280,12 +280,12 @@ global_added_same None name w =
     (out_same_then o d (new_global (value_of w) d) (declared_keeps name.bytes name.place (meaning_of.Variable (16 + length o.tables.globals)) o)
     (new_global_same (value_of w) d))
 
-global_same : (files : FileNames) (first : Place) (names : List Name) (w : Work) → SameLimits w (global_variable files first names w)
+global_same : (files : FileNames) (first : Place) (names : List Name) (w : Compilation) → SameLimits w (global_variable files first names w)
 global_same files first [] w = (refl, refl)
 global_same files first (name ∷ names) w =
     global_added_same (valued files name (name_order w.unit.tokens) (nat_le 235 (length w.output.tables.globals)) w).finding name w
 
-carried_same : (d : Directive) (files : FileNames) (first : Place) (names : List Name) (w : Work) → SameLimits w (carried_out d files first names w)
+carried_same : (d : Directive) (files : FileNames) (first : Place) (names : List Name) (w : Compilation) → SameLimits w (carried_out d files first names w)
 carried_same directive.Include files first names w = (refl, refl)
 carried_same directive.Message files first names w = (refl, refl)
 carried_same directive.End files first names w = (refl, refl)
@@ -299,7 +299,7 @@ carried_same directive.Global files first names w = global_same files first name
 carried_same directive.FakeAction files first names w = fake_same files first names w
 carried_same directive.SystemFile files first names w = (refl, refl)
 
-names_same : (files : FileNames) (first : Place) (names : List Name) (w : Work) → SameLimits w (directive_of_names files first names w)
+names_same : (files : FileNames) (first : Place) (names : List Name) (w : Compilation) → SameLimits w (directive_of_names files first names w)
 names_same files first [] w = (refl, refl)
 names_same files first (word ∷ names) w =
     let c = carried_out (directive_of word.bytes) files first names w in
@@ -307,16 +307,16 @@ names_same files first (word ∷ names) w =
 
 -- Statements that are over
 
-closed_same : (w : Work) → SameLimits w (construct_closed w)
+closed_same : (w : Compilation) → SameLimits w (construct_closed w)
 closed_same w =
     of_both (SameLimits w) (nat_lt 0 w.closed) (record w { closed = w.closed - 1 }) (construct_ended w) (λ _. (refl, refl)) (λ _. ended_keeps w.constructs w.output)
 
-pub closed_ahead_same : (count : ℕ) (w : Work) → SameLimits w (closed_ahead count w)
+pub closed_ahead_same : (count : ℕ) (w : Compilation) → SameLimits w (closed_ahead count w)
 closed_ahead_same count w = all_ended_keep (count - w.closed) w.constructs w.output
 
 -- Actions
 
-act_same : (files : FileNames) (place : Place) (a : Action) (w : Work) → SameLimits w (act files place a w)
+act_same : (files : FileNames) (place : Place) (a : Action) (w : Compilation) → SameLimits w (act files place a w)
 act_same files place action.EndLocals w = header_of_same files (first_place w.unit.tokens place) (names_in w.unit.tokens) w
 act_same files place action.EndDirective w = names_same files (first_place w.unit.tokens place) (names_in w.unit.tokens) w
 act_same files place action.EndStatement w = part_same files place (part.Statement (statement_at w)) w
@@ -422,28 +422,28 @@ act_same files place action.EndCase w = part_same files place part.Case w
 act_same files place action.To w = (refl, refl)
 act_same files place action.MaybeDeeper w = (refl, refl)
 
-acted_same : (files : FileNames) (place : Place) (actions : List Action) (w : Work) → SameLimits w (acted files place actions w)
+acted_same : (files : FileNames) (place : Place) (actions : List Action) (w : Compilation) → SameLimits w (acted files place actions w)
 acted_same files place [] w = (refl, refl)
 acted_same files place (a ∷ actions) w =
     let next = act files place a w in
     same_then w next (acted files place actions next) (act_same files place a w) (acted_same files place actions next)
 
-pub all_acted_same : (files : FileNames) (place : Place) (actions : List Action) (w : Work) → SameLimits w (all_acted files place actions w)
+pub all_acted_same : (files : FileNames) (place : Place) (actions : List Action) (w : Compilation) → SameLimits w (all_acted files place actions w)
 all_acted_same files place actions w = acted_same files place actions (record w { opening = None })
 
 -- Tokens
 
-pub took_same : (files : FileNames) (t : Spelled) (w : Work) → SameLimits w (took files t w)
+pub took_same : (files : FileNames) (t : SourceToken) (w : Compilation) → SameLimits w (took files t w)
 took_same files t w =
     let taken = record w { unit = unit_taken t w.unit } in
     let s = sized files taken in
     same_then taken s (token_checked files t s) (sized_same files taken) (nested_same files t.place (opens t.kind && is_deep s 0) s)
 
-opening_same : (opening : Option Place) (files : FileNames) (w : Work) → SameLimits w (opening_checked_at opening files w)
+opening_same : (opening : Option Place) (files : FileNames) (w : Compilation) → SameLimits w (opening_checked_at opening files w)
 opening_same None files w = (refl, refl)
 opening_same (Some place) files w = nested_same files place (is_deep w 1) w
 
-pub cut_same : (files : FileNames) (w : Work) → SameLimits w (cut files w)
+pub cut_same : (files : FileNames) (w : Compilation) → SameLimits w (cut files w)
 cut_same files w =
     let sure = record w { unit = record w.unit { is_sure = true } } in
     let c = body_ended sure in

@@ -13,9 +13,9 @@ use Rattle.inf_scanner.specs.declared.tokens.DictionaryWord.{DictionaryWord}
 use Rattle.inf_scanner.specs.declared.tokens.Place.{Place}
 use Rattle.inf_scanner.specs.declared.tokens.TokenKind.{TokenKind}
 use Rattle.inf_scanner.specs.declared.tokens.TokenKind.TheVariants as kind
-use Rattle.inf_symbol.specs.Spellings.{Name}
+use Rattle.inf_sinks.specs.Spellings.{Name}
 use Rattle.inf_unit.specs.Messages.{FileNames}
-use Rattle.inf_unit.specs.Tokens.{Spelled}
+use Rattle.inf_unit.specs.Tokens.{SourceToken}
 use Rattle.inf_unit.specs.Units.{bytes_at, first_place, kind_at, name_at, name_order, next_place}
 use Rattle.inf_unit.proofs.Cases.{of_both}
 use Rattle.inf_verbs.specs.Lines.{LineOf}
@@ -26,7 +26,7 @@ use Rattle.inf_verbs.specs.declared.verbs.LineFault.{LineFault}
 use Rattle.inf_verbs.specs.declared.verbs.Place.{Place as LinePlace}
 use Rattle.inf_verbs.specs.declared.verbs.VerbFault.{VerbFault}
 use Rattle.inf_verbs.specs.declared.verbs.VerbFault.TheVariants as verb_fault
-use Rattle.inf_work.specs.Actions.{Work}
+use Rattle.inf_work.specs.Actions.{Compilation}
 use Rattle.inf_work.specs.Limits.{SameLimits}
 use Rattle.inf_work.specs.Verbs.{action_by, arrow_in, attribute_in, extend_header, fake_action, has_verb, head_finding, header_opened, is_reverse, like_used, line_added, line_ended, line_kept_by, line_laid, line_token, line_token_by, line_tokens, lines_extended, lone_by, name_token, named_at, new_verb_by, noun_named, one_line_by, parsing_as, parsing_routine, place_named, tokens_finding, verb_begun, verb_extended, verb_head, verb_header, verb_named, verb_opened, verb_use, with_verbs, word_at, word_used, words_given, words_used}
 use Rattle.inf_work.specs.declared.verbs.Extending.{Extending}
@@ -40,17 +40,17 @@ word_used_keeps : (word : Option DictionaryWord) (how : WordUse) → Keeps (word
 word_used_keeps None how o = (refl, refl)
 word_used_keeps (Some w) how o = with_word_keeps w.text how w.is_plural o
 
-words_used_keeps : (end : ℕ) (tokens : List Spelled) (how : WordUse) → Keeps (words_used end tokens how)
+words_used_keeps : (end : ℕ) (tokens : List SourceToken) (how : WordUse) → Keeps (words_used end tokens how)
 words_used_keeps zero tokens how o = (refl, refl)
 words_used_keeps (suc at) tokens how o =
     let before = words_used at tokens how o in
     same_then o before (word_used (word_at tokens at) how before) (words_used_keeps at tokens how o) (word_used_keeps (word_at tokens at) how before)
 
-like_used_keeps : (like : Option ℕ) (tokens : List Spelled) (number : ℕ) → Keeps (like_used like tokens number)
+like_used_keeps : (like : Option ℕ) (tokens : List SourceToken) (number : ℕ) → Keeps (like_used like tokens number)
 like_used_keeps None tokens number o = (refl, refl)
 like_used_keeps (Some at) tokens number o = word_used_keeps (word_at tokens at) (word_use.Verb number) o
 
-words_given_keeps : (verb : Option ℕ) (head : VerbHead) (tokens : List Spelled) → Keeps (words_given verb head tokens)
+words_given_keeps : (verb : Option ℕ) (head : VerbHead) (tokens : List SourceToken) → Keeps (words_given verb head tokens)
 words_given_keeps None head tokens o = (refl, refl)
 words_given_keeps (Some number) head tokens o =
     let used = words_used head.end tokens (verb_use number head.is_meta) o in
@@ -66,20 +66,20 @@ new_verb_same (Some verb_fault.Full) o = (refl, refl)
 new_verb_same (Some verb_fault.NoSpace) o = (refl, refl)
 new_verb_same (Some verb_fault.Memory) o = (refl, refl)
 
-begun_same : (like : Option ℕ) (tokens : List Spelled) (o : Out) → SameOutLimits o (verb_begun like tokens o).0
+begun_same : (like : Option ℕ) (tokens : List SourceToken) (o : Out) → SameOutLimits o (verb_begun like tokens o).0
 begun_same None tokens o = new_verb_same (add_fault o.tables.verbs) o
 begun_same (Some at) tokens o = (refl, refl)
 
-opened_same : (head : VerbHead) (tokens : List Spelled) (o : Out) → SameOutLimits o (verb_opened head tokens o).0
+opened_same : (head : VerbHead) (tokens : List SourceToken) (o : Out) → SameOutLimits o (verb_opened head tokens o).0
 opened_same head tokens o =
     let b = verb_begun head.like tokens o in
     same_then o b.0 (words_given b.1.words head tokens b.0) (begun_same head.like tokens o) (words_given_keeps b.1.words head tokens b.0)
 
-header_opened_same : (found : Option Finding) (head : VerbHead) (w : Work) → SameLimits w (header_opened found head w)
+header_opened_same : (found : Option Finding) (head : VerbHead) (w : Compilation) → SameLimits w (header_opened found head w)
 header_opened_same None head w = opened_same head w.unit.tokens w.output
 header_opened_same (Some f) head w = (refl, refl)
 
-pub verb_header_same : (files : FileNames) (first : Place) (w : Work) → SameLimits w (verb_header files first w)
+pub verb_header_same : (files : FileNames) (first : Place) (w : Compilation) → SameLimits w (verb_header files first w)
 verb_header_same files first w =
     let head = verb_head w.unit.tokens in header_opened_same (head_finding head w.unit.tokens w.output) head w
 
@@ -93,7 +93,7 @@ verb_extended_keeps (Some number) place word o =
     let used = word_used word (word_use.Verb number) o in
     same_then o used (lines_extended number place used) (word_used_keeps word (word_use.Verb number) o) (lines_extended_keeps number place used)
 
-pub extend_header_same : (files : FileNames) (first : Place) (w : Work) → SameLimits w (extend_header files first w)
+pub extend_header_same : (files : FileNames) (first : Place) (w : Compilation) → SameLimits w (extend_header files first w)
 extend_header_same files first w =
     let at = name_order w.unit.tokens in
     verb_extended_keeps (verb_named w.unit.tokens at w.output) (place_named (bytes_at w.unit.tokens (at + 1))) (word_at w.unit.tokens at) w.output
@@ -116,19 +116,19 @@ lone_same (Some n) attribute name o = (refl, refl)
 lone_same None (Some number) name o = (refl, refl)
 lone_same None None name o = parsing_same name o
 
-name_token_same : (n : Named) (tokens : List Spelled) (at : ℕ) (o : Out) → SameOutLimits o (name_token n tokens at o).0
+name_token_same : (n : Named) (tokens : List SourceToken) (at : ℕ) (o : Out) → SameOutLimits o (name_token n tokens at o).0
 name_token_same named.Sign tokens at o = (refl, refl)
 name_token_same named.Filter tokens at o = parsing_same (name_at tokens at) o
 name_token_same named.Scope tokens at o = parsing_same (name_at tokens at) o
 name_token_same named.Alone tokens at o =
     lone_same (noun_named (bytes_at tokens at)) (attribute_in (found_in (bytes_at tokens at) o.names)) (name_at tokens at) o
 
-line_token_same : (k : Option TokenKind) (tokens : List Spelled) (at : ℕ) (o : Out) → SameOutLimits o (line_token_by k tokens at o).0
+line_token_same : (k : Option TokenKind) (tokens : List SourceToken) (at : ℕ) (o : Out) → SameOutLimits o (line_token_by k tokens at o).0
 line_token_same (Some (kind.Word word)) tokens at o = with_word_keeps word.text word_use.Preposition word.is_plural o
 line_token_same (Some kind.Name) tokens at o = name_token_same (named_at tokens at) tokens at o
 line_token_same _ tokens at o = (refl, refl)
 
-line_tokens_same : (end : ℕ) (tokens : List Spelled) (o : Out) → SameOutLimits o (line_tokens end tokens o).0
+line_tokens_same : (end : ℕ) (tokens : List SourceToken) (o : Out) → SameOutLimits o (line_tokens end tokens o).0
 line_tokens_same zero tokens o = (refl, refl)
 line_tokens_same (suc at) tokens o =
     let line = line_tokens at tokens o in
@@ -149,7 +149,7 @@ kept_same (Some number) place line o =
     of_both (SameOutLimits o) (has_verb number o) (one_line_by fault number place line o) o
     (λ _. one_line_same fault number place line o) (λ _. (refl, refl))
 
-line_added_same : (e : Extending) (tokens : List Spelled) (arrow : ℕ) (o : Out) → SameOutLimits o (line_added e tokens arrow o)
+line_added_same : (e : Extending) (tokens : List SourceToken) (arrow : ℕ) (o : Out) → SameOutLimits o (line_added e tokens arrow o)
 line_added_same e tokens arrow o =
     let line = line_tokens arrow tokens o in
     let action = action_by (name_at tokens (next_place arrow)) line.0 in
@@ -158,16 +158,16 @@ line_added_same e tokens arrow o =
     (same_then line.0 action.0 (line_added e tokens arrow o) (action_named_same (name_at tokens (next_place arrow)) line.0)
     (kept_same e.verb e.place whole action.0))
 
-line_laid_same : (found : Option Finding) (arrow : ℕ) (w : Work) → SameLimits w (line_laid found arrow w)
+line_laid_same : (found : Option Finding) (arrow : ℕ) (w : Compilation) → SameLimits w (line_laid found arrow w)
 line_laid_same None arrow w = line_added_same w.extending w.unit.tokens arrow w.output
 line_laid_same (Some f) arrow w = (refl, refl)
 
-pub line_same : (files : FileNames) (place : Place) (w : Work) → SameLimits w (line_ended files place w)
+pub line_same : (files : FileNames) (place : Place) (w : Compilation) → SameLimits w (line_ended files place w)
 line_same files place w =
     let arrow = arrow_in w.unit.tokens in line_laid_same (tokens_finding arrow w.unit.tokens w.output.names) arrow w
 
 -- Fake actions
 
-pub fake_same : (files : FileNames) (first : Place) (names : List Name) (w : Work) → SameLimits w (fake_action files first names w)
+pub fake_same : (files : FileNames) (first : Place) (names : List Name) (w : Compilation) → SameLimits w (fake_action files first names w)
 fake_same files first [] w = (refl, refl)
 fake_same files first (name ∷ names) w = faked_same name.bytes name.place w.output

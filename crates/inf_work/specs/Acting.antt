@@ -8,7 +8,7 @@ use Rattle.inf_unit.specs.Units.{acted as unit_acted}
 use Rattle.inf_statements.specs.declared.constructs.Case.TheVariants as case
 use Rattle.inf_statements.specs.declared.constructs.Kind.TheVariants as kind
 use Rattle.inf_statements.specs.declared.constructs.Over.TheVariants as over
-use Rattle.inf_work.specs.Actions.{Work, body_ended, close, header_end, is_deep, nested, sized}
+use Rattle.inf_work.specs.Actions.{Compilation, body_ended, close, header_end, is_deep, nested, sized}
 use Rattle.inf_work.specs.Directives.{directive_end}
 use Rattle.inf_work.specs.Arrays.{entry_ended, header_ended}
 use Rattle.inf_work.specs.Bodies.{attribute_read, class_read, property_read}
@@ -18,7 +18,7 @@ use Rattle.inf_work.specs.Verbs.{line_ended}
 use Rattle.inf_work.specs.declared.parts.Part.TheVariants as part
 
 -- what an action does before a token at a place
-abbrev pub act : FileNames → Place → Action → Work → Work
+abbrev pub act : FileNames → Place → Action → Compilation → Compilation
 act files place action.EndLocals w = header_end files place w
 act files place action.EndDirective w = directive_end files place w
 act files place action.EndHeader w = header_ended files place w
@@ -59,10 +59,10 @@ act files place action.OuterSure w = sized files (record w { unit = unit_acted a
 act files place action.OuterWord w = sized files (record w { unit = unit_acted action.OuterWord w.unit })
 act files place a w = record w { unit = unit_acted a w.unit }
 
-abbrev pub acted : FileNames → Place → List Action → Work → Work
+abbrev pub acted : FileNames → Place → List Action → Compilation → Compilation
 acted files place [] w = w
 acted files place (a ∷ actions) w = acted files place actions (act files place a w)
 
 -- what those on the way to a token do
-abbrev pub all_acted : FileNames → Place → List Action → Work → Work
+abbrev pub all_acted : FileNames → Place → List Action → Compilation → Compilation
 all_acted files place actions w = acted files place actions (record w { opening = None })

@@ -36,16 +36,16 @@ use Rattle.inf_names.specs.declared.meanings.Meaning.{Meaning}
 use Rattle.inf_names.specs.declared.meanings.Meaning.TheVariants as meaning
 use Rattle.inf_report.specs.Messages.{BranchTooFar, ConstantOutOfRange, DeepNesting, Exceeded, LabelMissing, UnusedLocal}
 use Rattle.inf_report.specs.OwnWords.{Words}
-use Rattle.inf_symbol.specs.Spellings.{Name}
-use Rattle.inf_symbol.specs.Locals.{Local, Headed, with_locals, no_locals}
+use Rattle.inf_sinks.specs.Spellings.{Name}
+use Rattle.inf_sinks.specs.Locals.{Local, Headed, with_locals, no_locals}
 use Rattle.inf_syntax.specs.declared.actions.Action.{Action}
 use Rattle.inf_syntax.specs.declared.actions.Action.TheVariants as action
-use Rattle.inf_unit.specs.Directives.{Asked, Nothing, Include, End, directive_of, weight_of}
+use Rattle.inf_unit.specs.Directives.{Request, Nothing, Include, End, directive_of, weight_of}
 use Rattle.inf_unit.specs.declared.directives.Directive.{Directive}
 use Rattle.inf_unit.specs.declared.directives.Directive.TheVariants as directive
-use Rattle.inf_unit.specs.Messages.{FileNames, Blame, Reported, location, nothing_reported, with_error, with_fatal, with_fault, with_full, with_warning, with_words}
+use Rattle.inf_unit.specs.Messages.{FileNames, Diagnostic, Reported, location, nothing_reported, with_error, with_fatal, with_fault, with_full, with_warning, with_words}
 use Rattle.inf_unit.specs.Names.{no_symbols}
-use Rattle.inf_unit.specs.Tokens.{Spelled, is_mark, number_of}
+use Rattle.inf_unit.specs.Tokens.{SourceToken, is_mark, number_of}
 use Rattle.inf_unit.specs.Units.{Unit, acted as unit_acted, bytes_at, first_place, kind_at, long_at, name_order, names_in, no_unit, outer_tokens, over, quoted_in, short_name_of, taken as unit_taken}
 use Rattle.inf_output.specs.Strings.{no_strings}
 use Rattle.inf_tables.specs.Tables.{no_tables}
@@ -91,7 +91,7 @@ no_output settings = record {
 -- routines that are to be replaced, whether those of the file at hand may be, and those of the files that wait, the inner files first; whether the
 -- routine at hand is passed over for that; the array whose entries are read, and where they go if its header had an error; whether the
 -- values that are read are those of the property `name`, and whether the open routine is a value of a property.
-pub record Work : Type 0 where
+pub record Compilation : Type 0 where
   pub set : CharSet
   pub longest : ℕ
   pub most_tokens : ℕ
@@ -104,7 +104,7 @@ pub record Work : Type 0 where
   pub locals : List Local
   pub output : Out
   pub report : Reported
-  pub asked : Asked
+  pub asked : Request
   pub replaced : Table Place
   pub is_system : Bool
   pub waiting : List Bool
@@ -116,7 +116,7 @@ pub record Work : Type 0 where
   pub extending : Extending
 
 -- before the first unit of sources in a character set
-abbrev pub no_work : CharSet → Settings → Work
+abbrev pub no_work : CharSet → Settings → Compilation
 no_work set settings = record {
   set = set;
   longest = setting_number setting.ExpressionNodes settings;
@@ -145,15 +145,15 @@ no_work set settings = record {
 -- Units
 
 -- A piece begins. No locals of a routine before it are known in it.
-abbrev pub piece_begun : Work → Work
+abbrev pub piece_begun : Compilation → Compilation
 piece_begun w = record w { unit = no_unit; constructs = []; closed = 0; opening = None; locals = [] }
 
 -- the labels, branches and jumps of the open routine are counted
-abbrev pub labels_counted : Work → Work
+abbrev pub labels_counted : Compilation → Compilation
 labels_counted w = record w { most_labels = max w.most_labels (labels_of w.output.code) }
 
 -- The end of a unit, which begins at a place: its error is told, if it has one, and then the first limit that was passed.
-abbrev pub unit_ended : FileNames → Place → Bool → Option Blame → Work → Work
+abbrev pub unit_ended : FileNames → Place → Bool → Option Diagnostic → Compilation → Compilation
 unit_ended files first has_last blame w = record w {
   unit = over has_last w.unit;
   most_labels = max w.most_labels (labels_of w.output.code);
@@ -161,31 +161,31 @@ unit_ended files first has_last blame w = record w {
 }
 
 -- Something is laid for a unit that begins at a place.
-abbrev pub laid : Place → Code → Work → Work
+abbrev pub laid : Place → Code → Compilation → Compilation
 laid first code w = record w { output = code (record w.output { first = first }) }
 
 -- Code begins with the first unit that is finished.
-abbrev pub begun_at : FileNames → Place → Work → Work
+abbrev pub begun_at : FileNames → Place → Compilation → Compilation
 begun_at files first w =
     let o = begun w.output in record w { output = o; most_labels = max w.most_labels (labels_of o.code); report = with_full files first (full o) w.report }
 
 -- a message at a place ends the compilation, if there is a place; and else the tokens of the expression are counted
-abbrev pub stopped : FileNames → Option Place → Work → Work
+abbrev pub stopped : FileNames → Option Place → Compilation → Compilation
 stopped files None w = record w { most_tokens = max w.most_tokens (outer_tokens w.unit) }
 stopped files (Some place) w = record w { report = with_fatal (location files place) (Exceeded setting.ExpressionNodes) w.report }
 
 -- An expression of more tokens than it may have ends the compilation, at the first token too many.
-abbrev pub sized : FileNames → Work → Work
+abbrev pub sized : FileNames → Compilation → Compilation
 sized files w = stopped files (long_at w.longest w.unit) w
 
 -- Brackets, braces and compound statements that stand in one another are at most so many.
 abbrev pub most_nested : ℕ
 most_nested = 64
 
-abbrev pub is_deep : Work → ℕ → Bool
+abbrev pub is_deep : Compilation → ℕ → Bool
 is_deep w more = nat_lt most_nested (w.unit.depth + depth w.constructs + more)
 
-abbrev pub nested : FileNames → Place → Bool → Work → Work
+abbrev pub nested : FileNames → Place → Bool → Compilation → Compilation
 nested files place is_deep w = if is_deep then record w { report = with_fatal (location files place) DeepNesting w.report } else w
 
 abbrev pub opens : TokenKind → Bool
@@ -194,10 +194,10 @@ opens (kind.Mark mark.OpenBrace) = true
 opens _ = false
 
 -- a token is taken
-abbrev pub token_checked : FileNames → Spelled → Work → Work
+abbrev pub token_checked : FileNames → SourceToken → Compilation → Compilation
 token_checked files t w = nested files t.place (opens t.kind && is_deep w 0) w
 
-abbrev pub took : FileNames → Spelled → Work → Work
+abbrev pub took : FileNames → SourceToken → Compilation → Compilation
 took files t w = token_checked files t (sized files (record w { unit = unit_taken t w.unit }))
 
 -- The body of an object or a class ends, if one is open.
@@ -208,23 +208,23 @@ world_ended_by (Some f) world = world
 abbrev pub world_ended : Code
 world_ended o = record o { tables = record o.tables { world = world_ended_by (no_body_fault o.tables.world) o.tables.world } }
 
-abbrev pub body_ended : Work → Work
+abbrev pub body_ended : Compilation → Compilation
 body_ended w = record w { output = world_ended w.output }
 
 -- the routine that is open is given up
-abbrev pub given_up : Work → Work
+abbrev pub given_up : Compilation → Compilation
 given_up w = record w { output = record w.output { code = with_none_open w.output.code } }
 
 -- The word of a compound statement opens its level with a bad token behind it, too, where a case of that name might have stood.
-abbrev pub opening_checked_at : Option Place → FileNames → Work → Work
+abbrev pub opening_checked_at : Option Place → FileNames → Compilation → Compilation
 opening_checked_at None files w = w
 opening_checked_at (Some place) files w = nested files place (is_deep w 1) w
 
-abbrev pub opening_checked : FileNames → Work → Work
+abbrev pub opening_checked : FileNames → Compilation → Compilation
 opening_checked files w = opening_checked_at w.opening files w
 
 -- a bad token cuts the unit at hand, which surely was an expression, and the body and the routine in which it stands
-abbrev pub cut : FileNames → Work → Work
+abbrev pub cut : FileNames → Compilation → Compilation
 cut files w = opening_checked files (sized files (given_up (body_ended (record w { unit = record w.unit { is_sure = true } }))))
 
 -- whether a token is the name of a class
@@ -242,48 +242,48 @@ abbrev pub is_class_name : Option Name → Table Place → Bool
 is_class_name None names = false
 is_class_name (Some n) names = names_class (found_in n.bytes names)
 
-abbrev pub is_class : Spelled → Work → Bool
+abbrev pub is_class : SourceToken → Compilation → Bool
 is_class t w = is_class_name (short_name_of t) w.output.names
 
 -- Expressions of the unit at hand
 
-abbrev pub operands_of : Work → List Operand
+abbrev pub operands_of : Compilation → List Operand
 operands_of w = all_looked w.locals w.output w.unit.tokens w.unit.gathering.leaves
 
 -- the least of what is wrong with them, in a unit whose first token has an order
-abbrev pub finding_at : ℕ → Wanted → Work → Option Finding
+abbrev pub finding_at : ℕ → Wanted → Compilation → Option Finding
 finding_at first wanted w = judged wanted first (operands_of w) w.unit.gathering.symbols
 
 -- They, and where it stores, name its locals.
-abbrev pub named : Work → Work
+abbrev pub named : Compilation → Compilation
 named w = record w { locals = stores_named w.unit.tokens w.unit.items (leaves_named w.unit.tokens w.unit.gathering.leaves w.locals) }
 
 -- their trees, when their names were used
-abbrev pub settled_of : Work → Settled
+abbrev pub settled_of : Compilation → Settled
 settled_of w = settled w.set w.locals w.unit.tokens w.unit.gathering.leaves (record { out = w.output; operands = [] })
 
-abbrev pub trees_at : ℕ → Wanted → List Operand → Work → List Rooted
+abbrev pub trees_at : ℕ → Wanted → List Operand → Compilation → List Rooted
 trees_at first wanted operands w = trees_of wanted first operands w.unit.gathering.symbols
 
 -- in a routine that is passed over nothing has an effect
-abbrev pub passed : Bool → Work → Work
+abbrev pub passed : Bool → Compilation → Compilation
 passed has_last w = record w { unit = over has_last w.unit }
 
 -- A routine
 
 -- A header, which begins at a place, opens a routine with its locals. With an error it still declares its name, where that
 -- is free, and its locals. Z-Machine Standard 1.1, section 5.2.
-abbrev pub opened_with : FileNames → Place → Headed → Bool → Work → Work
+abbrev pub opened_with : FileNames → Place → Headed → Bool → Compilation → Compilation
 opened_with files first h is_lost w =
     unit_ended files first true None (record w { output = opened (length h.locals) is_lost w.output; locals = h.locals; constructs = []; labels = [] })
 
-abbrev pub routine_declared : Name → Work → Work
+abbrev pub routine_declared : Name → Compilation → Compilation
 routine_declared name w = record w { output = declared name.bytes name.place (meaning.Routine (place_behind w.output.code.finished)) w.output }
 
-abbrev pub told : FileNames → Place → Option Blame → Work → Work
+abbrev pub told : FileNames → Place → Option Diagnostic → Compilation → Compilation
 told files first blame w = record w { report = with_fault files first blame w.report }
 
-abbrev pub header_with : FileNames → Place → Name → Headed → Work → Work
+abbrev pub header_with : FileNames → Place → Name → Headed → Compilation → Compilation
 header_with files first name h w =
     let blame = header_fault files first (name_fault files name (declare_fault name.bytes w.output.names)) h in
     opened_with files first h (is_some blame) (told files first blame (routine_declared name w))
@@ -294,17 +294,17 @@ is_kept found.Used = true
 is_kept _ = false
 
 -- In a file that is marked a routine gives nothing which is to be replaced: it is passed over.
-abbrev pub is_replaced : Name → Work → Bool
+abbrev pub is_replaced : Name → Compilation → Bool
 is_replaced n w = w.is_system && is_kept (found_in n.bytes w.replaced)
 
 -- behind its bracket a header has the name of its routine and the locals
-abbrev pub header_of : FileNames → Place → List Name → Work → Work
+abbrev pub header_of : FileNames → Place → List Name → Compilation → Compilation
 header_of files first [] w = passed true w
 header_of files first (name ∷ locals) w =
     if is_replaced name w then passed true (record w { is_passed_over = true; is_embedded = false; constructs = [] })
     else header_with files first name (with_locals locals no_locals) (record w { is_passed_over = false; is_embedded = false })
 
-abbrev pub header_end : FileNames → Place → Work → Work
+abbrev pub header_end : FileNames → Place → Compilation → Compilation
 header_end files place w = header_of files (first_place w.unit.tokens place) (names_in w.unit.tokens) w
 
 -- a warning, at a place, for each local that no statement named
@@ -334,7 +334,7 @@ abbrev pub kind_ended : Bool → RoutineKind
 kind_ended is_embedded = if is_embedded then routine_kind.Embedded else routine_kind.Plain
 
 -- The end of a routine of a kind, at a place: what is wrong with it is told, and its unused locals, which are not known behind it.
-abbrev pub close_as : RoutineKind → FileNames → Place → Work → Work
+abbrev pub close_as : RoutineKind → FileNames → Place → Compilation → Compilation
 close_as how files place w =
     let fault = fault_closed how w.output.code in
     unit_ended files place true None (record w {
@@ -345,17 +345,17 @@ close_as how files place w =
       is_embedded = false;
     })
 
-abbrev pub code_closed : FileNames → Place → Work → Work
+abbrev pub code_closed : FileNames → Place → Compilation → Compilation
 code_closed files place w = close_as (kind_ended w.is_embedded) files place w
 
 -- Before that its own cases end, if it has such. Of one that is passed over nothing ends.
-abbrev pub cases_ended : Work → Work
+abbrev pub cases_ended : Compilation → Compilation
 cases_ended w = let laid = ended w.constructs w.output in record w { constructs = laid.0; output = laid.1 }
 
-abbrev pub close_open : FileNames → Place → Work → Work
+abbrev pub close_open : FileNames → Place → Compilation → Compilation
 close_open files place w = code_closed files place (cases_ended w)
 
-abbrev pub close : FileNames → Place → Work → Work
+abbrev pub close : FileNames → Place → Compilation → Compilation
 close files place w = if w.is_passed_over then passed true w else close_open files place w
 
 -- Directives, which begin at a place
@@ -376,17 +376,17 @@ declared_meaning (found.System m) = None
 declared_meaning found.Used = None
 declared_meaning found.Unknown = None
 
-abbrev pub named_leaf : List Spelled → List UnitLeaf → List ℕ
+abbrev pub named_leaf : List SourceToken → List UnitLeaf → List ℕ
 named_leaf tokens ((leaf.Name at) ∷ leaves) = bytes_at tokens at
 named_leaf tokens _ = []
 
 -- a text is the next string, and a word of the dictionary stands for itself
-abbrev pub leaf_meaning : List UnitLeaf → Work → Option Meaning
+abbrev pub leaf_meaning : List UnitLeaf → Compilation → Option Meaning
 leaf_meaning ((leaf.Text at) ∷ leaves) w = Some (meaning.Text (length w.output.strings.bytes))
 leaf_meaning ((leaf.Word word) ∷ leaves) w = Some (meaning.Word word.text)
 leaf_meaning leaves w = declared_meaning (found_in (named_leaf w.unit.tokens leaves) w.output.names)
 
-abbrev pub constant_of : List Tree → Work → Option Meaning
+abbrev pub constant_of : List Tree → Compilation → Option Meaning
 constant_of [] w = Some (meaning.Number 0)
 constant_of ((Leaf (operand.Known number)) ∷ trees) w = Some (meaning.Number number)
 constant_of ((Leaf (operand.Later target)) ∷ trees) w = leaf_meaning w.unit.gathering.leaves w
@@ -402,35 +402,35 @@ constant_meaning (Some m) None = m
 constant_meaning _ found = meaning.Number 0
 
 -- the name's own error, of which the number is that of a name that stands already, at the order of its token
-abbrev pub name_finding : ℕ → Option Blame → Option Finding
+abbrev pub name_finding : ℕ → Option Diagnostic → Option Finding
 name_finding order None = None
 name_finding order (Some blame) = Some (record { order = order; number = 8 })
 
-abbrev pub constant_blame : List Spelled → Option Blame → Option Finding → Option Blame
+abbrev pub constant_blame : List SourceToken → Option Diagnostic → Option Finding → Option Diagnostic
 constant_blame tokens of_name None = None
 constant_blame tokens of_name (Some f) = if f.number == 8 then of_name else Some (blame_of tokens f)
 
 -- Without an error its text or word is added.
-abbrev pub constant_added : Option Finding → Work → Work
+abbrev pub constant_added : Option Finding → Compilation → Compilation
 constant_added None w = record w { output = leaf_added w.set w.unit.tokens w.unit.gathering.leaves w.output }
 constant_added (Some f) w = w
 
 -- the end of its directive, where the name was refused or not
-abbrev pub constant_ended : FileNames → Place → Name → Option (DeclareFault Place) → Option Finding → Work → Work
+abbrev pub constant_ended : FileNames → Place → Name → Option (DeclareFault Place) → Option Finding → Compilation → Compilation
 constant_ended files first name refused finding w =
     let of_name = name_fault files name refused in
     let least = least_of_both (name_finding (name_order w.unit.tokens) of_name) finding in
     unit_ended files first true (constant_blame w.unit.tokens of_name least) (constant_added least w)
 
-abbrev pub constant_declared : FileNames → Place → Name → Option Meaning → Option Finding → Work → Work
+abbrev pub constant_declared : FileNames → Place → Name → Option Meaning → Option Finding → Compilation → Compilation
 constant_declared files first name m finding w =
     constant_ended files first name (declare_fault name.bytes w.output.names) finding
     (record w { output = declared name.bytes name.place (constant_meaning m finding) w.output })
 
-abbrev pub constant_with : FileNames → Place → Name → Option Meaning → Option Finding → Work → Work
+abbrev pub constant_with : FileNames → Place → Name → Option Meaning → Option Finding → Compilation → Compilation
 constant_with files first name m found w = constant_declared files first name m (constant_finding m found) w
 
-abbrev pub constant : FileNames → Place → List Name → Work → Work
+abbrev pub constant : FileNames → Place → List Name → Compilation → Compilation
 constant files first [] w = passed true w
 constant files first (name ∷ names) w =
     constant_with files first name (constant_of (map tree_in (trees_at 0 wanted.Constant (operands_of w) w)) w) (finding_at 0 wanted.Constant w) w
@@ -439,7 +439,7 @@ constant files first (name ∷ names) w =
 abbrev pub used_name : Name → Table Place → Table Place
 used_name n names = if is_some (refer_fault n.bytes names) then names else with_used n.bytes n.place names
 
-abbrev pub replace : FileNames → Place → List Name → Work → Work
+abbrev pub replace : FileNames → Place → List Name → Compilation → Compilation
 replace files first [] w = passed true w
 replace files first (name ∷ names) w =
     unit_ended files first true None (record w { output = referred name.bytes name.place w.output; replaced = used_name name w.replaced })
@@ -449,13 +449,13 @@ abbrev pub stub_locals_by : Option TokenKind → ℕ
 stub_locals_by None = 0
 stub_locals_by (Some k) = unwrap_or (number_of k) 0
 
-abbrev pub stub_locals : List Spelled → ℕ
+abbrev pub stub_locals : List SourceToken → ℕ
 stub_locals tokens = stub_locals_by (kind_at tokens (length tokens - 1))
 
 abbrev pub stub_code : ℕ → Code
 stub_code locals o = closed routine_kind.Embedded (opened locals false o)
 
-abbrev pub stubbed : FileNames → Place → Work → Work
+abbrev pub stubbed : FileNames → Place → Compilation → Compilation
 stubbed files first w =
     let locals = stub_locals w.unit.tokens in
     if nat_lt 4 locals then unit_ended files first true (Some (record { place = first; message = ConstantOutOfRange })) w
@@ -473,23 +473,23 @@ abbrev pub is_first_declared : List Name → Table Place → Bool
 is_first_declared [] names = false
 is_first_declared (name ∷ others) names = is_declared (found_in name.bytes names)
 
-abbrev pub new_stub : FileNames → Place → List Name → Work → Work
+abbrev pub new_stub : FileNames → Place → List Name → Compilation → Compilation
 new_stub files first [] w = passed true w
 new_stub files first (name ∷ names) w = stubbed files first (routine_declared name w)
 
-abbrev pub stub : FileNames → Place → List Name → Work → Work
+abbrev pub stub : FileNames → Place → List Name → Compilation → Compilation
 stub files first names w = if is_first_declared names w.output.names then unit_ended files first true None w else new_stub files first names w
 
 -- Files
 
 -- a file is entered, which is not marked
-abbrev pub entered : Work → Work
+abbrev pub entered : Compilation → Compilation
 entered w = record w { is_system = false; waiting = w.is_system ∷ w.waiting }
 
 -- it is left, and the file that waits is as it was
-abbrev pub left_to : List Bool → Work → Work
+abbrev pub left_to : List Bool → Compilation → Compilation
 left_to [] w = w
 left_to (is_system ∷ waiting) w = record w { is_system = is_system; waiting = waiting }
 
-abbrev pub left : Work → Work
+abbrev pub left : Compilation → Compilation
 left w = left_to w.waiting w

@@ -17,7 +17,7 @@ use Rattle.inf_gathering.specs.declared.gathering.Leaf.{Leaf}
 use Rattle.inf_gathering.specs.declared.gathering.Leaf.TheVariants as leaf
 use Rattle.inf_names.specs.declared.meanings.Meaning.TheVariants as meaning
 use Rattle.inf_output.specs.Output.{Code, declared, passed_table}
-use Rattle.inf_report.specs.declared.messages.Countable.TheVariants as countable
+use Rattle.inf_report.specs.declared.messages.FixedLimit.TheVariants as countable
 use Rattle.inf_scanner.specs.declared.tokens.Mark.TheVariants as mark
 use Rattle.inf_scanner.specs.declared.tokens.Place.{Place}
 use Rattle.inf_scanner.specs.declared.tokens.TokenKind.{TokenKind}
@@ -25,11 +25,11 @@ use Rattle.inf_scanner.specs.declared.tokens.TokenKind.TheVariants as kind
 use Rattle.inf_settings.specs.declared.setting.Setting.TheVariants as setting
 use Rattle.inf_statements.specs.Printing.{text_at}
 use Rattle.inf_statements.specs.Statements.{tree_in}
-use Rattle.inf_symbol.specs.Spellings.{Name}
+use Rattle.inf_sinks.specs.Spellings.{Name}
 use Rattle.inf_unit.specs.Messages.{FileNames}
-use Rattle.inf_unit.specs.Tokens.{Spelled}
+use Rattle.inf_unit.specs.Tokens.{SourceToken}
 use Rattle.inf_unit.specs.Units.{bytes_at, first_place, kind_at, name_order, names_in}
-use Rattle.inf_work.specs.Actions.{Work, finding_at, operands_of, passed, settled_of, trees_at, unit_ended}
+use Rattle.inf_work.specs.Actions.{Compilation, finding_at, operands_of, passed, settled_of, trees_at, unit_ended}
 use Rattle.inf_work.specs.Declarations.{declared_ended, plainly_known, value_in, value_of}
 use Rattle.inf_work.specs.Findings.{blame_of}
 use Rattle.inf_work.specs.Objects.{class_header, object_header}
@@ -50,7 +50,7 @@ array_kind (Some (kind.Mark m)) bytes = array_kind_of.Words
 array_kind (Some k) bytes = kind_named bytes
 array_kind None bytes = array_kind_of.Words
 
-abbrev pub kind_in : List Spelled → ArrayKind
+abbrev pub kind_in : List SourceToken → ArrayKind
 kind_in tokens = let at = name_order tokens + 1 in array_kind (kind_at tokens at) (bytes_at tokens at)
 
 abbrev pub with_arrays : AllArrays → Code
@@ -76,22 +76,22 @@ apart_by (Some f) k arrays = arrays
 abbrev pub apart : ArrayKind → AllArrays
 apart k = apart_by (open_fault k (no_arrays unlimited)) k (no_arrays unlimited)
 
-abbrev pub listed : Option Finding → ArrayKind → Name → Work → Work
+abbrev pub listed : Option Finding → ArrayKind → Name → Compilation → Compilation
 listed None k name w = record w { listing = record { is_lost = false; has_entries = false }; output = array_opened k name w.output }
 listed (Some f) k name w = record w { listing = record { is_lost = true; has_entries = false }; lost = apart k }
 
-abbrev pub header_with : FileNames → Place → Name → Declared → Work → Work
+abbrev pub header_with : FileNames → Place → Name → Declared → Compilation → Compilation
 header_with files first name d w =
     declared_ended files first false name countable.Globals d (listed d.finding (kind_in w.unit.tokens) name w)
 
-abbrev pub array_header : FileNames → Place → Name → Work → Work
+abbrev pub array_header : FileNames → Place → Name → Compilation → Compilation
 array_header files first name w = header_with files first name (plainly_known files name (name_order w.unit.tokens) w) w
 
-abbrev pub array_named : FileNames → Place → List Name → Work → Work
+abbrev pub array_named : FileNames → Place → List Name → Compilation → Compilation
 array_named files first [] w = passed false w
 array_named files first (name ∷ names) w = array_header files first name w
 
-abbrev pub class_named : FileNames → Place → List Name → Work → Work
+abbrev pub class_named : FileNames → Place → List Name → Compilation → Compilation
 class_named files first [] w = passed false w
 class_named files first (name ∷ names) w = class_header files first name w
 
@@ -103,24 +103,24 @@ heading_of word =
     if str_eq_ignore_ascii_case word (codes "verb") then heading.Verb else
     if str_eq_ignore_ascii_case word (codes "extend") then heading.Extend else heading.Object
 
-abbrev pub header_as : Heading → FileNames → Place → List Name → Work → Work
+abbrev pub header_as : Heading → FileNames → Place → List Name → Compilation → Compilation
 header_as heading.Array files first names w = array_named files first names w
 header_as heading.Class files first names w = class_named files first names w
 header_as heading.Object files first names w = object_header files first w
 header_as heading.Verb files first names w = verb_header files first w
 header_as heading.Extend files first names w = extend_header files first w
 
-abbrev pub header_of : FileNames → Place → List Name → Work → Work
+abbrev pub header_of : FileNames → Place → List Name → Compilation → Compilation
 header_of files first [] w = passed false w
 header_of files first (word ∷ names) w = header_as (heading_of word.bytes) files first names w
 
-abbrev pub header_ended : FileNames → Place → Work → Work
+abbrev pub header_ended : FileNames → Place → Compilation → Compilation
 header_ended files place w = header_of files (first_place w.unit.tokens place) (names_in w.unit.tokens) w
 
 -- Entries
 
 -- The first entry that is the last one, too, is alone: as a number it asks for so many zeros, and as a text for its characters.
-abbrev pub is_alone : Bool → Work → Bool
+abbrev pub is_alone : Bool → Compilation → Bool
 is_alone is_last w = is_last && not w.listing.has_entries
 
 -- the place of the text that an expression is by itself
@@ -128,7 +128,7 @@ abbrev pub bare_leaf : List Leaf → Option ℕ
 bare_leaf ((leaf.Text at) ∷ []) = Some at
 bare_leaf _ = None
 
-abbrev pub bare_text : Bool → Work → Option ℕ
+abbrev pub bare_text : Bool → Compilation → Option ℕ
 bare_text alone w = if alone && (length w.unit.gathering.symbols == 1) then bare_leaf w.unit.gathering.leaves else None
 
 -- the codes of characters, of which none may be that of a string variable
@@ -157,16 +157,16 @@ refused (Some fault.Memory) = None
 refused None = None
 
 -- the arrays of which the last one is read
-abbrev pub arrays_of : Work → AllArrays
+abbrev pub arrays_of : Compilation → AllArrays
 arrays_of w = if w.listing.is_lost then w.lost else w.output.tables.arrays
 
-abbrev pub added_finding : Adding → Work → Option Finding
+abbrev pub added_finding : Adding → Compilation → Option Finding
 added_finding a w = refused (added_fault a (arrays_of w))
 
-abbrev pub items_finding : Bool → List TextItem → Work → Option Finding
+abbrev pub items_finding : Bool → List TextItem → Compilation → Option Finding
 items_finding has_variables items w = if has_variables then Some (out_of_range 0) else added_finding (Characters (codes_of items)) w
 
-abbrev pub text_finding : Option (List TextItem) → Work → Option Finding
+abbrev pub text_finding : Option (List TextItem) → Compilation → Option Finding
 text_finding None w = Some (out_of_range 0)
 text_finding (Some items) w = items_finding (variables_from items false) items w
 
@@ -176,14 +176,14 @@ adding true v = One v
 adding false v = One v
 
 -- the value of the unit's expression, where its names are only looked up
-abbrev pub looked_value : Work → Value
+abbrev pub looked_value : Compilation → Value
 looked_value w = value_in (map tree_in (trees_at 0 wanted.Constant (operands_of w) w))
 
-abbrev pub own_finding : Option ℕ → Bool → Work → Option Finding
+abbrev pub own_finding : Option ℕ → Bool → Compilation → Option Finding
 own_finding (Some at) alone w = text_finding (text_at w.set w.unit.tokens at) w
 own_finding None alone w = added_finding (adding alone (looked_value w)) w
 
-abbrev pub entry_finding : Bool → Work → Option Finding
+abbrev pub entry_finding : Bool → Compilation → Option Finding
 entry_finding alone w = least_of_both (finding_at 0 wanted.Constant w) (own_finding (bare_text alone w) alone w)
 
 -- more entries of the open array of the story, or of the one that is kept apart
@@ -195,35 +195,35 @@ abbrev pub lost_added : Option ArrayFault → Adding → AllArrays → AllArrays
 lost_added None a arrays = with_entries (values_in a) arrays
 lost_added (Some f) a arrays = arrays
 
-abbrev pub added : Adding → Work → Work
+abbrev pub added : Adding → Compilation → Compilation
 added a w =
     if w.listing.is_lost then record w { lost = lost_added (added_fault a w.lost) a w.lost }
     else record w { output = story_added (added_fault a w.output.tables.arrays) a w.output }
 
-abbrev pub text_added : Option (List TextItem) → Work → Work
+abbrev pub text_added : Option (List TextItem) → Compilation → Compilation
 text_added None w = w
 text_added (Some items) w = added (Characters (codes_of items)) w
 
-abbrev pub value_added : Bool → Work → Work
+abbrev pub value_added : Bool → Compilation → Compilation
 value_added alone w = added (adding alone (value_of w)) (record w { output = (settled_of w).out })
 
-abbrev pub entry_added_by : Option ℕ → Bool → Work → Work
+abbrev pub entry_added_by : Option ℕ → Bool → Compilation → Compilation
 entry_added_by (Some at) alone w = text_added (text_at w.set w.unit.tokens at) w
 entry_added_by None alone w = value_added alone w
 
-abbrev pub entry_added : Bool → Work → Work
+abbrev pub entry_added : Bool → Compilation → Compilation
 entry_added alone w = entry_added_by (bare_text alone w) alone w
 
-abbrev pub entry_with : FileNames → Place → Bool → Option Finding → Work → Work
+abbrev pub entry_with : FileNames → Place → Bool → Option Finding → Compilation → Compilation
 entry_with files first alone None w = unit_ended files first false None (entry_added alone w)
 entry_with files first alone (Some f) w = unit_ended files first false (Some (blame_of w.unit.tokens f)) w
 
 -- an array has an entry, with an error or without
-abbrev pub one_more : Work → Work
+abbrev pub one_more : Compilation → Compilation
 one_more w = record w { listing = record w.listing { has_entries = true } }
 
-abbrev pub entry_judged : FileNames → Place → Bool → Work → Work
+abbrev pub entry_judged : FileNames → Place → Bool → Compilation → Compilation
 entry_judged files first alone w = entry_with files first alone (entry_finding alone w) (one_more w)
 
-abbrev pub entry_ended : FileNames → Place → Bool → Work → Work
+abbrev pub entry_ended : FileNames → Place → Bool → Compilation → Compilation
 entry_ended files place is_last w = entry_judged files (first_place w.unit.tokens place) (is_alone is_last w) w

@@ -11,18 +11,18 @@ use Rattle.inf_output.specs.Output.{Code, declared}
 use Rattle.inf_scanner.specs.declared.tokens.Mark.TheVariants as mark
 use Rattle.inf_scanner.specs.declared.tokens.Place.{Place}
 use Rattle.inf_scanner.specs.declared.tokens.TokenKind.{TokenKind}
-use Rattle.inf_symbol.specs.Spellings.{Name}
+use Rattle.inf_sinks.specs.Spellings.{Name}
 use Rattle.inf_unit.specs.Messages.{FileNames}
-use Rattle.inf_unit.specs.Tokens.{Spelled, is_mark}
+use Rattle.inf_unit.specs.Tokens.{SourceToken, is_mark}
 use Rattle.inf_unit.specs.Units.{first_place, kind_at, name_at, order}
 use Rattle.inf_world.specs.declared.faults.AddFault.{AddFault}
 use Rattle.inf_world.specs.World.{further_value_fault, given_property_fault, individual_fault, set_attribute_fault, with_further_value, with_given_property, with_individual, with_lost_property, with_set_attribute}
-use Rattle.inf_work.specs.Actions.{Work}
+use Rattle.inf_work.specs.Actions.{Compilation}
 use Rattle.inf_work.specs.Declarations.{with_world}
 use Rattle.inf_work.specs.Objects.{class_of, entry_told, found_at, joined_fault, joined_some, noted, refused_finding}
 
 -- the place of the last token
-abbrev pub last_at : List Spelled → ℕ
+abbrev pub last_at : List SourceToken → ℕ
 last_at tokens = length tokens - 1
 
 -- Classes
@@ -31,11 +31,11 @@ abbrev pub class_finding : Option ℕ → Option AddFault → ℕ → Option Fin
 class_finding None fault at = Some (wrong_kind (order at))
 class_finding (Some number) fault at = refused_finding fault (order at)
 
-abbrev pub class_read_by : FileNames → Place → ℕ → Option ℕ → Work → Work
+abbrev pub class_read_by : FileNames → Place → ℕ → Option ℕ → Compilation → Compilation
 class_read_by files first at class w =
     entry_told files first (class_finding class (joined_fault class w.output) at) (record w { output = joined_some class w.output })
 
-abbrev pub class_read : FileNames → Place → Work → Work
+abbrev pub class_read : FileNames → Place → Compilation → Compilation
 class_read files place w =
     let at = last_at w.unit.tokens in class_read_by files (first_place w.unit.tokens place) at (class_of (found_at at w)) w
 
@@ -56,7 +56,7 @@ abbrev pub is_given_by : Option TokenKind → Bool
 is_given_by None = true
 is_given_by (Some k) = not (is_mark mark.BitNot k)
 
-abbrev pub is_given : List Spelled → ℕ → Bool
+abbrev pub is_given : List SourceToken → ℕ → Bool
 is_given tokens at = is_given_by (kind_at tokens (at - 1))
 
 abbrev pub attribute_set_by : Option AddFault → ℕ → Bool → Code
@@ -74,11 +74,11 @@ abbrev pub attribute_finding : Option ℕ → ℕ → Option Finding
 attribute_finding None at = Some (wrong_kind (order at))
 attribute_finding (Some number) at = None
 
-abbrev pub attribute_read_by : FileNames → Place → ℕ → Option ℕ → Work → Work
+abbrev pub attribute_read_by : FileNames → Place → ℕ → Option ℕ → Compilation → Compilation
 attribute_read_by files first at number w =
     entry_told files first (attribute_finding number at) (record w { output = attribute_set_some number (is_given w.unit.tokens at) w.output })
 
-abbrev pub attribute_read : FileNames → Place → Work → Work
+abbrev pub attribute_read : FileNames → Place → Compilation → Compilation
 attribute_read files place w =
     let at = last_at w.unit.tokens in attribute_read_by files (first_place w.unit.tokens place) at (attribute_of (found_at at w)) w
 
@@ -137,65 +137,65 @@ abbrev pub further_added : Value → Code
 further_added v o = further_added_by (further_value_fault v o.tables.world) v o
 
 -- What is wrong with a property, whose name stands at a place, and with its first value. A name that is not declared is that of a new one.
-abbrev pub number_finding : Option ℕ → Option Value → ℕ → Work → Option Finding
+abbrev pub number_finding : Option ℕ → Option Value → ℕ → Compilation → Option Finding
 number_finding None v at w = Some (wrong_kind (order at))
 number_finding (Some number) v at w = refused_finding (given_property_fault number v w.output.tables.world) (order at)
 
-abbrev pub property_finding_by : Found Place → ℕ → Option Value → Work → Option Finding
+abbrev pub property_finding_by : Found Place → ℕ → Option Value → Compilation → Option Finding
 property_finding_by (found.System m) at v w = number_finding (property_in m) v at w
 property_finding_by (found.Declared m first) at v w = number_finding (property_in m) v at w
 property_finding_by found.Used at v w = None
 property_finding_by found.Unknown at v w = None
 
-abbrev pub property_finding : ℕ → Option Value → Work → Option Finding
+abbrev pub property_finding : ℕ → Option Value → Compilation → Option Finding
 property_finding at v w = property_finding_by (found_at at w) at v w
 
-abbrev pub further_finding : Value → Work → Option Finding
+abbrev pub further_finding : Value → Compilation → Option Finding
 further_finding v w = refused_finding (further_value_fault v w.output.tables.world) 0
 
 -- A value goes to the property whose name stands before it, or to the one that was given last.
-abbrev pub place_finding : Option ℕ → Value → Work → Option Finding
+abbrev pub place_finding : Option ℕ → Value → Compilation → Option Finding
 place_finding None v w = further_finding v w
 place_finding (Some at) v w = property_finding at (Some v) w
 
-abbrev pub property_gives_by : Option ℕ → ℕ → Option Value → Work → Work
+abbrev pub property_gives_by : Option ℕ → ℕ → Option Value → Compilation → Compilation
 property_gives_by None at v w = record w { output = individual_given (name_at w.unit.tokens at) v w.output }
 property_gives_by (Some number) at v w = record w { output = property_given number v w.output }
 
-abbrev pub property_gives : ℕ → Option Value → Work → Work
+abbrev pub property_gives : ℕ → Option Value → Compilation → Compilation
 property_gives at v w = property_gives_by (property_of (found_at at w)) at v w
 
-abbrev pub given_with : Option Finding → ℕ → Option Value → Work → Work
+abbrev pub given_with : Option Finding → ℕ → Option Value → Compilation → Compilation
 given_with None at v w = property_gives at v w
 given_with (Some f) at v w = record w { output = property_lost (name_at w.unit.tokens at) w.output }
 
 -- with what was found of the value before
-abbrev pub given_finding : ℕ → Option Value → Option Finding → Work → Option Finding
+abbrev pub given_finding : ℕ → Option Value → Option Finding → Compilation → Option Finding
 given_finding at v of_value w = least_of_both (property_finding at v w) of_value
 
-abbrev pub given : ℕ → Option Value → Option Finding → Work → Work
+abbrev pub given : ℕ → Option Value → Option Finding → Compilation → Compilation
 given at v of_value w = given_with (given_finding at v of_value w) at v (record w { is_name = is_words (property_of (found_at at w)) })
 
-abbrev pub further_placed : Option Finding → Value → Work → Work
+abbrev pub further_placed : Option Finding → Value → Compilation → Compilation
 further_placed None v w = record w { output = further_added v w.output }
 further_placed (Some f) v w = w
 
-abbrev pub further_found : Value → Option Finding → Work → Option Finding
+abbrev pub further_found : Value → Option Finding → Compilation → Option Finding
 further_found v of_value w = least_of_both of_value (further_finding v w)
 
-abbrev pub further : Value → Option Finding → Work → Work
+abbrev pub further : Value → Option Finding → Compilation → Compilation
 further v of_value w = further_placed (further_found v of_value w) v w
 
-abbrev pub placed_finding : Option ℕ → Value → Option Finding → Work → Option Finding
+abbrev pub placed_finding : Option ℕ → Value → Option Finding → Compilation → Option Finding
 placed_finding None v of_value w = further_found v of_value w
 placed_finding (Some at) v of_value w = given_finding at (Some v) of_value w
 
-abbrev pub placed : Option ℕ → Value → Option Finding → Work → Work
+abbrev pub placed : Option ℕ → Value → Option Finding → Compilation → Compilation
 placed None v of_value w = further v of_value w
 placed (Some at) v of_value w = given at (Some v) of_value w
 
 -- a property without values
-abbrev pub property_read : FileNames → Place → Work → Work
+abbrev pub property_read : FileNames → Place → Compilation → Compilation
 property_read files place w =
     let at = last_at w.unit.tokens in
     entry_told files (first_place w.unit.tokens place) (given_finding at None None w) (given at None None w)

@@ -1,21 +1,21 @@
 -- What the directives do that are one unit.
 use Rattle.std.specs.Prelude.{List, [], ◌∷◌, true, None, if◌then◌else◌}
 use Rattle.inf_scanner.specs.declared.tokens.Place.{Place}
-use Rattle.inf_symbol.specs.Spellings.{Name}
+use Rattle.inf_sinks.specs.Spellings.{Name}
 use Rattle.inf_unit.specs.Directives.{Include, End, directive_of, weight_of}
 use Rattle.inf_unit.specs.declared.directives.Directive.{Directive}
 use Rattle.inf_unit.specs.declared.directives.Directive.TheVariants as directive
 use Rattle.inf_unit.specs.Messages.{FileNames, location, with_words}
 use Rattle.inf_unit.specs.Units.{first_place, names_in, quoted_in}
-use Rattle.inf_work.specs.Actions.{Work, begun_at, constant, is_first_declared, passed, replace, stub, unit_ended, words_of}
+use Rattle.inf_work.specs.Actions.{Compilation, begun_at, constant, is_first_declared, passed, replace, stub, unit_ended, words_of}
 use Rattle.inf_work.specs.Declarations.{attribute, global_variable, property}
 use Rattle.inf_work.specs.Verbs.{fake_action}
 
 -- a constant, unless its name is declared
-abbrev pub default : FileNames → Place → List Name → Work → Work
+abbrev pub default : FileNames → Place → List Name → Compilation → Compilation
 default files first names w = if is_first_declared names w.output.names then unit_ended files first true None w else constant files first names w
 
-abbrev pub carried_out : Directive → FileNames → Place → List Name → Work → Work
+abbrev pub carried_out : Directive → FileNames → Place → List Name → Compilation → Compilation
 carried_out directive.Include files first names w = passed true (record w { asked = Include (quoted_in w.unit.tokens) first })
 carried_out directive.Message files first names w =
     passed true (record w { report = with_words (location files first) (weight_of names) (words_of w.set w.unit) w.report })
@@ -31,9 +31,9 @@ carried_out directive.FakeAction files first names w = fake_action files first n
 carried_out directive.SystemFile files first names w = passed true (record w { is_system = true })
 
 -- a directive ends, which begins with the name of its word; code begins with it, unless it has begun
-abbrev pub directive_of_names : FileNames → Place → List Name → Work → Work
+abbrev pub directive_of_names : FileNames → Place → List Name → Compilation → Compilation
 directive_of_names files first [] w = passed true w
 directive_of_names files first (word ∷ names) w = begun_at files first (carried_out (directive_of word.bytes) files first names w)
 
-abbrev pub directive_end : FileNames → Place → Work → Work
+abbrev pub directive_end : FileNames → Place → Compilation → Compilation
 directive_end files place w = directive_of_names files (first_place w.unit.tokens place) (names_in w.unit.tokens) w

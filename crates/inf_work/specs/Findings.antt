@@ -5,11 +5,11 @@ use Rattle.inf_expressions.specs.declared.findings.Finding.{Finding}
 use Rattle.inf_names.specs.declared.symbols.DeclareFault.{DeclareFault}
 use Rattle.inf_names.specs.declared.symbols.DeclareFault.TheVariants as declaring
 use Rattle.inf_report.specs.Messages.{ConstantOutOfRange, Declared, End, LabelTwice, Message, MisplacedDefault, NotConstant, NothingToLeave, SystemName, Told, TooMany, TooManyArguments, UsedBefore, WrongKind, WrongOpcode, WrongVerb}
-use Rattle.inf_report.specs.declared.messages.Countable.TheVariants as countable
-use Rattle.inf_symbol.specs.Spellings.{Name}
-use Rattle.inf_symbol.specs.Locals.{Headed, Repeated}
-use Rattle.inf_unit.specs.Messages.{FileNames, Blame, location}
-use Rattle.inf_unit.specs.Tokens.{Spelled, told}
+use Rattle.inf_report.specs.declared.messages.FixedLimit.TheVariants as countable
+use Rattle.inf_sinks.specs.Spellings.{Name}
+use Rattle.inf_sinks.specs.Locals.{Headed, Repeated}
+use Rattle.inf_unit.specs.Messages.{FileNames, Diagnostic, location}
+use Rattle.inf_unit.specs.Tokens.{SourceToken, told}
 use Rattle.inf_work.specs.Words.{nowhere}
 
 -- Expressions
@@ -27,39 +27,39 @@ message_of number t bytes =
     if number == 22 then WrongVerb t else
     if number == 24 then MisplacedDefault else TooManyArguments
 
-abbrev pub blame_at : ℕ → Option Spelled → Blame
+abbrev pub blame_at : ℕ → Option SourceToken → Diagnostic
 blame_at number None = record { place = nowhere; message = message_of number End [] }
 blame_at number (Some t) = record { place = t.place; message = message_of number (told t) t.bytes }
 
-abbrev pub blame_of : List Spelled → Finding → Blame
+abbrev pub blame_of : List SourceToken → Finding → Diagnostic
 blame_of tokens f = blame_at f.number (slice_get tokens f.order)
 
 -- Names
 
 -- a name that was declared at a place before
-abbrev pub again : FileNames → Name → Place → Blame
+abbrev pub again : FileNames → Name → Place → Diagnostic
 again files n first = record { place = n.place; message = Declared n.bytes (location files first) }
 
 -- What is wrong with declaring a name, by what the names refuse: one that the language has, and the first declaration, stay as they
 -- are. That there are too many names is no error of the unit.
-abbrev pub name_fault : FileNames → Name → Option (DeclareFault Place) → Option Blame
+abbrev pub name_fault : FileNames → Name → Option (DeclareFault Place) → Option Diagnostic
 name_fault files n (Some (declaring.Present None)) = Some (record { place = n.place; message = SystemName n.bytes })
 name_fault files n (Some (declaring.Present (Some first))) = Some (again files n first)
 name_fault files n _ = None
 
 -- Headers
 
-abbrev pub first_fault : Option Blame → Option Blame → Option Blame
+abbrev pub first_fault : Option Diagnostic → Option Diagnostic → Option Diagnostic
 first_fault (Some b) later = Some b
 first_fault None later = later
 
 -- a local that is named again
-abbrev pub local_fault : FileNames → Option Repeated → Option Blame
+abbrev pub local_fault : FileNames → Option Repeated → Option Diagnostic
 local_fault files None = None
 local_fault files (Some r) = Some (again files r.name r.first)
 
 -- The first error of a header by its place: too many locals, which stands at its bracket, its name, a local named again.
-abbrev pub header_fault : FileNames → Place → Option Blame → Headed → Option Blame
+abbrev pub header_fault : FileNames → Place → Option Diagnostic → Headed → Option Diagnostic
 header_fault files unit of_name h =
     if h.are_too_many then Some (record { place = unit; message = TooMany countable.Locals })
     else first_fault of_name (local_fault files h.repeated)

@@ -4,13 +4,13 @@ use Rattle.inf_scanner.specs.declared.tokens.Place.{Place}
 use Rattle.inf_syntax.specs.declared.actions.Action.{Action}
 use Rattle.inf_unit.specs.Messages.{FileNames}
 use Rattle.inf_output.specs.Limits.{SameLimits as SameOutLimits}
-use Rattle.inf_work.specs.Actions.{Work}
+use Rattle.inf_work.specs.Actions.{Compilation}
 use Rattle.inf_work.specs.Acting.{all_acted}
 
 -- as much as before
-abbrev pub SameLimits : Work → Work → Type 0
+abbrev pub SameLimits : Compilation → Compilation → Type 0
 SameLimits before after = SameOutLimits before.output after.output
 
 -- No action changes it.
 abbrev pub LimitsStay : Type 0
-LimitsStay = (files : FileNames) (place : Place) (actions : List Action) (w : Work) → SameLimits w (all_acted files place actions w)
+LimitsStay = (files : FileNames) (place : Place) (actions : List Action) (w : Compilation) → SameLimits w (all_acted files place actions w)

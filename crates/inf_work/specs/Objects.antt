@@ -14,18 +14,18 @@ use Rattle.inf_names.specs.declared.symbols.Found.{Found}
 use Rattle.inf_names.specs.declared.symbols.Found.TheVariants as found
 use Rattle.inf_output.specs.Output.{Code, Out, declared, passed_table}
 use Rattle.inf_report.specs.Messages.{TooMany}
-use Rattle.inf_report.specs.declared.messages.Countable.TheVariants as countable
+use Rattle.inf_report.specs.declared.messages.FixedLimit.TheVariants as countable
 use Rattle.inf_scanner.specs.declared.tokens.Place.{Place}
 use Rattle.inf_scanner.specs.declared.tokens.TokenKind.{TokenKind}
 use Rattle.inf_scanner.specs.declared.tokens.TokenKind.TheVariants as kind
 use Rattle.inf_settings.specs.declared.setting.Setting.{Setting}
 use Rattle.inf_settings.specs.declared.setting.Setting.TheVariants as setting
 use Rattle.inf_statements.specs.Printing.{text_at}
-use Rattle.inf_symbol.specs.Spellings.{Name}
+use Rattle.inf_sinks.specs.Spellings.{Name}
 use Rattle.inf_text.specs.Packing.{packed}
-use Rattle.inf_unit.specs.Messages.{Blame, FileNames}
+use Rattle.inf_unit.specs.Messages.{Diagnostic, FileNames}
 use Rattle.inf_unit.specs.Texts.{fit_characters}
-use Rattle.inf_unit.specs.Tokens.{Spelled}
+use Rattle.inf_unit.specs.Tokens.{SourceToken}
 use Rattle.inf_unit.specs.Units.{bytes_at, name_at, name_order, next_place, order}
 use Rattle.inf_world.specs.declared.faults.AddFault.{AddFault}
 use Rattle.inf_world.specs.declared.faults.AddFault.TheVariants as fault
@@ -36,7 +36,7 @@ use Rattle.inf_world.specs.declared.kinds.Parent.{Parent}
 use Rattle.inf_world.specs.declared.kinds.Parent.TheVariants as parent
 use Rattle.inf_world.specs.Objects.{parent_of}
 use Rattle.inf_world.specs.World.{class_header_fault, class_of_fault, lost_header_fault, object_header_fault, with_class_header, with_class_of, with_lost_header, with_object_header}
-use Rattle.inf_work.specs.Actions.{Work, unit_ended}
+use Rattle.inf_work.specs.Actions.{Compilation, unit_ended}
 use Rattle.inf_work.specs.Declarations.{declared_ended, plainly_known, with_world}
 use Rattle.inf_work.specs.Findings.{blame_of}
 use Rattle.inf_work.specs.declared.declarations.Declared.{Declared}
@@ -65,17 +65,17 @@ refused_finding (Some (fault.Full s)) name = None
 refused_finding (Some fault.Memory) name = None
 
 -- Units, which begin at a place: what was found is told, that there are too many values at the first token.
-abbrev pub entry_blame : List Spelled → Place → Option Finding → Option Blame
+abbrev pub entry_blame : List SourceToken → Place → Option Finding → Option Diagnostic
 entry_blame tokens first None = None
 entry_blame tokens first (Some f) =
     if f.number == 19 then Some (record { place = first; message = TooMany countable.Values }) else Some (blame_of tokens f)
 
-abbrev pub entry_told : FileNames → Place → Option Finding → Work → Work
+abbrev pub entry_told : FileNames → Place → Option Finding → Compilation → Compilation
 entry_told files first f w = unit_ended files first false (entry_blame w.unit.tokens first f) w
 
 -- What names stand for
 
-abbrev pub found_at : ℕ → Work → Found Place
+abbrev pub found_at : ℕ → Compilation → Found Place
 found_at at w = found_in (bytes_at w.unit.tokens at) w.output.names
 
 abbrev pub object_in : Meaning → Option ℕ
@@ -125,15 +125,15 @@ abbrev pub header_step : ℕ → ℕ → Option TokenKind → Header → Header
 header_step word at None h = h
 header_step word at (Some k) h = if nat_lt word at then header_with at k h else h
 
-abbrev pub header_from : ℕ → ℕ → List Spelled → Header → Header
+abbrev pub header_from : ℕ → ℕ → List SourceToken → Header → Header
 header_from word at [] h = h
 header_from word at (t ∷ tokens) h = header_from word (at + 1) tokens (header_step word at (Some t.kind) h)
 
-abbrev pub header_of : ℕ → List Spelled → Header
+abbrev pub header_of : ℕ → List SourceToken → Header
 header_of word tokens = header_from word 0 tokens no_header
 
 -- the place of the word, before which a `#` may stand
-abbrev pub word_place : List Spelled → ℕ
+abbrev pub word_place : List SourceToken → ℕ
 word_place tokens = name_order tokens - 1
 
 -- `Nearby` is an object with one arrow
@@ -143,7 +143,7 @@ is_nearby word = str_eq_ignore_ascii_case word (codes "nearby")
 abbrev pub below : ℕ → Header → Header
 below word h = record h { arrow = Some word; arrows = 1 }
 
-abbrev pub header_in : List Spelled → Header
+abbrev pub header_in : List SourceToken → Header
 header_in tokens =
     let word = word_place tokens in
     if is_nearby (bytes_at tokens word) then below word (header_of word tokens) else header_of word tokens
@@ -188,14 +188,14 @@ class_begun_by (Some f) short name o = noted f o
 abbrev pub class_begun : List ℕ → Name → Code
 class_begun short name o = class_begun_by (class_header_fault short o.tables.world) short name o
 
-abbrev pub class_opened : Option Finding → Name → Work → Work
+abbrev pub class_opened : Option Finding → Name → Compilation → Compilation
 class_opened None name w = record w { output = class_begun (bracketed w.set name.bytes) name w.output }
 class_opened (Some f) name w = record w { output = class_lost name w.output }
 
-abbrev pub class_with : FileNames → Place → Name → Declared → Work → Work
+abbrev pub class_with : FileNames → Place → Name → Declared → Compilation → Compilation
 class_with files first name d w = declared_ended files first false name countable.Globals d (class_opened d.finding name w)
 
-abbrev pub class_header : FileNames → Place → Name → Work → Work
+abbrev pub class_header : FileNames → Place → Name → Compilation → Compilation
 class_header files first name w = class_with files first name (plainly_known files name (name_order w.unit.tokens) w) w
 
 -- Objects
@@ -205,7 +205,7 @@ abbrev pub hung_finding : Result ℕ Misfit → ℕ → Option Finding
 hung_finding (Ok number) at = None
 hung_finding (Err m) at = Some (wrong_kind (order at))
 
-abbrev pub above_finding : Option ℕ → ℕ → Work → Option Finding
+abbrev pub above_finding : Option ℕ → ℕ → Compilation → Option Finding
 above_finding None arrows w = None
 above_finding (Some at) arrows w = hung_finding (parent_of (parent.Arrows arrows) w.output.tables.world.objects) at
 
@@ -215,34 +215,34 @@ parent_fit (Some number) None at = None
 parent_fit (Some number) (Some arrow) at = Some (wrong_kind (order at))
 parent_fit None arrow at = Some (wrong_kind (order at))
 
-abbrev pub named_parent_finding : Option ℕ → Option ℕ → Work → Option Finding
+abbrev pub named_parent_finding : Option ℕ → Option ℕ → Compilation → Option Finding
 named_parent_finding None arrow w = None
 named_parent_finding (Some at) arrow w = parent_fit (object_of (found_at at w)) arrow at
 
-abbrev pub parent_finding : Header → Work → Option Finding
+abbrev pub parent_finding : Header → Compilation → Option Finding
 parent_finding h w = least_of_both (above_finding h.arrow h.arrows w) (named_parent_finding h.parent h.arrow w)
 
-abbrev pub parent_in : Option ℕ → ℕ → Work → Parent
+abbrev pub parent_in : Option ℕ → ℕ → Compilation → Parent
 parent_in None arrows w = parent.Arrows arrows
 parent_in (Some at) arrows w = parent.Object (unwrap_or (object_of (found_at at w)) 0)
 
-abbrev pub own_name : Option ℕ → Work → Option Name
+abbrev pub own_name : Option ℕ → Compilation → Option Name
 own_name None w = None
 own_name (Some at) w = name_at w.unit.tokens at
 
-abbrev pub header_text : Option ℕ → Work → Option (List TextItem)
+abbrev pub header_text : Option ℕ → Compilation → Option (List TextItem)
 header_text None w = None
 header_text (Some at) w = text_at w.set w.unit.tokens at
 
-abbrev pub short_by : Option (List TextItem) → Option Name → Work → List ℕ
+abbrev pub short_by : Option (List TextItem) → Option Name → Compilation → List ℕ
 short_by None name w = bracketed w.set (shown_name name)
 short_by (Some items) name w = packed_name (Some items)
 
-abbrev pub short_name : Header → Option Name → Work → List ℕ
+abbrev pub short_name : Header → Option Name → Compilation → List ℕ
 short_name h name w = short_by (header_text h.text w) name w
 
 -- the class that the word of the header names, if it does
-abbrev pub class_of_word : Work → Option ℕ
+abbrev pub class_of_word : Compilation → Option ℕ
 class_of_word w = class_of (found_at (word_place w.unit.tokens) w)
 
 abbrev pub joined_by : Option AddFault → ℕ → Code
@@ -278,33 +278,33 @@ object_begun_by (Some f) p short class name o = noted f o
 abbrev pub object_begun : Parent → List ℕ → Option ℕ → Option Name → Code
 object_begun p short class name o = object_begun_by (object_header_fault p short o.tables.world) p short class name o
 
-abbrev pub object_new : Header → Option Name → Work → Work
+abbrev pub object_new : Header → Option Name → Compilation → Compilation
 object_new h name w = record w { output = object_begun (parent_in h.parent h.arrows w) (short_name h name w) (class_of_word w) name w.output }
 
-abbrev pub object_opened : Option Finding → Header → Option Name → Work → Work
+abbrev pub object_opened : Option Finding → Header → Option Name → Compilation → Compilation
 object_opened None h name w = object_new h name w
 object_opened (Some f) h name w = record w { output = object_lost name w.output }
 
 -- what is known of it: what is wrong with its name, and with where it is to stand
-abbrev pub named_known : FileNames → Header → ℕ → Name → Work → Declared
+abbrev pub named_known : FileNames → Header → ℕ → Name → Compilation → Declared
 named_known files h at name w =
     let d = plainly_known files name (order at) w in
     record { found = d.found; finding = least_of_both d.finding (parent_finding h w) }
 
-abbrev pub object_known : FileNames → Header → Option Name → Work → Declared
+abbrev pub object_known : FileNames → Header → Option Name → Compilation → Declared
 object_known files h None w = record { found = found.Unknown; finding = parent_finding h w }
 object_known files h (Some name) w = named_known files h (unwrap_or h.own 0) name w
 
-abbrev pub object_ended : FileNames → Place → Option Name → Declared → Work → Work
+abbrev pub object_ended : FileNames → Place → Option Name → Declared → Compilation → Compilation
 object_ended files first None d w = entry_told files first d.finding w
 object_ended files first (Some name) d w = declared_ended files first false name countable.Globals d w
 
-abbrev pub object_with_known : FileNames → Place → Header → Option Name → Declared → Work → Work
+abbrev pub object_with_known : FileNames → Place → Header → Option Name → Declared → Compilation → Compilation
 object_with_known files first h name d w = object_ended files first name d (object_opened d.finding h name w)
 
-abbrev pub object_with : FileNames → Place → Header → Option Name → Work → Work
+abbrev pub object_with : FileNames → Place → Header → Option Name → Compilation → Compilation
 object_with files first h name w = object_with_known files first h name (object_known files h name w) w
 
-abbrev pub object_header : FileNames → Place → Work → Work
+abbrev pub object_header : FileNames → Place → Compilation → Compilation
 object_header files first w =
     let h = header_in w.unit.tokens in object_with files first h (own_name h.own w) w

@@ -20,13 +20,13 @@ use Rattle.inf_scanner.specs.declared.tokens.Mark.TheVariants as mark
 use Rattle.inf_scanner.specs.declared.tokens.Place.{Place}
 use Rattle.inf_scanner.specs.declared.tokens.TokenKind.{TokenKind}
 use Rattle.inf_statements.specs.Printing.{text_at}
-use Rattle.inf_symbol.specs.Locals.{Headed, no_locals, with_locals}
+use Rattle.inf_sinks.specs.Locals.{Headed, no_locals, with_locals}
 use Rattle.inf_text.specs.Packing.{dictionary_bytes}
-use Rattle.inf_unit.specs.Messages.{Blame, FileNames}
+use Rattle.inf_unit.specs.Messages.{Diagnostic, FileNames}
 use Rattle.inf_unit.specs.Texts.{fit_characters}
-use Rattle.inf_unit.specs.Tokens.{Spelled, is_mark}
+use Rattle.inf_unit.specs.Tokens.{SourceToken, is_mark}
 use Rattle.inf_unit.specs.Units.{first_place, names_behind}
-use Rattle.inf_work.specs.Actions.{Work, finding_at, opened_with, settled_of, told}
+use Rattle.inf_work.specs.Actions.{Compilation, finding_at, opened_with, settled_of, told}
 use Rattle.inf_work.specs.Arrays.{looked_value, variables_from}
 use Rattle.inf_work.specs.Bodies.{is_words, last_at, place_finding, placed, placed_finding, property_of}
 use Rattle.inf_work.specs.Declarations.{value_of}
@@ -46,7 +46,7 @@ wrong_if is_wrong = if is_wrong then Some (out_of_range 0) else None
 
 -- Words of the dictionary: a character or a text, as a value of `name`
 
-abbrev pub takes_words : Option ℕ → Work → Bool
+abbrev pub takes_words : Option ℕ → Compilation → Bool
 takes_words None w = w.is_name
 takes_words (Some at) w = is_words (property_of (found_at at w))
 
@@ -54,99 +54,99 @@ abbrev pub only_leaf : List Leaf → Option Leaf
 only_leaf (l ∷ []) = Some l
 only_leaf _ = None
 
-abbrev pub word_leaf : Bool → Work → Option Leaf
+abbrev pub word_leaf : Bool → Compilation → Option Leaf
 word_leaf takes w = if takes && (length w.unit.gathering.symbols == 1) then only_leaf w.unit.gathering.leaves else None
 
 -- the character that the last token is, as a text
-abbrev pub char_by : CharSet → Option Spelled → Option (List TextItem)
+abbrev pub char_by : CharSet → Option SourceToken → Option (List TextItem)
 char_by set None = None
 char_by set (Some t) = fit_characters (text_of set mode.Quote t.bytes)
 
-abbrev pub char_text : Work → Option (List TextItem)
+abbrev pub char_text : Compilation → Option (List TextItem)
 char_text w = char_by w.set (slice_get w.unit.tokens (last_at w.unit.tokens))
 
-abbrev pub leaf_text : Leaf → Work → Option (List TextItem)
+abbrev pub leaf_text : Leaf → Compilation → Option (List TextItem)
 leaf_text (leaf.Char c) w = char_text w
 leaf_text (leaf.Text at) w = text_at w.set w.unit.tokens at
 leaf_text _ w = None
 
-abbrev pub word_text_by : Option Leaf → Work → Option (List TextItem)
+abbrev pub word_text_by : Option Leaf → Compilation → Option (List TextItem)
 word_text_by None w = None
 word_text_by (Some l) w = leaf_text l w
 
-abbrev pub word_text : Bool → Work → Option (List TextItem)
+abbrev pub word_text : Bool → Compilation → Option (List TextItem)
 word_text takes w = word_text_by (word_leaf takes w) w
 
 -- no string variable may be among its characters
 abbrev pub text_value : Bool → List TextItem → Value
 text_value has_variables items = if has_variables then value.Known 0 else value.Later (target.Word (dictionary_bytes items))
 
-abbrev pub word_used : Option Finding → List TextItem → Work → Work
+abbrev pub word_used : Option Finding → List TextItem → Compilation → Compilation
 word_used None items w = record w { output = with_word (dictionary_bytes items) word_use.Other false w.output }
 word_used (Some f) items w = w
 
-abbrev pub text_finding_by : Bool → Option ℕ → List TextItem → Work → Option Finding
+abbrev pub text_finding_by : Bool → Option ℕ → List TextItem → Compilation → Option Finding
 text_finding_by is_wrong name items w = placed_finding name (text_value is_wrong items) (wrong_if is_wrong) w
 
-abbrev pub text_placed_by : Bool → Option ℕ → List TextItem → Work → Work
+abbrev pub text_placed_by : Bool → Option ℕ → List TextItem → Compilation → Compilation
 text_placed_by is_wrong name items w =
     word_used (text_finding_by is_wrong name items w) items (placed name (text_value is_wrong items) (wrong_if is_wrong) w)
 
-abbrev pub text_finding : Option ℕ → List TextItem → Work → Option Finding
+abbrev pub text_finding : Option ℕ → List TextItem → Compilation → Option Finding
 text_finding name items w = text_finding_by (variables_from items false) name items w
 
-abbrev pub text_placed : Option ℕ → List TextItem → Work → Work
+abbrev pub text_placed : Option ℕ → List TextItem → Compilation → Compilation
 text_placed name items w = text_placed_by (variables_from items false) name items w
 
 -- Expressions: what is wrong with one is found before its names are used
 
-abbrev pub settled_work : Work → Work
+abbrev pub settled_work : Compilation → Compilation
 settled_work w = record w { output = (settled_of w).out }
 
-abbrev pub settled_finding : Option ℕ → Work → Option Finding
+abbrev pub settled_finding : Option ℕ → Compilation → Option Finding
 settled_finding name w = placed_finding name (value_of w) None (settled_work w)
 
-abbrev pub settled_placed : Option ℕ → Work → Work
+abbrev pub settled_placed : Option ℕ → Compilation → Compilation
 settled_placed name w = placed name (value_of w) None (settled_work w)
 
-abbrev pub value_finding_by : Option Finding → Option ℕ → Option Finding → Value → Work → Option Finding
+abbrev pub value_finding_by : Option Finding → Option ℕ → Option Finding → Value → Compilation → Option Finding
 value_finding_by None name judged looked w = settled_finding name w
 value_finding_by (Some f) name judged looked w = placed_finding name looked judged w
 
-abbrev pub value_by : Option Finding → Option ℕ → Option Finding → Value → Work → Work
+abbrev pub value_by : Option Finding → Option ℕ → Option Finding → Value → Compilation → Compilation
 value_by None name judged looked w = settled_placed name w
 value_by (Some f) name judged looked w = placed name looked judged w
 
-abbrev pub value_with_finding : Option ℕ → Option Finding → Value → Work → Option Finding
+abbrev pub value_with_finding : Option ℕ → Option Finding → Value → Compilation → Option Finding
 value_with_finding name judged looked w = value_finding_by (least_of_both judged (place_finding name looked w)) name judged looked w
 
-abbrev pub value_with : Option ℕ → Option Finding → Value → Work → Work
+abbrev pub value_with : Option ℕ → Option Finding → Value → Compilation → Compilation
 value_with name judged looked w = value_by (least_of_both judged (place_finding name looked w)) name judged looked w
 
-abbrev pub expression_finding : Option ℕ → Work → Option Finding
+abbrev pub expression_finding : Option ℕ → Compilation → Option Finding
 expression_finding name w = value_with_finding name (finding_at 0 wanted.Constant w) (looked_value w) w
 
-abbrev pub expression_placed : Option ℕ → Work → Work
+abbrev pub expression_placed : Option ℕ → Compilation → Compilation
 expression_placed name w = value_with name (finding_at 0 wanted.Constant w) (looked_value w) w
 
-abbrev pub any_finding : Option (List TextItem) → Option ℕ → Work → Option Finding
+abbrev pub any_finding : Option (List TextItem) → Option ℕ → Compilation → Option Finding
 any_finding None name w = expression_finding name w
 any_finding (Some items) name w = text_finding name items w
 
-abbrev pub any_placed : Option (List TextItem) → Option ℕ → Work → Work
+abbrev pub any_placed : Option (List TextItem) → Option ℕ → Compilation → Compilation
 any_placed None name w = expression_placed name w
 any_placed (Some items) name w = text_placed name items w
 
-abbrev pub value_finding : Option ℕ → Work → Option Finding
+abbrev pub value_finding : Option ℕ → Compilation → Option Finding
 value_finding name w = any_finding (word_text (takes_words name w) w) name w
 
-abbrev pub value_placed : Option ℕ → Work → Work
+abbrev pub value_placed : Option ℕ → Compilation → Compilation
 value_placed name w = any_placed (word_text (takes_words name w) w) name w
 
-abbrev pub value_read_at : FileNames → Place → Option ℕ → Work → Work
+abbrev pub value_read_at : FileNames → Place → Option ℕ → Compilation → Compilation
 value_read_at files first name w = entry_told files first (value_finding name w) (value_placed name w)
 
-abbrev pub value_read : FileNames → Place → Work → Work
+abbrev pub value_read : FileNames → Place → Compilation → Compilation
 value_read files place w = value_read_at files (first_place w.unit.tokens place) (name_place w.unit.outer) w
 
 -- Routines
@@ -156,14 +156,14 @@ abbrev pub bracket_step : ℕ → Option TokenKind → ℕ → ℕ
 bracket_step at None bracket = bracket
 bracket_step at (Some k) bracket = if is_mark mark.OpenBracket k then at else bracket
 
-abbrev pub bracket_from : ℕ → List Spelled → ℕ → ℕ
+abbrev pub bracket_from : ℕ → List SourceToken → ℕ → ℕ
 bracket_from at [] bracket = bracket
 bracket_from at (t ∷ tokens) bracket = bracket_from (at + 1) tokens (bracket_step at (Some t.kind) bracket)
 
-abbrev pub bracket_in : List Spelled → ℕ
+abbrev pub bracket_in : List SourceToken → ℕ
 bracket_in tokens = bracket_from 0 tokens 0
 
-abbrev pub next_routine : Work → Value
+abbrev pub next_routine : Compilation → Value
 next_routine w = value.Later (target.Place area.Code (place_behind w.output.code.finished))
 
 -- What is wrong with where it goes is told before what is wrong with its locals, but not before that there are too many of these, unless it is told of
@@ -171,32 +171,32 @@ next_routine w = value.Later (target.Place area.Code (place_behind w.output.code
 abbrev pub is_first : Finding → Headed → Bool
 is_first f h = not (f.number == 19) && h.are_too_many
 
-abbrev pub misplaced_blame : List Spelled → FileNames → Place → Headed → Finding → Option Blame
+abbrev pub misplaced_blame : List SourceToken → FileNames → Place → Headed → Finding → Option Diagnostic
 misplaced_blame tokens files first h f = if is_first f h then header_fault files first None h else entry_blame tokens first (Some f)
 
-abbrev pub embedded_blame : List Spelled → FileNames → Place → Headed → Option Finding → Option Blame
+abbrev pub embedded_blame : List SourceToken → FileNames → Place → Headed → Option Finding → Option Diagnostic
 embedded_blame tokens files first h None = header_fault files first None h
 embedded_blame tokens files first h (Some f) = misplaced_blame tokens files first h f
 
-abbrev pub blame_embedded : FileNames → Place → Option ℕ → Headed → Work → Option Blame
+abbrev pub blame_embedded : FileNames → Place → Option ℕ → Headed → Compilation → Option Diagnostic
 blame_embedded files first name h w = embedded_blame w.unit.tokens files first h (place_finding name (next_routine w) w)
 
-abbrev pub routine_placed : Option ℕ → Bool → Work → Work
+abbrev pub routine_placed : Option ℕ → Bool → Compilation → Compilation
 routine_placed name is_lost w = placed name (next_routine w) (wrong_if is_lost) w
 
-abbrev pub embedded_opened : FileNames → Place → Headed → Bool → Work → Work
+abbrev pub embedded_opened : FileNames → Place → Headed → Bool → Compilation → Compilation
 embedded_opened files first h is_lost w = opened_with files first h is_lost (record w { is_embedded = true; is_passed_over = false })
 
-abbrev pub embedded_begun : FileNames → Place → Option ℕ → Headed → Bool → Work → Work
+abbrev pub embedded_begun : FileNames → Place → Option ℕ → Headed → Bool → Compilation → Compilation
 embedded_begun files first name h is_lost w = embedded_opened files first h is_lost (routine_placed name is_lost w)
 
-abbrev pub embedded_by : Option Blame → FileNames → Place → Option ℕ → Headed → Work → Work
+abbrev pub embedded_by : Option Diagnostic → FileNames → Place → Option ℕ → Headed → Compilation → Compilation
 embedded_by b files first name h w = embedded_begun files first name h (is_some b) (told files first b w)
 
-abbrev pub embedded : FileNames → Place → Option ℕ → Headed → Work → Work
+abbrev pub embedded : FileNames → Place → Option ℕ → Headed → Compilation → Compilation
 embedded files first name h w = embedded_by (blame_embedded files first name h w) files first name h w
 
-abbrev pub embedded_read : FileNames → Place → Work → Work
+abbrev pub embedded_read : FileNames → Place → Compilation → Compilation
 embedded_read files place w =
     embedded files (first_place w.unit.tokens place) (place_before (bracket_in w.unit.tokens))
     (with_locals (names_behind mark.OpenBracket w.unit.tokens) no_locals) w

@@ -1,12 +1,12 @@
 -- What the code's work stands for.
 use Rattle.std.specs.Prelude.{reverse}
-use Rattle.inf_symbol.specs.LocalList.{listed}
+use Rattle.inf_sinks.specs.LocalList.{listed}
 use Rattle.inf_unit.specs.AtHand.{unit}
 use Rattle.inf_unit.specs.Directives.{asked}
-use Rattle.inf_work.specs.Actions.{Work}
-use Rattle.inf_work.specs.declared.work.Work.{Work as CodeWork}
+use Rattle.inf_work.specs.Actions.{Compilation}
+use Rattle.inf_work.specs.declared.work.Compilation.{Compilation as CodeCompilation}
 
-abbrev pub work : CodeWork → Work
+abbrev pub work : CodeCompilation → Compilation
 work w = record {
   set = w.set;
   longest = w.longest;

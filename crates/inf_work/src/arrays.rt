@@ -2,24 +2,24 @@
 ghost use Rattle.std.specs.Prelude.{◌≡◌, IfOk, IfSome, OnOk, false, map};
 ghost use Rattle.inf_arrays.specs.Adding.{added as adding_of};
 ghost use Rattle.inf_arrays.specs.Arrays.{Characters, added_fault};
-ghost use Rattle.inf_symbol.specs.Spellings.{as_name};
+ghost use Rattle.inf_sinks.specs.Spellings.{as_name};
 ghost use Rattle.inf_statements.specs.Operands.{Settled};
 ghost use Rattle.inf_statements.specs.Printing.{text_at};
 ghost use Rattle.inf_work.specs.Arrays.{adding, apart, apart_by, array_kind, array_opened, bare_leaf, code_of, codes_of, heading_of, is_variable, kind_in, kind_named, lost_added, refused, story_added, variables_from};
 
 use crate::declarations::{Declared, value_in};
 use crate::findings::blame_of;
-use crate::work::Work;
+use crate::work::Compilation;
 use inf_area::Value;
 use inf_expressions::{Finding, Operand, Wanted, build, least_of_both};
 use inf_gathering::gathering::Leaf;
 use inf_lexer::{Place, Stack};
 use inf_names::meanings::Meaning;
 use inf_output::Output;
-use inf_report::messages::Countable;
+use inf_report::messages::FixedLimit;
 use inf_scanner::{Mark, TokenKind};
 use inf_settings::setting::Setting;
-use inf_symbol::spellings::Name;
+use inf_sinks::spellings::Name;
 use inf_tables::{ArrayFault, ArrayKind, Arrays, Entries};
 use inf_text::{Text, TextItem};
 use inf_unit::texts::text_of;
@@ -225,7 +225,7 @@ fn add_to_lost(entries: Entries<'_>, arrays: &mut Arrays) -> Result<(), AllocErr
     }
 }
 
-impl Work {
+impl Compilation {
     ghost use Rattle.inf_work.specs.Actions.{operands_of};
     ghost use Rattle.inf_work.specs.Arrays.{added, added_finding, array_header, array_named, arrays_of, bare_text, class_named, entry_added, entry_ended, entry_finding, entry_judged, entry_with, header_as, header_ended, header_of, header_with, is_alone, items_finding, listed, looked_value, one_more, own_finding, text_added, text_finding, value_added};
     ghost use Rattle.inf_work.specs.Works.{work};
@@ -324,7 +324,7 @@ impl Work {
     {
         let kind = kind_in(&self.unit.tokens);
         self.list(kind, name, declared.finding)?;
-        self.end_declared(files, first, false, name, Countable::Globals, declared)
+        self.end_declared(files, first, false, name, FixedLimit::Globals, declared)
     }
 
     /// The array whose entries come is one of the story, or, where its header has an error, one that is kept apart.

@@ -1,10 +1,10 @@
 //! What stands in the bodies of objects and classes: classes, attributes and properties.
 ghost use Rattle.std.specs.Prelude.{◌≡◌, IfOk, OnOk, option_map};
-ghost use Rattle.inf_symbol.specs.Spellings.{as_name};
+ghost use Rattle.inf_sinks.specs.Spellings.{as_name};
 ghost use Rattle.inf_work.specs.Bodies.{attribute_finding, attribute_of, attribute_set, attribute_set_some, class_finding, further_added, individual_declared, individual_given, individual_named, is_given, is_words, last_at, property_given, property_in, property_lost, property_of};
 
 use crate::objects::{class_of, join_some, refused_finding, setting_of};
-use crate::work::Work;
+use crate::work::Compilation;
 use inf_area::Value;
 use inf_expressions::{Finding, least_of_both};
 use inf_lexer::{Place, Stack};
@@ -12,7 +12,7 @@ use inf_names::meanings::Meaning;
 use inf_names::symbols::Found;
 use inf_output::Output;
 use inf_scanner::Mark;
-use inf_symbol::spellings::Name;
+use inf_sinks::spellings::Name;
 use inf_tables::WorldFault;
 use inf_unit::tokens::is_mark;
 use inf_unit::unit::order;
@@ -209,7 +209,7 @@ fn add_further(value: Value, out: &mut Output) -> Result<(), AllocError>
     }
 }
 
-impl Work {
+impl Compilation {
     ghost use Rattle.inf_work.specs.Actions.{body_ended};
     ghost use Rattle.inf_work.specs.Bodies.{attribute_read, class_read, further, further_finding, further_found, further_placed, given, given_finding, given_with, number_finding, place_finding, placed, placed_finding, property_finding, property_gives, property_read};
     ghost use Rattle.inf_work.specs.Works.{work};

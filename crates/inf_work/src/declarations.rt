@@ -2,24 +2,24 @@
 ghost use Rattle.std.specs.Prelude.{◌≡◌, IfOk, OnOk, map, option_map};
 ghost use Rattle.inf_expressions.specs.Forests.{trees_in as rooted_in};
 ghost use Rattle.inf_statements.specs.Statements.{tree_in};
-ghost use Rattle.inf_symbol.specs.Spellings.{as_name};
-ghost use Rattle.inf_unit.specs.Blames.{blamed};
+ghost use Rattle.inf_sinks.specs.Spellings.{as_name};
+ghost use Rattle.inf_unit.specs.Diagnostics.{blamed};
 ghost use Rattle.inf_work.specs.Declarations.{alias_finding, alias_meaning, aliased, declaration_blame, declared_finding, is_additive, is_additive_word, is_alias, is_late, is_name_at, late_finding, many_finding, names_itself, nothing_of, property_names, property_order, standing_fault, value_in};
 
 use crate::directives::name_finding;
 use crate::findings::{DECLARED, TOO_MANY, USED_BEFORE, blame_of, name_fault};
-use crate::work::Work;
+use crate::work::Compilation;
 use inf_area::Value;
 use inf_expressions::{Finding, Forest, Wanted, build, constant, least_of_both};
 use inf_gathering::gathering::Leaf;
 use inf_lexer::{Place, Stack};
 use inf_names::meanings::Meaning;
 use inf_names::symbols::{DeclareFault, Found};
-use inf_report::messages::{Countable, Message};
+use inf_report::messages::{FixedLimit, Message};
+use inf_sinks::spellings::Name;
 use inf_statements::operands::settled;
-use inf_symbol::spellings::Name;
 use inf_tables::WorldFault;
-use inf_unit::messages::Blame;
+use inf_unit::messages::Diagnostic;
 use inf_unit::unit::order;
 use inf_unit::unit_tokens::UnitTokens;
 use std::alloc::AllocError;
@@ -117,7 +117,7 @@ pub(crate) fn many_finding(are_many: bool) -> Option<Finding>
 /// What is wrong with a declaration beside its expression.
 fn declared_finding(
     order: u32,
-    of_name: &Option<Blame<'_>>,
+    of_name: &Option<Diagnostic<'_>>,
     is_late: bool,
     are_many: bool,
 ) -> Option<Finding>
@@ -133,16 +133,16 @@ fn declared_finding(
 fn declaration_blame<'t>(
     tokens: &'t UnitTokens,
     first: Place,
-    kind: Countable,
-    of_name: Option<Blame<'t>>,
+    kind: FixedLimit,
+    of_name: Option<Diagnostic<'t>>,
     found: Option<Finding>,
-) -> Option<Blame<'t>>
+) -> Option<Diagnostic<'t>>
     ensures { option_map blamed result ≡ declaration_blame tokens.now first kind (option_map blamed of_name.entry) found }
 {
     let finding = found?;
     match finding.number {
         DECLARED => of_name,
-        TOO_MANY => Some(Blame {
+        TOO_MANY => Some(Diagnostic {
             place: first,
             message: Message::TooMany(kind),
         }),
@@ -158,14 +158,14 @@ fn is_alias(names: &[Name], leaves: &[Leaf]) -> bool
 }
 
 /// What a name stands for that is another one of its kind.
-fn alias_meaning(kind: Countable, found: Found<Place>) -> Option<Meaning>
+fn alias_meaning(kind: FixedLimit, found: Found<Place>) -> Option<Meaning>
     ensures { result ≡ alias_meaning kind found }
 {
     match (kind, found) {
-        (Countable::Attributes, Found::Declared(Meaning::Attribute(number), _)) => {
+        (FixedLimit::Attributes, Found::Declared(Meaning::Attribute(number), _)) => {
             Some(Meaning::Attribute(number))
         }
-        (Countable::Attributes, _) => None,
+        (FixedLimit::Attributes, _) => None,
         (
             _,
             Found::Declared(
@@ -196,12 +196,12 @@ fn alias_meaning(kind: Countable, found: Found<Place>) -> Option<Meaning>
 }
 
 /// What a name of this kind stands for whose declaration has an error.
-fn nothing_of(kind: Countable) -> Meaning
+fn nothing_of(kind: FixedLimit) -> Meaning
     ensures { result ≡ nothing_of kind }
 {
     match kind {
-        Countable::Attributes => Meaning::Attribute(0),
-        Countable::Globals => Meaning::Variable(FIRST_GLOBAL),
+        FixedLimit::Attributes => Meaning::Attribute(0),
+        FixedLimit::Globals => Meaning::Variable(FIRST_GLOBAL),
         _ => Meaning::Property {
             number: 0,
             is_additive: false,
@@ -220,7 +220,7 @@ fn alias_finding(tokens: &UnitTokens, meaning: Option<Meaning>) -> Option<Findin
 }
 
 /// What an alias stands for: nothing of its kind, where something is wrong with it.
-fn aliased(kind: Countable, meaning: Option<Meaning>, found: Option<Finding>) -> Meaning
+fn aliased(kind: FixedLimit, meaning: Option<Meaning>, found: Option<Finding>) -> Meaning
     ensures { result ≡ aliased kind meaning found }
 {
     match (meaning, found) {
@@ -277,7 +277,7 @@ fn property_order(tokens: &UnitTokens, is_additive: bool) -> u32
     }
 }
 
-impl Work {
+impl Compilation {
     ghost use Rattle.inf_work.specs.Actions.{finding_at, operands_of, settled_of, trees_at};
     ghost use Rattle.inf_work.specs.Declarations.{alias_told, alias_with, attribute, attribute_added, attribute_ended, attribute_number, attribute_with, declaration_ended, declared_ended, global_added, global_ended, global_variable, global_with, has_most_attributes, has_most_globals, has_most_properties, last_meaning, new_attribute, new_global, new_property, name_known, plainly_known, property, property_added, property_ended, property_named, property_number, property_with, valued};
     ghost use Rattle.inf_work.specs.Works.{work};
@@ -301,7 +301,7 @@ impl Work {
         first: Place,
         has_last: bool,
         name: &Name,
-        kind: Countable,
+        kind: FixedLimit,
         declared: Declared,
     ) -> Result<(), AllocError>
         ensures { OnOk result (work self.new
@@ -319,7 +319,7 @@ impl Work {
         files: &Stack,
         first: Place,
         name: &Name,
-        kind: Countable,
+        kind: FixedLimit,
         declared: Declared,
     ) -> Result<(), AllocError>
         ensures { OnOk result (work self.new
@@ -357,7 +357,7 @@ impl Work {
         };
         if is_alias(names, self.unit.gathering.leaves()) {
             let order = self.unit.tokens.name_order();
-            return self.alias(files, first, name, order, Countable::Attributes);
+            return self.alias(files, first, name, order, FixedLimit::Attributes);
         }
         self.one_attribute(files, first, name)
     }
@@ -389,7 +389,7 @@ impl Work {
         ensures { OnOk result (work self.new ≡ attribute_ended files.now.names first (as_name name.now) declared (work self.old)) }
     {
         self.add_attribute(name, declared.finding)?;
-        self.end_declaration(files, first, name, Countable::Attributes, declared)
+        self.end_declaration(files, first, name, FixedLimit::Attributes, declared)
     }
 
     /// The number of the next attribute.
@@ -455,7 +455,7 @@ impl Work {
         };
         if is_alias(names, self.unit.gathering.leaves()) {
             let order = property_order(&self.unit.tokens, is_additive);
-            return self.alias(files, first, name, order, Countable::Properties);
+            return self.alias(files, first, name, order, FixedLimit::Properties);
         }
         self.one_property(files, first, is_additive, name)
     }
@@ -496,7 +496,7 @@ impl Work {
             ≡ property_ended files.now.names first is_additive (as_name name.now) declared (work self.old)) }
     {
         self.add_property(name, is_additive, declared.finding)?;
-        self.end_declaration(files, first, name, Countable::Properties, declared)
+        self.end_declaration(files, first, name, FixedLimit::Properties, declared)
     }
 
     /// What is wrong with a declaration of a name that has an order, and with its expression.
@@ -560,7 +560,7 @@ impl Work {
             OnOk result (work self.new ≡ record before { output = property_added found (as_name name.now) is_additive before }) }
     {
         if found.is_some() {
-            self.output.declare(name.bytes(), name.place, nothing_of(Countable::Properties))?;
+            self.output.declare(name.bytes(), name.place, nothing_of(FixedLimit::Properties))?;
             return Ok(());
         }
         let value = self.value()?;
@@ -635,7 +635,7 @@ impl Work {
         ensures { OnOk result (work self.new ≡ global_ended files.now.names first (as_name name.now) declared (work self.old)) }
     {
         self.add_global(name, declared.finding)?;
-        self.end_declaration(files, first, name, Countable::Globals, declared)
+        self.end_declaration(files, first, name, FixedLimit::Globals, declared)
     }
 
     /// Declares the name of a variable, which is a new one with the value of the unit's expression where nothing is wrong with it.
@@ -645,7 +645,7 @@ impl Work {
     {
         if found.is_some() {
             self.output
-                .declare(name.bytes(), name.place, nothing_of(Countable::Globals))?;
+                .declare(name.bytes(), name.place, nothing_of(FixedLimit::Globals))?;
             return Ok(());
         }
         let value = self.value()?;
@@ -668,7 +668,7 @@ impl Work {
     }
 
     /// What the last name of the unit stands for, where that is one of this kind.
-    fn last_meaning(&self, kind: Countable) -> Option<Meaning>
+    fn last_meaning(&self, kind: FixedLimit) -> Option<Meaning>
         ensures { result ≡ last_meaning kind (work self.now) }
     {
         let tokens = &self.unit.tokens;
@@ -683,7 +683,7 @@ impl Work {
         first: Place,
         name: &Name,
         order: u32,
-        kind: Countable,
+        kind: FixedLimit,
     ) -> Result<(), AllocError>
         ensures { OnOk result (work self.new ≡ alias_told files.now.names first (as_name name.now) order kind (work self.old)) }
     {

@@ -3,15 +3,15 @@ ghost use Rattle.std.specs.Prelude.{◌≡◌, ◌≤◌, IfOk, OnOk, length, ma
 ghost use Rattle.inf_expressions.specs.Forests.{trees_in as rooted_in};
 ghost use Rattle.inf_names.specs.Symbols.{found_in};
 ghost use Rattle.inf_statements.specs.Statements.{tree_in};
-ghost use Rattle.inf_symbol.specs.Spellings.{as_name};
-ghost use Rattle.inf_unit.specs.Blames.{blamed};
+ghost use Rattle.inf_sinks.specs.Spellings.{as_name};
+ghost use Rattle.inf_unit.specs.Diagnostics.{blamed};
 ghost use Rattle.inf_unit.specs.Messages.{location, with_words};
 ghost use Rattle.inf_unit.specs.Units.{quoted_in};
 ghost use Rattle.inf_work.specs.Actions.{as_constant, constant_blame, constant_finding, constant_meaning, declared_meaning, is_declared, leaf_meaning, name_finding, named_leaf, stub_locals, used_name};
 ghost use Rattle.inf_statements.specs.Operands.{leaf_added};
 
 use crate::findings::{blame_of, name_fault};
-use crate::work::Work;
+use crate::work::Compilation;
 use inf_area::Value;
 use inf_assembler::RoutineKind;
 use inf_expressions::{Finding, Forest, Wanted, build, constant, least_of_both};
@@ -21,10 +21,10 @@ use inf_names::meanings::Meaning;
 use inf_names::symbols::{DeclareFault, Found, ReferFault, Symbols};
 use inf_report::messages::Message;
 use inf_report::own_words::OwnWords;
+use inf_sinks::spellings::Name;
 use inf_statements::operands::add_leaf;
-use inf_symbol::spellings::Name;
-use inf_unit::directives::{Asked, Directive, directive_of, weight_of};
-use inf_unit::messages::{Blame, location};
+use inf_unit::directives::{Directive, Request, directive_of, weight_of};
+use inf_unit::messages::{Diagnostic, location};
 use inf_unit::tokens::number_of;
 use inf_unit::unit_tokens::UnitTokens;
 use std::alloc::AllocError;
@@ -32,7 +32,7 @@ use std::alloc::AllocError;
 /// The most locals of a routine that `Stub` makes (Designer's Manual, fourth edition, section 25).
 const MOST_STUB_LOCALS: u16 = 4;
 
-impl Work {
+impl Compilation {
     ghost use Rattle.inf_unit.specs.Directives.{Include, asked, weight_of};
     ghost use Rattle.inf_work.specs.Actions.{constant, constant_of, constant_ended, constant_with, is_first_declared, new_stub, replace, stub, stubbed, words_of};
     ghost use Rattle.inf_work.specs.Directives.{carried_out, default, directive_end};
@@ -66,7 +66,7 @@ impl Work {
         match directive {
             Directive::Include => self.asked = self.inclusion(first)?,
             Directive::Message => self.message(files, first, names)?,
-            Directive::End => self.asked = Asked::End,
+            Directive::End => self.asked = Request::End,
             Directive::Constant => return self.constant(files, first, names),
             Directive::Replace => return self.replace(files, first, names),
             Directive::Stub => return self.stub(files, first, names),
@@ -126,7 +126,7 @@ impl Work {
     {
         let locals = stub_locals(&self.unit.tokens);
         if locals > MOST_STUB_LOCALS {
-            let blame = Blame {
+            let blame = Diagnostic {
                 place: first,
                 message: Message::ConstantOutOfRange,
             };
@@ -183,12 +183,12 @@ impl Work {
     }
 
     /// That the file is read whose name is the text of the unit.
-    fn inclusion(&self, unit: Place) -> Result<Asked, AllocError>
+    fn inclusion(&self, unit: Place) -> Result<Request, AllocError>
         ensures { IfOk result (λ a. asked a ≡ Include (quoted_in (work self.now).unit.tokens) unit) }
     {
         let mut text = Vec::new(self.alloc);
         text.extend_from_slice(self.unit.tokens.quoted())?;
-        Ok(Asked::Include { text, unit })
+        Ok(Request::Include { text, unit })
     }
 
     /// Tells the text of the unit, by the weight that its names say.
@@ -362,7 +362,7 @@ fn constant_meaning(meaning: Option<Meaning>, found: Option<Finding>) -> Meaning
 }
 
 /// What is wrong with a name that has this order, as a finding. Its number is that of a name that stands already.
-pub(crate) fn name_finding(order: u32, of_name: &Option<Blame<'_>>) -> Option<Finding>
+pub(crate) fn name_finding(order: u32, of_name: &Option<Diagnostic<'_>>) -> Option<Finding>
     ensures { result ≡ name_finding order (option_map blamed of_name.now) }
 {
     match of_name {
@@ -374,9 +374,9 @@ pub(crate) fn name_finding(order: u32, of_name: &Option<Blame<'_>>) -> Option<Fi
 /// What is told of a constant, by the least that was found.
 fn constant_blame<'t>(
     tokens: &'t UnitTokens,
-    of_name: Option<Blame<'t>>,
+    of_name: Option<Diagnostic<'t>>,
     found: Option<Finding>,
-) -> Option<Blame<'t>>
+) -> Option<Diagnostic<'t>>
     ensures { option_map blamed result ≡ constant_blame tokens.now (option_map blamed of_name.entry) found }
 {
     let finding = found?;

@@ -1,19 +1,19 @@
 //! What is told of what is wrong with a unit.
 ghost use Rattle.std.specs.Prelude.{◌≡◌, option_map};
 ghost use Rattle.inf_report.specs.Meant.{meant, named};
-ghost use Rattle.inf_symbol.specs.LocalList.{headed as as_headed, repeated as repeated_of};
-ghost use Rattle.inf_symbol.specs.Spellings.{as_name};
-ghost use Rattle.inf_unit.specs.Blames.{blamed};
+ghost use Rattle.inf_sinks.specs.LocalList.{headed as as_headed, repeated as repeated_of};
+ghost use Rattle.inf_sinks.specs.Spellings.{as_name};
+ghost use Rattle.inf_unit.specs.Diagnostics.{blamed};
 ghost use Rattle.inf_work.specs.Findings.{again, blame_of, header_fault, local_fault, message_of, name_fault};
 
 use inf_expressions::{Finding, NOT_CONSTANT, OUT_OF_RANGE, WRONG_KIND};
 use inf_lexer::{Place, Stack};
 use inf_names::symbols::DeclareFault;
-use inf_report::messages::{Countable, Message, Told};
+use inf_report::messages::{FixedLimit, Message, Told};
+use inf_sinks::locals::{Headed, Repeated};
+use inf_sinks::spellings::Name;
 use inf_statements::effects::{GIVEN_TWICE, MISPLACED_DEFAULT, NOTHING_TO_LEAVE, WRONG_OPCODE};
-use inf_symbol::locals::{Headed, Repeated};
-use inf_symbol::spellings::Name;
-use inf_unit::messages::{Blame, location};
+use inf_unit::messages::{Diagnostic, location};
 use inf_unit::tokens::told;
 use inf_unit::unit_tokens::UnitTokens;
 
@@ -50,15 +50,15 @@ fn message_of<'t>(number: u8, token: Told<'t>, bytes: &'t [u8]) -> Message<'t>
 }
 
 /// What a finding of a unit with these tokens is told as.
-pub(crate) fn blame_of<'t>(tokens: &'t UnitTokens, finding: Finding) -> Blame<'t>
+pub(crate) fn blame_of<'t>(tokens: &'t UnitTokens, finding: Finding) -> Diagnostic<'t>
     ensures { blamed result ≡ blame_of tokens.now finding }
 {
     match tokens.get(finding.order as usize) {
-        Some(token) => Blame {
+        Some(token) => Diagnostic {
             place: token.place,
             message: message_of(finding.number, told(&token), token.bytes),
         },
-        None => Blame {
+        None => Diagnostic {
             place: NOWHERE,
             message: message_of(finding.number, Told::End, b""),
         },
@@ -66,10 +66,10 @@ pub(crate) fn blame_of<'t>(tokens: &'t UnitTokens, finding: Finding) -> Blame<'t
 }
 
 /// A name that was declared at a place before.
-fn again<'a>(files: &'a Stack, name: &'a Name, first: Place) -> Blame<'a>
+fn again<'a>(files: &'a Stack, name: &'a Name, first: Place) -> Diagnostic<'a>
     ensures { blamed result ≡ again files.now.names (as_name name.now) first }
 {
-    Blame {
+    Diagnostic {
         place: name.place,
         message: Message::Declared(name.bytes(), location(files, first)),
     }
@@ -80,11 +80,11 @@ pub(crate) fn name_fault<'a>(
     files: &'a Stack,
     name: &'a Name,
     refused: Option<DeclareFault<Place>>,
-) -> Option<Blame<'a>>
+) -> Option<Diagnostic<'a>>
     ensures { option_map blamed result ≡ name_fault files.now.names (as_name name.now) refused }
 {
     match refused? {
-        DeclareFault::Present(None) => Some(Blame {
+        DeclareFault::Present(None) => Some(Diagnostic {
             place: name.place,
             message: Message::SystemName(name.bytes()),
         }),
@@ -94,7 +94,7 @@ pub(crate) fn name_fault<'a>(
 }
 
 /// A local that is named again.
-fn local_fault<'a>(files: &'a Stack, repeated: Option<Repeated<'a>>) -> Option<Blame<'a>>
+fn local_fault<'a>(files: &'a Stack, repeated: Option<Repeated<'a>>) -> Option<Diagnostic<'a>>
     ensures { option_map blamed result ≡ local_fault files.now.names (option_map repeated_of repeated.entry) }
 {
     let repeated = repeated?;
@@ -106,16 +106,16 @@ fn local_fault<'a>(files: &'a Stack, repeated: Option<Repeated<'a>>) -> Option<B
 pub(crate) fn header_fault<'a>(
     files: &'a Stack,
     unit: Place,
-    of_name: Option<Blame<'a>>,
+    of_name: Option<Diagnostic<'a>>,
     headed: &Headed<'a>,
-) -> Option<Blame<'a>>
+) -> Option<Diagnostic<'a>>
     ensures { option_map blamed result
         ≡ header_fault files.now.names unit (option_map blamed of_name.entry) (as_headed headed.entry.now) }
 {
     if headed.are_too_many {
-        return Some(Blame {
+        return Some(Diagnostic {
             place: unit,
-            message: Message::TooMany(Countable::Locals),
+            message: Message::TooMany(FixedLimit::Locals),
         });
     }
     of_name.or(local_fault(files, headed.repeated))

@@ -1,27 +1,27 @@
 //! Objects and classes: their headers.
 ghost use Rattle.std.specs.Prelude.{◌≡◌, IfOk, OnOk, option_map};
 ghost use Rattle.inf_characters.specs.Reading.{text_of as read_in};
-ghost use Rattle.inf_symbol.specs.Spellings.{as_name};
-ghost use Rattle.inf_unit.specs.Blames.{blamed};
+ghost use Rattle.inf_sinks.specs.Spellings.{as_name};
+ghost use Rattle.inf_unit.specs.Diagnostics.{blamed};
 ghost use Rattle.inf_unit.specs.Texts.{fit_characters};
 ghost use Rattle.inf_work.specs.Objects.{arrow_at, below, bracketed, class_begun, class_lost, class_of, entry_blame, header_in, header_of, header_step, header_with, hung_finding, in_brackets, is_nearby, joined, joined_fault, joined_some, lost_begun, named_at, no_header, object_begun, object_declared, object_in, object_lost, object_named, object_of, packed_name, parent_fit, refused_finding, setting_of, shown_name, word_place};
 ghost use Rattle.inf_world.specs.World.{class_of_fault};
 
 use crate::declarations::Declared;
 use crate::findings::{TOO_MANY, blame_of};
-use crate::work::Work;
+use crate::work::Compilation;
 use inf_expressions::{Finding, least_of_both};
 use inf_lexer::{Place, Stack};
 use inf_names::meanings::Meaning;
 use inf_names::symbols::Found;
 use inf_output::Output;
-use inf_report::messages::{Countable, Message};
+use inf_report::messages::{FixedLimit, Message};
 use inf_scanner::TokenKind;
 use inf_settings::setting::Setting;
-use inf_symbol::spellings::Name;
+use inf_sinks::spellings::Name;
 use inf_tables::{Misfit, Parent, ShortName, WorldFault};
 use inf_text::{CharSet, Mode, Text, TextFault, pack, read_text};
-use inf_unit::messages::Blame;
+use inf_unit::messages::Diagnostic;
 use inf_unit::unit::{next_place, order};
 use inf_unit::unit_tokens::UnitTokens;
 use inf_world::Setting as WorldSetting;
@@ -67,14 +67,14 @@ pub(crate) fn entry_blame<'t>(
     tokens: &'t UnitTokens,
     first: Place,
     found: Option<Finding>,
-) -> Option<Blame<'t>>
+) -> Option<Diagnostic<'t>>
     ensures { option_map blamed result ≡ entry_blame tokens.now first found }
 {
     let finding = found?;
     match finding.number {
-        TOO_MANY => Some(Blame {
+        TOO_MANY => Some(Diagnostic {
             place: first,
-            message: Message::TooMany(Countable::Values),
+            message: Message::TooMany(FixedLimit::Values),
         }),
         _ => Some(blame_of(tokens, finding)),
     }
@@ -430,7 +430,7 @@ fn begin_object(
     }
 }
 
-impl Work {
+impl Compilation {
     ghost use Rattle.inf_unit.specs.Units.{name_at};
     ghost use Rattle.inf_work.specs.Objects.{above_finding, class_header, class_of_word, class_opened, class_with, entry_told, found_at, header_text, named_known, named_parent_finding, object_ended, object_header, object_known, object_new, object_opened, object_with, own_name, parent_finding, parent_in, short_name};
     ghost use Rattle.inf_work.specs.Works.{work};
@@ -484,7 +484,7 @@ impl Work {
             ≡ class_with files.now.names first (as_name name.now) declared (work self.old)) }
     {
         self.open_class(name, declared.finding)?;
-        self.end_declared(files, first, false, name, Countable::Globals, declared)
+        self.end_declared(files, first, false, name, FixedLimit::Globals, declared)
     }
 
     /// A class of this name is open, or, where something is wrong with its header, a body that belongs to nothing.
@@ -652,7 +652,7 @@ impl Work {
     {
         match name {
             Some(name) => {
-                self.end_declared(files, first, false, name, Countable::Globals, declared)
+                self.end_declared(files, first, false, name, FixedLimit::Globals, declared)
             }
             None => self.tell_entry(files, first, declared.finding),
         }

@@ -5,7 +5,7 @@ ghost use Rattle.inf_statements.specs.Sites.{site};
 ghost use Rattle.inf_work.specs.Parts.{has_last, is_default, line_finding_of, site_of, wanted_of};
 
 use crate::findings::blame_of;
-use crate::work::Work;
+use crate::work::Compilation;
 use inf_expressions::{Finding, Forest, Operand, Wanted, build, judge, least_of_both};
 use inf_lexer::{Place, Stack};
 use inf_statements::constructs::Kind;
@@ -63,7 +63,7 @@ fn is_default(items: &[Item]) -> bool
     matches!(items, [Item::Default, ..])
 }
 
-impl Work {
+impl Compilation {
     ghost use Rattle.inf_statements.specs.Constructs.{are_own};
     ghost use Rattle.inf_work.specs.Actions.{finding_at, named, operands_of, settled_of, trees_at};
     ghost use Rattle.inf_work.specs.Parts.{actions_named, case_prepared, construct_opened, found_in, order_of, own_case_prepared, own_finding, part_begun, part_carried, part_effect, part_ended, part_finished, place_of, statement_at, statement_laid_in};

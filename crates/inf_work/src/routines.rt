@@ -1,27 +1,27 @@
 //! Where routines begin and end.
 ghost use Rattle.std.specs.Prelude.{◌≡◌, IfOk, None, OnOk, is_some, map, option_map};
 ghost use Rattle.inf_names.specs.Symbols.{declare_fault};
-ghost use Rattle.inf_symbol.specs.LocalList.{headed as as_headed, listed};
-ghost use Rattle.inf_symbol.specs.Locals.{no_locals, with_locals};
-ghost use Rattle.inf_symbol.specs.Spellings.{as_name};
-ghost use Rattle.inf_unit.specs.Blames.{blamed};
+ghost use Rattle.inf_sinks.specs.LocalList.{headed as as_headed, listed};
+ghost use Rattle.inf_sinks.specs.Locals.{no_locals, with_locals};
+ghost use Rattle.inf_sinks.specs.Spellings.{as_name};
+ghost use Rattle.inf_unit.specs.Diagnostics.{blamed};
 ghost use Rattle.inf_work.specs.Actions.{kind_ended, with_all_unused, with_routine_fault};
 ghost use Rattle.inf_work.specs.Findings.{header_fault, name_fault};
 
 use crate::findings::{header_fault, name_fault};
-use crate::work::Work;
+use crate::work::Compilation;
 use inf_assembler::{CloseFault, RoutineKind};
 use inf_lexer::{Place, Stack};
 use inf_names::meanings::Meaning;
 use inf_names::symbols::{DeclareFault, Found};
 use inf_report::messages::Message;
+use inf_sinks::locals::{Headed, Locals};
+use inf_sinks::spellings::Name;
 use inf_statements::labels::Labels;
-use inf_symbol::locals::{Headed, Locals};
-use inf_symbol::spellings::Name;
-use inf_unit::messages::{Blame, Messages, location};
+use inf_unit::messages::{Diagnostic, Diagnostics, location};
 use std::alloc::AllocError;
 
-impl Work {
+impl Compilation {
     ghost use Rattle.inf_work.specs.Actions.{close, code_closed, header_end, header_with, is_replaced, opened_with, routine_declared};
     ghost use Rattle.inf_work.specs.Works.{work};
 
@@ -157,7 +157,7 @@ fn header_blame<'a>(
     name: &'a Name,
     refused: Option<DeclareFault<Place>>,
     headed: &Headed<'a>,
-) -> Option<Blame<'a>>
+) -> Option<Diagnostic<'a>>
     ensures { option_map blamed result
         ≡ header_fault files.now.names first (name_fault files.now.names (as_name name.now) refused) (as_headed headed.entry.now) }
 {
@@ -166,7 +166,7 @@ fn header_blame<'a>(
 }
 
 /// Whether there is anything to tell.
-pub(crate) fn is_told(blame: &Option<Blame<'_>>) -> bool
+pub(crate) fn is_told(blame: &Option<Diagnostic<'_>>) -> bool
     ensures { result ≡ is_some (option_map blamed blame.now) }
 {
     match blame {
@@ -182,7 +182,7 @@ fn tell_fault(
     labels: &Labels,
     files: &Stack,
     place: Place,
-    report: &mut Messages,
+    report: &mut Diagnostics,
 ) -> Result<(), AllocError>
     ensures { OnOk result (report.new ≡ with_routine_fault files.now.names place labels.now fault report.old) }
 {
@@ -205,7 +205,7 @@ fn tell_unused(
     locals: &Locals,
     files: &Stack,
     place: Place,
-    report: &mut Messages,
+    report: &mut Diagnostics,
 ) -> Result<(), AllocError>
     ensures { OnOk result (report.new ≡ with_all_unused files.now.names place (listed locals.now) report.old) }
 {

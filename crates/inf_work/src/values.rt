@@ -1,7 +1,7 @@
 //! The values of properties: words of the dictionary, expressions, and routines.
 ghost use Rattle.std.specs.Prelude.{◌≡◌, IfOk, OnOk, option_map};
-ghost use Rattle.inf_symbol.specs.LocalList.{headed as as_headed};
-ghost use Rattle.inf_unit.specs.Blames.{blamed};
+ghost use Rattle.inf_sinks.specs.LocalList.{headed as as_headed};
+ghost use Rattle.inf_unit.specs.Diagnostics.{blamed};
 ghost use Rattle.inf_work.specs.Values.{bracket_in, bracket_step, embedded_blame, is_first, misplaced_blame, name_place, only_leaf, place_before, text_value, wrong_if};
 
 use crate::arrays::has_variables;
@@ -9,16 +9,16 @@ use crate::bodies::{is_words, last_at, property_of};
 use crate::findings::{TOO_MANY, header_fault};
 use crate::objects::{entry_blame, text_in};
 use crate::routines::{headed_of, is_told};
-use crate::work::Work;
+use crate::work::Compilation;
 use inf_area::{AreaName, Target, Value};
 use inf_expressions::{Finding, Wanted, least_of_both};
 use inf_gathering::gathering::Leaf;
 use inf_lexer::{Place, Stack};
 use inf_scanner::{Mark, TokenKind};
-use inf_symbol::locals::Headed;
+use inf_sinks::locals::Headed;
 use inf_tables::WordUse;
 use inf_text::{Mode, Text, dict_word};
-use inf_unit::messages::Blame;
+use inf_unit::messages::Diagnostic;
 use inf_unit::tokens::is_mark;
 use inf_unit::unit_tokens::UnitTokens;
 use std::alloc::AllocError;
@@ -112,7 +112,7 @@ fn misplaced_blame<'a>(
     first: Place,
     headed: &Headed<'a>,
     finding: Finding,
-) -> Option<Blame<'a>>
+) -> Option<Diagnostic<'a>>
     ensures { option_map blamed result
         ≡ misplaced_blame tokens.now files.now.names first (as_headed headed.entry.now) finding }
 {
@@ -130,7 +130,7 @@ fn embedded_blame<'a>(
     first: Place,
     headed: &Headed<'a>,
     own: Option<Finding>,
-) -> Option<Blame<'a>>
+) -> Option<Diagnostic<'a>>
     ensures { option_map blamed result
         ≡ embedded_blame tokens.now files.now.names first (as_headed headed.entry.now) own }
 {
@@ -140,7 +140,7 @@ fn embedded_blame<'a>(
     }
 }
 
-impl Work {
+impl Compilation {
     ghost use Rattle.inf_work.specs.Bodies.{place_finding};
     ghost use Rattle.inf_work.specs.Values.{char_text, embedded, embedded_begun, embedded_opened, embedded_read, expression_finding, expression_placed, leaf_text, next_routine, routine_placed, settled_finding, settled_placed, takes_words, text_finding, text_placed, value_finding, value_placed, value_read, value_with, value_with_finding, word_leaf, word_text, word_used};
     ghost use Rattle.inf_work.specs.Works.{work};

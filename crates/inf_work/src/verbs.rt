@@ -1,25 +1,25 @@
 //! The directives `Verb`, `Extend` and `Fake_action`, and line by line what stands in the first two.
 ghost use Rattle.std.specs.Prelude.{◌≡◌, ◌<◌, ◌≤◌, IfOk, IfSome, OnOk, length, map, option_map, true};
-ghost use Rattle.inf_symbol.specs.Spellings.{as_name};
-ghost use Rattle.inf_unit.specs.Blames.{blamed};
+ghost use Rattle.inf_sinks.specs.Spellings.{as_name};
+ghost use Rattle.inf_unit.specs.Diagnostics.{blamed};
 ghost use Rattle.inf_unit.specs.NameTokens.{named as named_token};
 ghost use Rattle.inf_verbs.specs.Lines.{LineOf};
 ghost use Rattle.inf_work.specs.Verbs.{action_by, arrow_in, arrow_or, attribute_in, can_be_routine, has_most_verbs, has_verb, head_finding, is_filter_word, is_lone_name, is_mark_at, is_name_in, is_reverse, is_right, is_sign_word, like_at, like_finding, like_used, line_added, line_behind, line_kept, line_token, line_tokens, lines_extended, lines_of, lone_by, lone_token, misfit_finding, name_token, named_at, named_behind, named_finding, new_verb, no_verb_finding, noun_named, one_line, parsing_routine, place_behind, place_named, preposition, texts_before, token_finding, tokens_finding, verb_begun, verb_blame, verb_extended, verb_fault, verb_head, verb_named, verb_opened, verb_passed, verb_use, with_next, with_text, with_token, word_at, word_in, word_used, words_end, words_finding, words_from, words_given, words_used, wrong_unless, wrong_verb};
 
 use crate::declarations::many_finding;
 use crate::findings::{TOO_MANY, WRONG_VERB, blame_of, name_fault};
-use crate::work::Work;
+use crate::work::Compilation;
 use inf_expressions::{Finding, least_of_both};
 use inf_lexer::{Place, Stack};
 use inf_names::meanings::Meaning;
 use inf_names::symbols::{Found, Symbols};
 use inf_output::Output;
-use inf_report::messages::{Countable, Message};
+use inf_report::messages::{FixedLimit, Message};
 use inf_scanner::{DictionaryWord, Mark, TokenKind};
 use inf_settings::setting::Setting;
-use inf_symbol::spellings::Name;
+use inf_sinks::spellings::Name;
 use inf_tables::{LineFault, LineToken, Noun, VerbFault, WordUse};
-use inf_unit::messages::Blame;
+use inf_unit::messages::Diagnostic;
 use inf_unit::tokens::is_mark;
 use inf_unit::unit::{next_place, order};
 use inf_unit::unit_tokens::{NameToken, UnitTokens};
@@ -102,20 +102,24 @@ fn word_at(tokens: &UnitTokens, at: usize) -> Option<DictionaryWord>
 }
 
 /// What is told of a finding in a unit of a verb that begins at a place.
-fn verb_blame<'t>(tokens: &'t UnitTokens, first: Place, finding: Finding) -> Blame<'t>
+fn verb_blame<'t>(tokens: &'t UnitTokens, first: Place, finding: Finding) -> Diagnostic<'t>
     ensures { blamed result ≡ verb_blame tokens.now first finding }
 {
     match finding.number {
-        TOO_MANY => Blame {
+        TOO_MANY => Diagnostic {
             place: first,
-            message: Message::TooMany(Countable::Verbs),
+            message: Message::TooMany(FixedLimit::Verbs),
         },
         _ => blame_of(tokens, finding),
     }
 }
 
 /// What is told of what is wrong with a unit of a verb that begins at a place.
-fn verb_fault<'t>(tokens: &'t UnitTokens, first: Place, found: Option<Finding>) -> Option<Blame<'t>>
+fn verb_fault<'t>(
+    tokens: &'t UnitTokens,
+    first: Place,
+    found: Option<Finding>,
+) -> Option<Diagnostic<'t>>
     ensures { option_map blamed result ≡ verb_fault tokens.now first found }
 {
     match found {
@@ -860,7 +864,7 @@ fn lines_of(verb: Option<u8>, place: LinePlace) -> Extending
     Extending { verb, place }
 }
 
-impl Work {
+impl Compilation {
     ghost use Rattle.inf_output.specs.Actions.{faked};
     ghost use Rattle.inf_work.specs.Verbs.{extend_header, extend_with, fake_action, fake_with, header_opened, line_ended, line_found, line_judged, line_laid, verb_ended, verb_header, verb_header_with};
     ghost use Rattle.inf_work.specs.Works.{work};

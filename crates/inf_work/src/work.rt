@@ -18,18 +18,18 @@ use inf_report::messages::Message;
 use inf_scanner::{Mark, TokenKind};
 use inf_settings::setting::Setting;
 use inf_settings::settings::Settings;
+use inf_sinks::locals::Locals;
+use inf_sinks::spellings::MOST_NAME_BYTES;
 use inf_statements::constructs::{Case, Constructs, Kind, Over};
 use inf_statements::labels::Labels;
-use inf_symbol::locals::Locals;
-use inf_symbol::spellings::MOST_NAME_BYTES;
 use inf_syntax::Action;
 use inf_tables::{Arrays, Tables};
 use inf_templates::Tasks;
 use inf_text::CharSet;
-use inf_unit::directives::Asked;
-use inf_unit::messages::{Messages, location};
+use inf_unit::directives::Request;
+use inf_unit::messages::{Diagnostics, location};
 use inf_unit::names::no_symbols;
-use inf_unit::tokens::Spelled;
+use inf_unit::tokens::SourceToken;
 use inf_unit::unit::Unit;
 use inf_verbs::Place as LinePlace;
 use std::alloc::{AllocError, Global};
@@ -40,7 +40,7 @@ const MOST_NESTED: usize = 64;
 
 /// What was compiled so far.
 #[derive(Drop)]
-pub struct Work {
+pub struct Compilation {
     pub(crate) alloc: Global,
     /// The character set of the sources.
     pub(crate) set: CharSet,
@@ -63,9 +63,9 @@ pub struct Work {
     pub output: Output,
     /// What is left to be laid of a tree: nothing, between the calls that lay.
     pub(crate) tasks: Tasks,
-    pub report: Messages,
+    pub report: Diagnostics,
     /// What the directive that was finished last asks of the reading.
-    pub(crate) asked: Asked,
+    pub(crate) asked: Request,
     /// The names of routines that are to be replaced.
     pub(crate) replaced: Symbols<Place>,
     /// Whether routines of the file at hand may be replaced.
@@ -114,7 +114,7 @@ fn names_class(found: Found<Place>) -> bool
     matches!(found, Found::Declared(Meaning::Class(_), _))
 }
 
-impl Work {
+impl Compilation {
     ghost use Rattle.inf_unit.specs.Directives.{Nothing, asked, asks};
     ghost use Rattle.inf_work.specs.Actions.{begun_at, cut, entered, is_class, is_deep, labels_counted, left, nested, no_work, opening_checked, passed, piece_begun, sized, token_checked, took, unit_ended};
     ghost use Rattle.inf_work.specs.Parts.{closed_ahead, construct_closed};
@@ -122,10 +122,10 @@ impl Work {
     ghost use Rattle.inf_work.specs.Works.{work};
 
     /// Before the first unit of sources in a character set.
-    pub fn new(alloc: Global, set: CharSet, settings: &Settings) -> Result<Work, AllocError>
+    pub fn new(alloc: Global, set: CharSet, settings: &Settings) -> Result<Compilation, AllocError>
         ensures { IfOk result (λ w. work w ≡ no_work set settings.now) }
     {
-        Ok(Work {
+        Ok(Compilation {
             alloc,
             set,
             longest: settings.of(Setting::ExpressionNodes) as usize,
@@ -139,8 +139,8 @@ impl Work {
             locals: Locals::new(),
             output: no_output(alloc, settings)?,
             tasks: Tasks::new(alloc),
-            report: Messages::new(alloc, true),
-            asked: Asked::Nothing,
+            report: Diagnostics::new(alloc, true),
+            asked: Request::Nothing,
             replaced: no_symbols(alloc, settings),
             is_system: false,
             waiting: Vec::new(alloc),
@@ -160,7 +160,7 @@ impl Work {
     }
 
     /// Whether a token is the name of a class.
-    pub fn is_class(&self, token: &Spelled<'_>) -> bool
+    pub fn is_class(&self, token: &SourceToken<'_>) -> bool
         ensures { result ≡ is_class (spelled token.now) (work self.now) }
     {
         match token.kind {
@@ -175,15 +175,15 @@ impl Work {
     pub fn asks(&self) -> bool
         ensures { result ≡ asks (work self.now).asked }
     {
-        !matches!(self.asked, Asked::Nothing)
+        !matches!(self.asked, Request::Nothing)
     }
 
     /// Takes away what a directive asks of the reading, which is then nothing.
-    pub fn take_asked(&mut self) -> Asked
+    pub fn take_asked(&mut self) -> Request
         ensures asked { asked result ≡ (work self.old).asked }
         ensures nothing { work self.new ≡ record (work self.old) { asked = Nothing } }
     {
-        mem::replace(&mut self.asked, Asked::Nothing)
+        mem::replace(&mut self.asked, Request::Nothing)
     }
 
     /// A file is entered, of which no routine may be replaced yet.
@@ -254,7 +254,7 @@ impl Work {
     }
 
     /// A token is taken.
-    pub fn take(&mut self, files: &Stack, token: &Spelled<'_>) -> Result<(), AllocError>
+    pub fn take(&mut self, files: &Stack, token: &SourceToken<'_>) -> Result<(), AllocError>
         ensures { OnOk result (work self.new ≡ took files.now.names (spelled token.now) (work self.old)) }
     {
         self.unit.take(token)?;
@@ -411,7 +411,7 @@ impl Work {
     }
 
     /// A bracket or brace that was taken may stand too deep.
-    fn check_token(&mut self, files: &Stack, token: &Spelled<'_>) -> Result<(), AllocError>
+    fn check_token(&mut self, files: &Stack, token: &SourceToken<'_>) -> Result<(), AllocError>
         ensures { OnOk result (work self.new ≡ token_checked files.now.names (spelled token.now) (work self.old)) }
     {
         let opens = matches!(

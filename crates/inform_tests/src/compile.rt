@@ -1,10 +1,10 @@
 //! What a compilation writes, and how it ends where a device fails.
 use crate::running::{Ended, assert_holds, assert_written, read, read_folder};
 use inf_compile::{Fault, Status};
-use inf_symbol::memory_sink::MemorySink;
-use inf_symbol::sinks::Sink;
-use inf_token::files::Files;
-use inf_token::memory_files::MemoryFiles;
+use inf_files::files::Files;
+use inf_files::memory_files::MemoryFiles;
+use inf_sinks::memory_sink::MemorySink;
+use inf_sinks::sinks::Sink;
 use inform_trials::devices::{Narrow, folder};
 use inform_trials::running::run;
 use std::alloc::Global;

@@ -1,7 +1,7 @@
 //! Each call of a device fails in turn, on a source with an included file and conditionals.
 use crate::running::{assert_holds, assert_written, fail_to_read, read};
 use inf_compile::{Fault, Status};
-use inf_symbol::memory_sink::MemorySink;
+use inf_sinks::memory_sink::MemorySink;
 use inform_trials::devices::{Fused, Narrow, folder_of};
 use inform_trials::running::run;
 use std::alloc::Global;

@@ -1,18 +1,18 @@
 //! How many bytes of each source were given behind each step of a session.
 ghost use Rattle.std.specs.Prelude.{◌≡◌, ◌<◌, IfOk, None, OnOk, [], false, length, min};
 ghost use Rattle.inf_session.specs.Standing.{IsSet};
-ghost use Rattle.inf_token.specs.Files.{last_count};
+ghost use Rattle.inf_files.specs.Files.{last_count};
 
+use inf_files::failures::Failures;
+use inf_files::files::{Files, OpenFault, ReadFault};
+use inf_files::memory_files::MemoryFiles;
 use inf_session::session::Session;
 use inf_session::setup::Setup;
 use inf_settings::setting::Setting;
 use inf_settings::settings::Settings;
+use inf_sinks::memory_sink::MemorySink;
 use inf_sources::open_files::OpenFiles;
-use inf_symbol::memory_sink::MemorySink;
 use inf_text::CharSet;
-use inf_token::failures::Failures;
-use inf_token::files::{Files, OpenFault, ReadFault};
-use inf_token::memory_files::MemoryFiles;
 use inform_trials::devices::folder_of;
 use std::alloc::{AllocError, Global};
 use std::process::Abort;

@@ -1,7 +1,7 @@
 //! A compilation, and what it has to come to.
 use inf_compile::{Fault, Status};
-use inf_symbol::memory_sink::MemorySink;
-use inf_token::files::Files;
+use inf_files::files::Files;
+use inf_sinks::memory_sink::MemorySink;
 use inform_trials::devices::folder_of;
 use inform_trials::running::run_words;
 use std::alloc::Global;

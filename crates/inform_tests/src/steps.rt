@@ -4,15 +4,15 @@ ghost use Rattle.inf_session.specs.Standing.{IsSet};
 
 use crate::running::assert_written;
 use inf_compile::{Fault, Status};
+use inf_files::memory_files::MemoryFiles;
 use inf_session::compiled::Compiled;
 use inf_session::session::{Session, Step};
 use inf_session::setup::Setup;
 use inf_settings::setting::Setting;
 use inf_settings::settings::Settings;
+use inf_sinks::memory_sink::MemorySink;
 use inf_sources::open_files::OpenFiles;
-use inf_symbol::memory_sink::MemorySink;
 use inf_text::CharSet;
-use inf_token::memory_files::MemoryFiles;
 use inform_trials::devices::folder;
 use std::alloc::{AllocError, Global};
 use std::process::Abort;

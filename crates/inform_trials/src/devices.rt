@@ -1,13 +1,13 @@
 //! Devices for tests: a sink that takes little, and a reader that gives little.
 ghost use Rattle.std.specs.Prelude.{None, [], false, length, min, if◌then◌else◌};
-ghost use Rattle.inf_token.specs.Files.{last_count};
+ghost use Rattle.inf_files.specs.Files.{last_count};
 
-use inf_symbol::memory_sink::MemorySink;
-use inf_symbol::sinks::{Sink, SinkFault};
-use inf_token::failures::Failures;
-use inf_token::files::{Files, OpenFault, ReadFault};
-use inf_token::given_bytes::GivenBytes;
-use inf_token::memory_files::MemoryFiles;
+use inf_files::failures::Failures;
+use inf_files::files::{Files, OpenFault, ReadFault};
+use inf_files::given_bytes::GivenBytes;
+use inf_files::memory_files::MemoryFiles;
+use inf_sinks::memory_sink::MemorySink;
+use inf_sinks::sinks::{Sink, SinkFault};
 use std::alloc::Global;
 use std::collections::BTreeMap;
 use std::test::Fail;

@@ -1,8 +1,8 @@
 //! A compilation that tests look at.
 use inf_compile::compile::compile;
 use inf_compile::{Fault, Status};
-use inf_symbol::sinks::Sink;
-use inf_token::files::Files;
+use inf_files::files::Files;
+use inf_sinks::sinks::Sink;
 use inf_words::command_line::CommandLine;
 use std::alloc::Global;
 use std::test::Fail;

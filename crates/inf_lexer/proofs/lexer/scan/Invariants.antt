@@ -1,5 +1,5 @@
 use Rattle.std.proofs.Common.{◌≡◌, ◌+◌, ◌-◌, ◌≤◌, true, length, min, IsTrue}
-use Rattle.inf_token.specs.Files.{last_count}
+use Rattle.inf_files.specs.Files.{last_count}
 use Rattle.inf_lexer.specs.Unread.{Ends, Heard, StillGives}
 use Rattle.inf_scanner.specs.Scanning.{Found, begun, find, goes_on, sight}
 use Rattle.inf_scanner.specs.declared.scanner.State.TheVariants as state

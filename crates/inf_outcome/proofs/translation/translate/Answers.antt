@@ -1,6 +1,6 @@
 use Rattle.std.proofs.Common.{◌≡◌, ◌+◌, ◌≤◌, ℕ, [], inr, IsTrue, IfErr, length, min, ap, subst, sym, ◌∙◌}
 use Rattle.std.proofs.lemmas.Result.{on_err_weaker}
-use Rattle.inf_token.specs.Files.{Rose, Sources, last_count}
+use Rattle.inf_files.specs.Files.{Rose, Sources, last_count}
 use Rattle.inf_lexer.specs.Readers.{at_front}
 use Rattle.inf_lexer.proofs.Candidates.{rose_earlier}
 use Rattle.inf_sources.specs.Calls.{IsUnreadable, StaysFit}

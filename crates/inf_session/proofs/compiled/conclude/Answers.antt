@@ -2,7 +2,7 @@ use Rattle.std.proofs.Common.{◌≡◌, IfOk, None, subst}
 use Rattle.inf_opcode.proofs.Growing.{on_err}
 use Rattle.inf_work.specs.Works.{work as work_of}
 use Rattle.inf_session.specs.Delivered.{Delivers, EndsClean}
-use Rattle.inf_session.specs.Ending.{Ending, finished}
+use Rattle.inf_session.specs.Ending.{Outcome, finished}
 use Rattle.inf_session.specs.declared.compiled.Status.TheVariants as status
 use Rattle.inf_session.proofs.Delivering.{ends_clean, has_none, if_ok_more, takes_no_front}
 use Rattle.inf_session.proofs.Endings.{errors_none, success_clean}
@@ -20,7 +20,7 @@ returns-clause-clean g c =
     let e = finished serial names (work_of c.args.work) in
     if_ok_more c.written.result (λ x. Delivers e x old new) (λ x. x.status ≡ status.Success → EndsClean old new)
     (λ x d. ends_clean e x old new (success_clean serial names (work_of c.args.work)) d)
-    (subst (λ (t : Ending). IfOk c.written.result (λ x. Delivers t x old new)) c.in_ok-ending.ensures c.written.ensures.ok)
+    (subst (λ (t : Outcome). IfOk c.written.result (λ x. Delivers t x old new)) c.in_ok-ending.ensures c.written.ensures.ok)
 
 pub returns-clause-errors : goal.returns-clause-errors
 returns-clause-errors g c =
@@ -31,4 +31,4 @@ returns-clause-errors g c =
     let e = finished serial names (work_of c.args.work) in
     if_ok_more c.written.result (λ x. Delivers e x old new) (λ x. x.status ≡ status.Errors → x.story ≡ None)
     (λ x d. has_none e x old new (errors_none serial names (work_of c.args.work)) d)
-    (subst (λ (t : Ending). IfOk c.written.result (λ x. Delivers t x old new)) c.in_ok-ending.ensures c.written.ensures.ok)
+    (subst (λ (t : Outcome). IfOk c.written.result (λ x. Delivers t x old new)) c.in_ok-ending.ensures c.written.ensures.ok)

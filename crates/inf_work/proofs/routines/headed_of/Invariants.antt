@@ -1,7 +1,7 @@
 use Rattle.std.proofs.Common.{◌≡◌, drop, map}
-use Rattle.inf_symbol.specs.LocalList.{headed}
-use Rattle.inf_symbol.specs.Locals.{no_locals, with_locals}
-use Rattle.inf_symbol.specs.Spellings.{as_name}
+use Rattle.inf_sinks.specs.LocalList.{headed}
+use Rattle.inf_sinks.specs.Locals.{no_locals, with_locals}
+use Rattle.inf_sinks.specs.Spellings.{as_name}
 use Rattle.inf_work.proofs.routines.headed_of.Given as goal
 
 -- the names that are left give what all give

@@ -1,5 +1,5 @@
 use Rattle.std.proofs.Common.{◌≡◌, drop, map}
-use Rattle.inf_symbol.specs.LocalList.{local}
+use Rattle.inf_sinks.specs.LocalList.{local}
 use Rattle.inf_work.specs.Actions.{with_all_unused}
 use Rattle.inf_work.proofs.routines.tell_unused.Given as goal
 

@@ -4,7 +4,7 @@ use Rattle.std.proofs.Common.{◌≡◌, Option, Some, None, sym, ◌∙◌, ap,
 use Rattle.inf_opcode.specs.Instructions.{instruction_cells}
 use Rattle.inf_opcode.specs.PartsOf.{parts_of}
 use Rattle.inf_assembler.specs.Routines.{State, contents_of, refusal}
-use Rattle.inf_assembler.specs.declared.routines.Setting.{Setting}
+use Rattle.inf_assembler.specs.declared.routines.Limit.{Limit}
 use Rattle.inf_code.specs.Code.{Routines, IsCode, open_in, full_with, source_cells, with_instruction}
 use Rattle.inf_code.proofs.CodeSteps.{code_or_same}
 use Rattle.inf_code.proofs.Full.{full_is, lists}
@@ -26,7 +26,7 @@ returns-clause-fault c =
     let before = source_cells inside.finished inside.refs inside.area in
     let kept = lists inside.is_lost inside.finished inside.refs inside.spare inside.area c.listed-refs.result.now is.stands is.limit c.self.invariant.1.1 c.listed-refs.ensures in
     let With : Option State → Routines = λ r. record { limits = inside.limits; scale = inside.scale; has_begun = inside.has_begun; finished = before; opened = open_in inside.area inside.is_lost r } in
-    let Tells : Option Setting → Type 0 = λ full. MatchResult c.emit.result (λ _. full ≡ None) (λ fault. fault ≡ refusal full) in
+    let Tells : Option Limit → Type 0 = λ full. MatchResult c.emit.result (λ _. full ≡ None) (λ fault. fault ≡ refusal full) in
     let same = full_is inside.limits inside.finished inside.refs c.listed-refs.result.now inside.area inside.is_lost c.in-Some.routine is kept (instruction_cells parts)
     ∙ ap (λ r. full_with parts (With r)) (sym c.in-Some.is) ∙ ap (full_with parts) c.self.view_is in
     subst Tells same c.emit.ensures.fault

@@ -1,6 +1,6 @@
 use Rattle.std.proofs.Common.{◌≡◌, true, Err, ℕ, List, [], ◌∷◌, ◌≤◌, reverse, unwrap_or, inl, inr, ap, length, subst, sym, ◌∙◌}
 use Rattle.std.specs.Prelude.{slice_get}
-use Rattle.inf_token.specs.Files.{Rose}
+use Rattle.inf_files.specs.Files.{Rose}
 use Rattle.inf_lexer.specs.Readers.{Reader}
 use Rattle.inf_sources.specs.Open.{files_of, nesting}
 use Rattle.inf_sources.proofs.Places.{files_are}
@@ -11,7 +11,7 @@ use Rattle.inf_output.specs.Output.{Out}
 use Rattle.inf_reader.proofs.Limits.{judged_taken_same, said_same}
 use Rattle.inf_session.proofs.Bounds.{quoted_within}
 use Rattle.inf_session.proofs.Standings.{read_caused}
-use Rattle.inf_reader.specs.Reading.{Stand, is_mode_ended}
+use Rattle.inf_reader.specs.Reading.{ReaderState, is_mode_ended}
 use Rattle.inf_reader.specs.Standing.{standing}
 use Rattle.inf_lexer.specs.Names.{Nest}
 use Rattle.inf_conditionals.specs.Judging.{judged}
@@ -31,7 +31,7 @@ returns-clause-moves g c =
     let token = c.in-Ok.token in
     let took = c.in-Ok.ensures.took in
     elim took.one [
-      | inl end ↦ inl (ap (λ (s : Stand). is_mode_ended s.reading.mode) c.in_ok-take_judged.ensures
+      | inl end ↦ inl (ap (λ (s : ReaderState). is_mode_ended s.reading.mode) c.in_ok-take_judged.ensures
           ∙ end_ends c.names-2.result.now.names token.kind c.spelling.result.now token.place before.progress.work.output before.conditionals (reporting (standing before.progress) c.tell.new.report c.tell.new.out) c.site-site.result _ _ c.in_ok-judged.ensures end)
       | inr less ↦ inr (room_less c.args.self.now.open_files.lexer c.next.new.self.lexer less c.in-Ok.ensures.few)
     ]
@@ -68,8 +68,8 @@ returns-clause-limits g c =
     let added = c.in_ok-tell.ensures.right in
     let kept = said_same c.take.new.self.said c.args.self.now.progress.work.output in
     let is = c.in_ok-take_judged.ensures in (
-      ap (λ (s : Stand). s.work.output.names.limit) is ∙ same.0 ∙ ap (λ (o : Out). o.names.limit) added ∙ kept.0,
-      ap (λ (s : Stand). bounds s.work.output) is ∙ same.1 ∙ ap bounds added ∙ kept.1,
+      ap (λ (s : ReaderState). s.work.output.names.limit) is ∙ same.0 ∙ ap (λ (o : Out). o.names.limit) added ∙ kept.0,
+      ap (λ (s : ReaderState). bounds s.work.output) is ∙ same.1 ∙ ap bounds added ∙ kept.1,
     )
 
 pub returns-clause-longest : goal.returns-clause-longest

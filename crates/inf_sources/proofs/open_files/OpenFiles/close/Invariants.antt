@@ -1,5 +1,5 @@
 use Rattle.std.proofs.Common.{◌≡◌, ◌+◌, ◌<◌, ◌≤◌, length, min, IsTrue}
-use Rattle.inf_token.specs.Files.{Openings, last_count}
+use Rattle.inf_files.specs.Files.{Openings, last_count}
 use Rattle.inf_sources.specs.Open.{IsNested}
 use Rattle.inf_sources.proofs.open_files.OpenFiles.close.Given as goal
 

@@ -1,5 +1,5 @@
 use Rattle.std.proofs.Common.{◌≡◌, ◌≤◌, ◌⊎◌, IsTrue, inl, inr, List, false, length, ◌++◌, [], ◌∷◌, Err, Some, None, map, sym, ap, subst, ◌∙◌}
-use Rattle.inf_token.specs.Files.{Openings, Rose}
+use Rattle.inf_files.specs.Files.{Openings, Rose}
 use Rattle.inf_lexer.specs.Entering.{Leaves}
 use Rattle.inf_lexer.specs.Names.{Nest, can_name, candidates, innermost_name, number_of}
 use Rattle.inf_lexer.specs.Readers.{Reader}

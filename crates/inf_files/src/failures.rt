@@ -1,0 +1,35 @@
+ghost use Rattle.std.specs.Prelude.{◌≡◌, ◌≤◌};
+ghost use Rattle.inf_files.specs.Files.{Rose};
+
+use std::marker::Model;
+
+/// How often a device failed: a count of 64 bits that stays at its last value.
+#[derive(Drop)]
+pub struct Failures {
+    count: u64,
+}
+
+impl Model for Failures {
+    ghost use Rattle.std.specs.Prelude.{ℕ};
+
+    ghost Value = { ℕ };
+
+    ghost view = { λ f. f.count };
+}
+
+impl Failures {
+    /// No failure yet.
+    pub fn none() -> Failures
+        ensures { result ≡ 0 }
+    {
+        Failures { count: 0 }
+    }
+
+    /// Counts one more failure.
+    pub fn add(&mut self)
+        ensures rose { Rose self.old self.new }
+        ensures later { self.old ≤ self.new }
+    {
+        self.count = self.count.saturating_add(1);
+    }
+}

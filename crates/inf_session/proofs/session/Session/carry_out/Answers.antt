@@ -1,0 +1,75 @@
+use Rattle.std.proofs.Common.{◌≡◌, List, ℕ, ap, false, subst, sym, ◌∙◌}
+use Rattle.std.proofs.lemmas.Result.{on_err_weaker, on_ok_weaker}
+use Rattle.inf_reader.specs.Reading.{is_mode_ended}
+use Rattle.inf_files.specs.Files.{Rose}
+use Rattle.inf_sources.specs.Open.{nesting, opened_since}
+use Rattle.inf_unit.specs.Directives.{Include}
+use Rattle.inf_work.specs.Actions.{Compilation}
+use Rattle.inf_session.specs.Choices.{chosen}
+use Rattle.inf_session.specs.Leading.{NotTried, StopsAtInclusion}
+use Rattle.inf_session.specs.Session.{included}
+use Rattle.inf_session.specs.Standing.{state}
+use Rattle.inf_session.proofs.Opening.{carried_out_within, heeds, not_ended}
+use Rattle.inf_session.proofs.Standings.{if_read_more}
+use Rattle.inf_session.proofs.session.Session.carry_out.Goals.{in-Ended, in_default}
+use Rattle.inf_session.proofs.session.Session.carry_out.Goals as goal
+
+pub returns-in-Include-clause-carried_out : goal.returns-in-Include-clause-carried_out
+returns-in-Include-clause-carried_out g c = λ honest start nested.
+    let files = g.F.Files in
+    let s = files.sources c.args.files.now in
+    let o = chosen c.args.self.now.setup in
+    let text = c.as_slice.result.now in
+    let unit = c.in-Include.unit in
+    let was = state s start (files.openings c.args.files.now) c.args.self.now in
+    let going = sym c.is_over.ensures ∙ c.if-is_over.false in
+    let reads : is_mode_ended c.args.self.now.progress.reader.mode ≡ false =
+    elim c.match-matches.branch [ in-Ended w ↦ (let never = sym w.matches-is ∙ c.if-matches.false in cc) | in_default w ↦ not_ended c.args.self.now.progress.reader.mode w.in_default.not-Ended ] in
+    let asks = sym c.in-Include.ensures.asked ∙ ap (λ (t : List ℕ). Include t unit) (sym c.as_slice.ensures.value) in
+    on_ok_weaker c.include.result
+    (λ h told. h told ∙ ap (λ (w : Compilation). included s o unit text (record (was told) { work = w })) c.take_asked.ensures.nothing
+    ∙ heeds s o unit text (was told) going reads asks)
+    (c.include.ensures.included honest start nested)
+
+pub returns-in-Include-clause-opened : goal.returns-in-Include-clause-opened
+returns-in-Include-clause-opened g c = λ honest start nested.
+    let files = g.F.Files in
+    let s = files.sources c.args.files.now in
+    let o = chosen c.args.self.now.setup in
+    let text = c.as_slice.result.now in
+    let unit = c.in-Include.unit in
+    let old = files.openings c.args.files.now in
+    let was = state s start old c.args.self.now in
+    let going = sym c.is_over.ensures ∙ c.if-is_over.false in
+    let reads : is_mode_ended c.args.self.now.progress.reader.mode ≡ false =
+    elim c.match-matches.branch [ in-Ended w ↦ (let never = sym w.matches-is ∙ c.if-matches.false in cc) | in_default w ↦ not_ended c.args.self.now.progress.reader.mode w.in_default.not-Ended ] in
+    let asks = sym c.in-Include.ensures.asked ∙ ap (λ (t : List ℕ). Include t unit) (sym c.as_slice.ensures.value) in
+    on_err_weaker c.include.result
+    (λ h. carried_out_within s o unit text was (λ told. record (was told) { work = _ }) (opened_since start (files.openings c.include.new.files)) (λ told. going) (λ told. reads) (λ told. asks)
+    (λ told. ap (λ (w : Compilation). record (was told) { work = w }) c.take_asked.ensures.nothing) h)
+    (c.include.ensures.opened honest start nested)
+
+pub returns-in-Include-clause-stops : goal.returns-in-Include-clause-stops
+returns-in-Include-clause-stops g c = λ honest start nested.
+    let files = g.F.Files in
+    let s = files.sources c.args.files.now in
+    let o = chosen c.args.self.now.setup in
+    let text = c.as_slice.result.now in
+    let unit = c.in-Include.unit in
+    let old = files.openings c.args.files.now in
+    let opened = opened_since start (files.openings c.include.new.files) in
+    let was = state s start old c.args.self.now in
+    let here = nesting s start old c.args.self.now.open_files in
+    let failed = Rose (files.faults c.args.files.now) (files.faults c.include.new.files) in
+    let going = sym c.is_over.ensures ∙ c.if-is_over.false in
+    let reads : is_mode_ended c.args.self.now.progress.reader.mode ≡ false =
+    elim c.match-matches.branch [ in-Ended w ↦ (let never = sym w.matches-is ∙ c.if-matches.false in cc) | in_default w ↦ not_ended c.args.self.now.progress.reader.mode w.in_default.not-Ended ] in
+    let asks = sym c.in-Include.ensures.asked ∙ ap (λ (t : List ℕ). Include t unit) (sym c.as_slice.ensures.value) in
+    if_read_more c.include.result (λ name. (name ≡ text) × NotTried failed s o.directories text here opened) (λ name. (told : List ℕ) → StopsAtInclusion failed s o (was told) opened name)
+    (λ name h told. record {
+      unit = unit;
+      asks = asks ∙ ap (λ (t : List ℕ). Include t unit) (sym h.0);
+      reads = reads;
+      goes_on = going;
+      not_tried = subst (λ (t : List ℕ). NotTried failed s o.directories t here opened) (sym h.0) h.1;
+    }) (c.include.ensures.stops honest start nested)

@@ -1,0 +1,13 @@
+-- Where the last letters differ, so do the names.
+use Rattle.std.proofs.Common.{nat_eq, sym, ◌∙◌}
+use Rattle.std.specs.Str.{str_eq_ignore_ascii_case}
+use Rattle.std.proofs.lemmas.Bool.{eqb-true, false_from_ne_true}
+use Rattle.inf_sinks.proofs.SameNames.{same_letter}
+use Rattle.inf_sinks.proofs.locals.is_same_name.Goals as goal
+
+pub returns-else-last_letter : goal.returns-else-last_letter
+returns-else-last_letter c =
+    let name = c.args.name.now in
+    let other = c.args.other.now in
+    false_from_ne_true (nat_eq c.last_letter.result c.last_letter-2.result) (λ e. c.if-last_letter.false (eqb-true c.last_letter.result c.last_letter-2.result e))
+    ∙ sym (false_from_ne_true (str_eq_ignore_ascii_case name other) (λ e. c.if-last_letter.false (c.last_letter.ensures ∙ same_letter name other e ∙ sym c.last_letter-2.ensures)))

@@ -1,0 +1,164 @@
+//! The local variables of a routine.
+ghost use Rattle.std.specs.Prelude.{◌≡◌, ◌≤◌, ◌<◌, [], IfSome, length, option_map, position};
+ghost use Rattle.std.specs.Str.{str_eq_ignore_ascii_case};
+ghost use Rattle.arrayvec.specs.ArrayVec.{array_vec_len};
+ghost use Rattle.inf_sinks.specs.LocalList.{last_letter};
+ghost use Rattle.inf_sinks.specs.Locals.{number_of, local_of, with_named, with_local, no_locals};
+ghost use Rattle.inf_sinks.specs.Spellings.{as_name};
+
+use crate::spellings::{Name, Spelling, copy_of};
+use arrayvec::ArrayVec;
+use inf_scanner::Place;
+
+/// The most local variables that a routine has (Z-Machine Standard 1.1, section 5.2).
+pub const MOST_LOCALS: usize = 15;
+
+/// Whether two names are the same, in any case. Most that are not differ in their last letters.
+fn is_same_name(name: &[u8], other: &[u8]) -> bool
+    ensures { result ≡ str_eq_ignore_ascii_case name.now other.now }
+{
+    last_letter(name) == last_letter(other) && name.eq_ignore_ascii_case(other)
+}
+
+/// The last letter of a name as a number that is the same in any case: 0 where it has none.
+fn last_letter(name: &[u8]) -> u8
+    ensures { result ≡ last_letter name.now }
+{
+    match name.last() {
+        Some(byte) => *byte % 32,
+        None => 0,
+    }
+}
+
+/// A local variable, as the header of its routine spells it.
+#[derive(Debug, Drop)]
+pub struct Local {
+    pub name: Spelling,
+    pub place: Place,
+    /// Whether a statement has named it.
+    pub is_named: bool,
+}
+
+impl Default for Local {
+    fn default() -> Local {
+        Local {
+            name: ArrayVec::new(),
+            place: Place { file: 0, line: 0 },
+            is_named: false,
+        }
+    }
+}
+
+/// The local variables of a routine, in order.
+#[derive(Debug, Drop)]
+pub struct Locals {
+    pub list: ArrayVec<Local, MOST_LOCALS>,
+}
+
+/// A name that a header gives again, and where it stands first.
+#[derive(Clone, Copy, Debug)]
+pub struct Repeated<'t> {
+    pub name: &'t Name,
+    pub first: Place,
+}
+
+/// What a header says of local variables: the first 15 different ones, the first name that comes
+/// again, and whether there are more.
+#[derive(Drop)]
+pub struct Headed<'t> {
+    pub locals: Locals,
+    pub repeated: Option<Repeated<'t>>,
+    pub are_too_many: bool,
+}
+
+impl Locals {
+    ghost use Rattle.inf_sinks.specs.LocalList.{listed};
+
+    pub fn new() -> Locals
+        ensures { listed result ≡ [] }
+    {
+        Locals {
+            list: ArrayVec::new(),
+        }
+    }
+
+    /// How many there are.
+    pub fn count(&self) -> u8
+        ensures value { result ≡ length (listed self.now) }
+        ensures few { result ≤ 15 }
+    {
+        self.list.len() as u8
+    }
+
+    /// The place of the local of this name, in any case.
+    fn place(&self, name: &[u8]) -> Option<usize>
+        ensures value { result ≡ position (λ l. str_eq_ignore_ascii_case l.name.items name.now) self.now.list.items }
+        ensures within { IfSome result (λ place. place < array_vec_len self.now.list) }
+        ensures few { IfSome result (λ place. place < MOST_LOCALS) }
+    {
+        self.list
+            .iter()
+            .position(|local| is_same_name(local.name.as_slice(), name))
+    }
+
+    /// Where the local of this name, in any case, stands in the header.
+    fn first_place(&self, name: &[u8]) -> Option<Place>
+        ensures { result ≡ option_map (λ l. l.place) (local_of name.now (listed self.now)) }
+    {
+        let place = self.place(name)?;
+        Some(self.list[place].place)
+    }
+
+    /// The number of the local of this name, in any case, from 1 on (Z-Machine Standard 1.1,
+    /// section 4.2.2).
+    pub fn number(&self, name: &[u8]) -> Option<u8>
+        ensures { result ≡ number_of name.now (listed self.now) }
+    {
+        let place = self.place(name)?;
+        Some(place as u8 + 1)
+    }
+
+    /// A statement names this, which may be a local.
+    pub fn name(&mut self, name: &[u8])
+        ensures { listed self.new ≡ with_named name.now (listed self.old) }
+    {
+        if let Some(place) = self.place(name) {
+            self.list[place].is_named = true;
+        }
+    }
+}
+
+impl<'t> Headed<'t> {
+    ghost use Rattle.inf_sinks.specs.LocalList.{headed};
+
+    /// No local yet.
+    pub fn new() -> Headed<'t>
+        ensures { headed result ≡ no_locals }
+    {
+        Headed {
+            locals: Locals::new(),
+            repeated: None,
+            are_too_many: false,
+        }
+    }
+
+    /// One name more behind the routine's name.
+    pub fn add(&mut self, name: &'t Name)
+        ensures { headed self.new ≡ with_local (as_name name.now) (headed self.old) }
+    {
+        if let Some(first) = self.locals.first_place(name.bytes()) {
+            let again = Repeated { name, first };
+            self.repeated = Some(self.repeated.unwrap_or(again));
+            return;
+        }
+        if self.locals.list.is_full() {
+            self.are_too_many = true;
+            return;
+        }
+        self.locals.list.push(Local {
+            name: copy_of(&name.spelling),
+            place: name.place,
+            is_named: false,
+        });
+    }
+}

@@ -1,0 +1,48 @@
+//! Names as a source spells them.
+ghost use Rattle.std.specs.Prelude.{◌≡◌, ◌≤◌, length};
+ghost use Rattle.inf_sinks.specs.Spellings.{as_name};
+
+use arrayvec::ArrayVec;
+use inf_scanner::Place;
+
+/// The most bytes that a name has.
+pub const MOST_NAME_BYTES: usize = 32;
+
+/// The bytes of a name, as a source spells it.
+pub type Spelling = ArrayVec<u8, MOST_NAME_BYTES>;
+
+/// The same bytes.
+pub(crate) fn copy_of(spelling: &Spelling) -> Spelling
+    ensures { result.items ≡ spelling.now.items }
+{
+    let mut copy = ArrayVec::new();
+    let _fits = copy.try_extend_from_slice(spelling.as_slice());
+    copy
+}
+
+/// A name as a source spells it, and its place.
+#[derive(Debug, Drop)]
+pub struct Name {
+    pub spelling: Spelling,
+    pub place: Place,
+}
+
+impl Name {
+    /// A name of at most 32 bytes.
+    pub fn new(bytes: &[u8], place: Place) -> Name
+        requires { length bytes.now ≤ 32 }
+        ensures { as_name result ≡ record { bytes = bytes.now; place = place } }
+    {
+        let mut spelling = ArrayVec::new();
+        let _fits = spelling.try_extend_from_slice(bytes);
+        Name { spelling, place }
+    }
+
+    /// Its bytes, at most 32.
+    pub fn bytes(&self) -> &[u8]
+        ensures value { result.now ≡ (as_name self.now).bytes }
+        ensures few { length result.now ≤ 32 }
+    {
+        self.spelling.as_slice()
+    }
+}

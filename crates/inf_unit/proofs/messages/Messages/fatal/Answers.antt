@@ -1,5 +1,0 @@
-use Rattle.std.proofs.Common.{rules}
-use Rattle.inf_unit.proofs.messages.Messages.fatal.Goals as goal
-
-pub returns : goal.returns
-returns c = search rules

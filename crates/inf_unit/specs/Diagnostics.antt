@@ -1,0 +1,7 @@
+-- What the code's messages at a place stand for.
+use Rattle.inf_report.specs.Meant.{meant}
+use Rattle.inf_unit.specs.Messages.{Diagnostic}
+use Rattle.inf_unit.specs.declared.messages.Diagnostic.{Diagnostic as CodeDiagnostic}
+
+abbrev pub blamed : CodeDiagnostic → Diagnostic
+blamed b = record { place = b.place; message = meant b.message }
